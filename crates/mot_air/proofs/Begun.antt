@@ -1,7 +1,7 @@
 -- What the result of a task says that came of another one.
 use Rattle.std.proofs.Common.{◌≡◌, ℕ, Bool, true, false, List, Option, Some, None, Result, Ok, Err}
 use Rattle.std.proofs.Common.{inl, inr, refl, subst, sym}
-use Rattle.std.specs.Prelude.{IfErr, MatchResult, OnOk}
+use Rattle.std.specs.Prelude.{MatchResult}
 use Rattle.std.specs.Result.{result_unwrap_or}
 use Rattle.disk_store.specs.declared.file.start.Start.{Ghosts}
 use Rattle.mot_air.specs.Inner.Concluded.{Concludes, ConcludesTask}

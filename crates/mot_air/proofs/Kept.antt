@@ -1,7 +1,7 @@
 -- Playing goes on from what was done in the lives before.
 use Rattle.std.proofs.Common.{◌≡◌, ℕ, false, List, [], ◌++◌, append_assoc}
 use Rattle.std.proofs.Common.{ap, append-nil, arith, refl, subst, sym, take}
-use Rattle.std.proofs.Common.{◌⊎◌, Option, Some, None, inl, inr}
+use Rattle.std.proofs.Common.{◌⊎◌, Option, None, inl, inr}
 use Rattle.std.specs.Prelude.{IsFalse, IsSomeAnd}
 use Rattle.std.specs.Option.{option_map_or}
 use Rattle.disk_model.specs.Disk.{IsHonestDisk, OnlySyncs, State}

@@ -2,7 +2,7 @@
 use clap::ArgMatches;
 use disk_store::OpenFault;
 use mot_endpoints::Cause;
-use std::io::Write;
+use std::io::{self, Write};
 
 /// The option that is missing among the words, as help shows it. (Another one qualifies it, so that
 /// the words are not whole.)
@@ -31,5 +31,13 @@ pub(crate) fn tell_folder<E: Write>(errors: &mut E, words: &ArgMatches<'_>, caus
     if let Some(Cause::Folder(error)) = cause {
         let fault = OpenFault::System(error);
         let _ = writeln!(errors, "motcar: {path}: {fault}");
+    }
+}
+
+/// The cause, if the folder was not opened at the last look.
+pub(crate) fn folder_cause(fault: Option<io::Error>) -> Option<Cause> {
+    match fault {
+        Some(error) => Some(Cause::Folder(error)),
+        None => None,
     }
 }

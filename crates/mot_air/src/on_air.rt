@@ -7,28 +7,26 @@ ghost use Rattle.mot_air.specs.Inner.Concluded.{Concludes};
 ghost use Rattle.mot_air.specs.Playing.{Plays};
 ghost use Rattle.mot_air.specs.Program.{Opens, PlaysInto, PlaysTo, is_all_done, played_as};
 ghost use Rattle.mot_air.specs.Telling.{tale_with, watch_in, watched};
-ghost use Rattle.mot_endpoints.specs.declared.lines.LineFolder.{LineFolder};
 ghost use Rattle.mot_endpoints.specs.Packets.{begun_of, target_of};
 ghost use Rattle.mot_numbers.specs.declared.refusal.Refusal.TheVariants.{DeviceFault, WriteFault};
 ghost use Rattle.mot_server.specs.Attempts.{fault_of};
 
 use crate::Ended;
 use crate::answered::answered;
+use crate::missing::folder_cause;
 use crate::playing::{Aired, Followed, play_and_answer, play_disk};
 use disk_model::Disk;
 use disk_store::Start;
 use mot_cli::PlayTask;
-use mot_endpoints::{
-    Cause, LineFolder, NewFile, OpenPackets, PacketWriter, PacketsFault, Station, StatusFile,
-    Taken, Target,
-};
+use mot_endpoints::{Cause, LineFolder, OpenPackets, Station, StatusFile, Taken, Target};
+use mot_files::System;
 use mot_numbers::Refusal;
 use mot_outcome::{Beside, Finished, Inputs};
 use mot_packets::Outlet;
 use mot_shelf::Shelf;
 use mot_status::Telling;
 use std::alloc::Global;
-use std::io::Write;
+use std::io::{self, Write};
 
 /// After how many packets the directory is sent again if playing has no end. So many of 96 bytes
 /// take 8.2 seconds at 32 kbit/s: with the group under way and itself it is there within ten.
@@ -36,15 +34,15 @@ const DIRECTORY_PACKETS: u32 = 340;
 
 /// How a disk is played: what the words ask for, and what may change the carousel.
 #[derive(Drop)]
-pub(crate) struct Airing<'a, 't, F: Shelf + Drop> {
+pub(crate) struct Airing<'a, 't, F: Shelf + Drop, Y: System + Drop> {
     /// What the words ask for.
     pub(crate) task: PlayTask<'a>,
     /// The folder that the carousel is made equal to, if one is given.
     pub(crate) folder: Option<Followed<'t, F>>,
     /// The folder whose files are answered as lines, if one is given.
-    pub(crate) lines: Option<LineFolder<'a>>,
+    pub(crate) lines: Option<LineFolder<'a, Y>>,
     /// The file that the status is written to, if one is given.
-    pub(crate) status: Option<StatusFile<'a>>,
+    pub(crate) status: Option<StatusFile<'a, Y>>,
 }
 
 /// What playing came to, and why packets were not taken.
@@ -62,10 +60,10 @@ struct Played<D: Disk> {
 
 /// Plays the disk of the file that the words name into what they name for packets. The log goes to
 /// `writer`, and to `errors` if the packets go to `writer`.
-pub(crate) fn play_file<'a, B: Start, F: Shelf + Drop, W: Write, E: Write>(
+pub(crate) fn play_file<'a, B: Start, F: Shelf + Drop, Y: System + Drop, W: Write, E: Write>(
     station: &mut Station<'a>,
     alloc: Global,
-    airing: Airing<'a, '_, F>,
+    airing: Airing<'a, '_, F, Y>,
     start: B,
     writer: &mut W,
     errors: &mut E,
@@ -74,25 +72,25 @@ pub(crate) fn play_file<'a, B: Start, F: Shelf + Drop, W: Write, E: Write>(
         let how = played_as airing.entry.task in PlaysTo airing.entry.task
         (tale_with (watched airing.entry.folder (λ followed. watch_in how (F.path followed.shelf)
         followed.types.now followed.allows_empty followed.every))
-        (option_map (λ (lines : LineFolder). (lines.hand, lines.every - 1)) airing.entry.lines) how)
+        (option_map (λ lines. (lines.hand, lines.every - 1)) airing.entry.lines) how)
         all ending (W.contents writer.old) (W.contents writer.new) result.disk)
         result.result result.disk (W.contents writer.old) (W.contents writer.new) }
     ensures opens { Opens ((codes "packets", airing.entry.task.packets.now) ∷ [])
         airing.entry.task.disk.now result.disk station.old.opened.all station.new.opened.all }
 {
     let PlayTask { disk, packets, .. } = airing.task;
-    let opened = match station.packets(packets, disk, airing.task.turns) {
+    let mut opened = match station.packets(packets, disk, airing.task.turns) {
         Ok(opened) => opened,
         Err(cause) => return Finished::unbegun(Refusal::WriteFault, Some(cause), start),
     };
     let disk = match station.disk(disk, start) {
         Ok(disk) => disk,
         Err(unopened) => {
-            opened.give_up();
+            opened.take_away();
             return Finished::unopened(unopened);
         }
     };
-    let target = target_of(&opened);
+    let target = opened.target();
     let Played {
         ended,
         any_refused,
@@ -108,17 +106,6 @@ pub(crate) fn play_file<'a, B: Start, F: Shelf + Drop, W: Write, E: Write>(
     )
 }
 
-/// What takes the packets.
-fn target_of(opened: &OpenPackets<'_>) -> Target
-    ensures { result ≡ target_of opened.now }
-{
-    match opened {
-        OpenPackets::Standard(_) => Target::Output,
-        OpenPackets::Through(_) => Target::Stream,
-        OpenPackets::Beside(_, _) => Target::File,
-    }
-}
-
 /// Whether all is done that playing into the target is to do. A file is to show the folder; of a
 /// stream the log alone says what was refused.
 fn is_all_done(target: Target, any_refused: bool) -> bool
@@ -130,20 +117,19 @@ fn is_all_done(target: Target, any_refused: bool) -> bool
     }
 }
 
-/// Plays the disk into what was opened.
-fn play_into<D: Disk, F: Shelf + Drop, W: Write, E: Write>(
+/// Plays the disk into what was opened. The log goes to `errors` if the packets go to `writer`.
+fn play_into<D: Disk, P: System + Drop, F: Shelf + Drop, Y: System + Drop, W: Write, E: Write>(
     alloc: Global,
     disk: D,
-    opened: OpenPackets<'_>,
-    airing: Airing<'_, '_, F>,
+    opened: OpenPackets<'_, P>,
+    airing: Airing<'_, '_, F, Y>,
     writer: &mut W,
     errors: &mut E,
 ) -> Played<D>
-    requires { begun_of opened ≢ [] }
     ensures played { let how = played_as airing.entry.task in PlaysInto (target_of opened.entry)
         (tale_with (watched airing.entry.folder (λ followed. watch_in how (F.path followed.shelf)
         followed.types.now followed.allows_empty followed.every))
-        (option_map (λ (lines : LineFolder). (lines.hand, lines.every - 1)) airing.entry.lines) how
+        (option_map (λ lines. (lines.hand, lines.every - 1)) airing.entry.lines) how
         result.inputs result.any_refused) how (fault_of result.ended.result)
         (begun_of opened.entry) result.taken.notes.all
         (D.state disk) (D.state result.ended.disk) }
@@ -152,28 +138,25 @@ fn play_into<D: Disk, F: Shelf + Drop, W: Write, E: Write>(
     ensures placed { target_of opened.entry ≡ Target.File
         → fault_of result.ended.result ≡ None → result.taken.is_placed ≡ true }
 {
-    match opened {
-        OpenPackets::Standard(outlet) => play_writer(alloc, disk, outlet, airing, errors),
-        OpenPackets::Through(outlet) => play_writer(alloc, disk, outlet, airing, writer),
-        OpenPackets::Beside(new, taken) => {
-            play_new_file(alloc, disk, new, taken, airing, writer)
-        }
+    match opened.target() {
+        Target::Output => play_opened(alloc, disk, opened, airing, errors),
+        Target::Stream | Target::File => play_opened(alloc, disk, opened, airing, writer),
     }
 }
 
 /// Plays the disk into the outlet, with looks at the folder and answers to lines, if these are
 /// given.
-fn air<D: Disk, F: Shelf + Drop, O: Outlet, L: Write>(
+fn air<D: Disk, F: Shelf + Drop, Y: System + Drop, O: Outlet, L: Write>(
     alloc: Global,
     disk: D,
     outlet: &mut O,
-    airing: Airing<'_, '_, F>,
+    airing: Airing<'_, '_, F, Y>,
     log: &mut L,
 ) -> Aired<D>
     ensures { let how = played_as airing.entry.task in Plays
         (tale_with (watched airing.entry.folder (λ followed. watch_in how (F.path followed.shelf)
         followed.types.now followed.allows_empty followed.every))
-        (option_map (λ (lines : LineFolder). (lines.hand, lines.every - 1)) airing.entry.lines) how
+        (option_map (λ lines. (lines.hand, lines.every - 1)) airing.entry.lines) how
         result.inputs result.any_refused) how (fault_of result.ended.result)
         (O.writes outlet.old) (O.writes outlet.new)
         (D.state disk) (D.state result.ended.disk) }
@@ -202,75 +185,39 @@ fn air<D: Disk, F: Shelf + Drop, O: Outlet, L: Write>(
     }
 }
 
-/// Plays the disk, each packet in one write to the writer.
-fn play_writer<D: Disk, F: Shelf + Drop, P: Write + Drop, L: Write>(
+/// Plays the disk into what was opened, each packet in one write. A new file then takes its place,
+/// or is removed again.
+fn play_opened<D: Disk, P: System + Drop, F: Shelf + Drop, Y: System + Drop, L: Write>(
     alloc: Global,
     disk: D,
-    outlet: PacketWriter<P>,
-    airing: Airing<'_, '_, F>,
+    opened: OpenPackets<'_, P>,
+    airing: Airing<'_, '_, F, Y>,
     log: &mut L,
 ) -> Played<D>
-    ensures { let how = played_as airing.entry.task in Plays
+    ensures played { let how = played_as airing.entry.task in PlaysInto (target_of opened.entry)
         (tale_with (watched airing.entry.folder (λ followed. watch_in how (F.path followed.shelf)
         followed.types.now followed.allows_empty followed.every))
-        (option_map (λ (lines : LineFolder). (lines.hand, lines.every - 1)) airing.entry.lines) how
+        (option_map (λ lines. (lines.hand, lines.every - 1)) airing.entry.lines) how
         result.inputs result.any_refused) how (fault_of result.ended.result)
-        (Some outlet.taken.notes.all) (Some result.taken.notes.all)
+        (begun_of opened.entry) result.taken.notes.all
         (D.state disk) (D.state result.ended.disk) }
+    ensures placed { target_of opened.entry ≡ Target.File
+        → fault_of result.ended.result ≡ None → result.taken.is_placed ≡ true }
 {
-    let mut outlet = outlet;
+    let mut opened = opened;
     let Aired {
         ended,
         any_refused,
         fault,
         inputs,
-    } = air(alloc, disk, &mut outlet, airing, log);
-    let cause = match (outlet.fault, fault) {
-        (Some(fault), _) => Some(Cause::Packets(fault)),
-        (None, Some(error)) => Some(Cause::Folder(error)),
-        (None, None) => None,
-    };
-    Played {
-        ended,
-        any_refused,
-        taken: outlet.taken,
-        inputs,
-        cause,
-    }
-}
-
-/// Plays the disk into a new file, which then takes its place. If that fails, it is removed again.
-fn play_new_file<D: Disk, F: Shelf + Drop, L: Write>(
-    alloc: Global,
-    disk: D,
-    new: NewFile<'_>,
-    taken: Taken,
-    airing: Airing<'_, '_, F>,
-    log: &mut L,
-) -> Played<D>
-    requires { taken.notes.all ≢ [] }
-    ensures played { let how = played_as airing.entry.task in PlaysInto Target.File
-        (tale_with (watched airing.entry.folder (λ followed. watch_in how (F.path followed.shelf)
-        followed.types.now followed.allows_empty followed.every))
-        (option_map (λ (lines : LineFolder). (lines.hand, lines.every - 1)) airing.entry.lines) how
-        result.inputs result.any_refused) how (fault_of result.ended.result)
-        taken.notes.all result.taken.notes.all
-        (D.state disk) (D.state result.ended.disk) }
-    ensures placed { fault_of result.ended.result ≡ None → result.taken.is_placed ≡ true }
-{
-    let Played {
-        ended,
-        any_refused,
-        mut taken,
-        inputs,
-        cause,
-    } = play_writer(alloc, disk, new.writer(taken), airing, log);
+    } = air(alloc, disk, &mut opened.writer, airing, log);
     let Ended {
         disk,
         result,
         reason,
     } = ended;
-    let (result, cause) = placed(&new, &mut taken, result, cause);
+    let (result, cause) = placed(&mut opened, result, fault);
+    let taken = opened.hand_out();
     Played {
         ended: Ended {
             disk,
@@ -284,54 +231,32 @@ fn play_new_file<D: Disk, F: Shelf + Drop, L: Write>(
     }
 }
 
-/// Gives the new file its place, if playing into it ended so, or takes it away; answers the fault
-/// and its cause.
-fn placed(
-    new: &NewFile<'_>,
-    taken: &mut Taken,
+/// Gives a new file its place, if playing into it ended so, or takes it away; answers the fault and
+/// its cause. That the folder was not opened is a cause, too.
+fn placed<P: System + Drop>(
+    opened: &mut OpenPackets<'_, P>,
     ended: Result<(), Refusal>,
-    cause: Option<Cause>,
+    fault: Option<io::Error>,
 ) -> (Result<(), Refusal>, Option<Cause>)
-    ensures came { (result.0 ≡ ended) ⊎ ((ended ≡ Ok tt) × (result.0 ≡ Err WriteFault)) }
-    ensures same { taken.new.notes.all ≡ taken.old.notes.all }
-    ensures placed { fault_of result.0 ≡ None → taken.new.is_placed ≡ true }
+    ensures came { (result.0 ≡ ended) ⊎ ((target_of opened.old ≡ Target.File)
+        × (ended ≡ Ok tt) × (result.0 ≡ Err WriteFault)) }
+    ensures same { opened.new.writer.taken.notes.all ≡ opened.old.writer.taken.notes.all }
+    ensures placed { target_of opened.old ≡ Target.File → fault_of result.0 ≡ None
+        → opened.new.writer.taken.is_placed ≡ true }
 {
+    let cause = match opened.reason() {
+        Some(cause) => Some(cause),
+        None => folder_cause(fault),
+    };
     match ended {
-        Ok(()) => take_place(new, taken, cause),
+        Ok(()) => match opened.take_place() {
+            Ok(()) => (Ok(()), cause),
+            Err(fault) => (Err(Refusal::WriteFault), Some(Cause::NewFile(fault))),
+        },
         Err(refusal) => {
-            let cause = of_new_file(new, cause);
-            new.take_away();
+            opened.take_away();
             (Err(refusal), cause)
         }
-    }
-}
-
-/// Gives the new file its place, and removes it if that fails; answers the fault and its cause, or
-/// else this cause.
-fn take_place(
-    new: &NewFile<'_>,
-    taken: &mut Taken,
-    cause: Option<Cause>,
-) -> (Result<(), Refusal>, Option<Cause>)
-    ensures came { (result.0 ≡ Ok tt) ⊎ (result.0 ≡ Err WriteFault) }
-    ensures same { taken.new.notes.all ≡ taken.old.notes.all }
-    ensures placed { fault_of result.0 ≡ None → taken.new.is_placed ≡ true }
-{
-    match new.take_place(taken) {
-        Ok(()) => (Ok(()), cause),
-        Err(error) => {
-            new.take_away();
-            let cause = Cause::NewFile(PacketsFault::System(error));
-            (Err(Refusal::WriteFault), Some(cause))
-        }
-    }
-}
-
-/// The cause, with the path of the new file.
-fn of_new_file(new: &NewFile<'_>, cause: Option<Cause>) -> Option<Cause> {
-    match cause {
-        Some(Cause::Packets(fault)) => Some(Cause::NewFile(new.reason(fault))),
-        other => other,
     }
 }
 

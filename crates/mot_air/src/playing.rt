@@ -26,6 +26,7 @@ use disk_model::Disk;
 use mot_endpoints::{Asked, Heard, LineFolder, LineLog, LineNotes, Replies, SharedLog, Spool};
 use mot_feed::feed_every;
 use mot_feed_lines::Lines;
+use mot_files::System;
 use mot_folder::{FileTypes, Folder, Looks, look_at_folder};
 use mot_numbers::Refusal;
 use mot_outcome::Inputs;
@@ -111,12 +112,12 @@ impl<D: Disk> Aired<D> {
 /// one. The directory is sent again after so many packets, and a look may come after so many, as
 /// `feed_every` does. The lines of the looks, of the start and of the end are written to the log,
 /// and the status to its file.
-pub fn play_disk<S: Shelf + Drop, D: Disk, O: Outlet, L: Write + Drop>(
+pub fn play_disk<S: Shelf + Drop, F: System + Drop, D: Disk, O: Outlet, L: Write + Drop>(
     alloc: Global,
     disk: D,
     outlet: &mut O,
     folder: Option<Followed<'_, S>>,
-    telling: Telling<'_>,
+    telling: Telling<'_, F>,
     log: L,
     turns: u64,
     directory: u32,
@@ -160,13 +161,13 @@ pub fn play_disk<S: Shelf + Drop, D: Disk, O: Outlet, L: Write + Drop>(
 /// files in a folder before the first packet and then after every so many, as
 /// `mot_feed_lines::Lines` does: a command may come within a turn. The lines about both are written
 /// to the log.
-pub fn play_and_answer<S: Shelf + Drop, D: Disk, O: Outlet, L: Write + Drop>(
+pub fn play_and_answer<S: Shelf + Drop, F: System + Drop, D: Disk, O: Outlet, L: Write + Drop>(
     alloc: Global,
     disk: D,
     outlet: &mut O,
     folder: Option<Followed<'_, S>>,
-    lines: LineFolder<'_>,
-    telling: Telling<'_>,
+    lines: LineFolder<'_, F>,
+    telling: Telling<'_, F>,
     log: L,
     turns: u64,
     directory: u32,
@@ -190,6 +191,7 @@ pub fn play_and_answer<S: Shelf + Drop, D: Disk, O: Outlet, L: Write + Drop>(
             };
             let mut lines = lines_between(alloc, lines, &log, &asked, looks);
             let ended = play_with(alloc, disk, &mut lines, outlet, turns, directory, look);
+            finish(&mut lines, ended.result.is_ok());
             if ended.result.is_ok() {
                 lines.update.reporter.tell_end(turns);
             }
@@ -203,6 +205,7 @@ pub fn play_and_answer<S: Shelf + Drop, D: Disk, O: Outlet, L: Write + Drop>(
             };
             let mut lines = lines_between(alloc, lines, &log, &asked, none);
             let ended = play_with(alloc, disk, &mut lines, outlet, turns, directory, look);
+            finish(&mut lines, ended.result.is_ok());
             if ended.result.is_ok() {
                 lines.update.reporter.tell_end(turns);
             }
@@ -252,15 +255,29 @@ fn parts_of<R: Read + Drop, W: Write + Drop, U: Update + Drop>(
     (lines.reader.into_lines(), lines.update)
 }
 
+/// Takes away the file of lines that was answered to its end, if playing has come to its end: else
+/// the next run would answer it again.
+fn finish<'a, F: System + Drop, L: Write + Drop, U: Update + Drop>(
+    lines: &mut Lines<Heard<Spool<'a, F, SharedLog<'a, L>>>, Replies<'a, L>, U>,
+    is_ended: bool,
+)
+    ensures lines { lines.new.reader.lines ≡ lines.old.reader.lines }
+    ensures update { lines.new.update ≡ lines.old.update }
+{
+    if is_ended && lines.is_answered() {
+        lines.reader.finish();
+    }
+}
+
 /// The lines of the files in a folder, answered with these updates. The replies are written to the
 /// log.
-fn lines_between<'a, L: Write + Drop, U: Update + Drop>(
+fn lines_between<'a, F: System + Drop, L: Write + Drop, U: Update + Drop>(
     alloc: Global,
-    lines: LineFolder<'a>,
+    lines: LineFolder<'a, F>,
     log: &'a RefCell<L>,
     asked: &'a RefCell<Asked>,
     update: U,
-) -> Lines<Heard<Spool<'a, HostRuntime, SharedLog<'a, L>>>, Replies<'a, L>, U>
+) -> Lines<Heard<Spool<'a, F, SharedLog<'a, L>>>, Replies<'a, L>, U>
     ensures hand { result.hand ≡ lines.entry.hand }
     ensures every { result.between ≡ lines.entry.every - 1 }
     ensures due { result.left ≡ 0 }

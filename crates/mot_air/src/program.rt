@@ -15,10 +15,9 @@ ghost use Rattle.mot_cli.specs.Command.{motcar_app};
 ghost use Rattle.mot_cli.specs.Air.Task.{IsAirTask, is_whole};
 ghost use Rattle.mot_cli.specs.Asked.{AskBy};
 ghost use Rattle.mot_cli.specs.declared.air.task.AirTask.TheVariants.{Export, Inspect, Play, Sync};
-ghost use Rattle.mot_endpoints.specs.declared.status_file.StatusFile.{StatusFile};
 
 use crate::answered::answered;
-use crate::missing::{missing_option, tell_folder, tell_missing};
+use crate::missing::{folder_cause, missing_option, tell_folder, tell_missing};
 use crate::on_air::{Airing, play_file};
 use crate::playing::{Followed, sync_disk};
 use clap::ArgMatches;
@@ -26,6 +25,7 @@ use disk_store::Start;
 use mot_cli::{AirTask, LookRules, PlayTask, air_task, is_whole, motcar_matches};
 use mot_endpoints::{Cause, Others, Station, StatusFile, file_types, line_folder};
 use mot_export::{export_disk, inspect_disk};
+use mot_files::HostSystem;
 use mot_folder::{FileTypes, Folder};
 use mot_numbers::Refusal;
 use mot_outcome::{Beside, Exit, Finished, UsedDisk, explain, refuse, subject_of};
@@ -230,7 +230,7 @@ fn followed<'a, 't>(
     types: &'t FileTypes,
     rules: LookRules,
     look: Option<u32>,
-) -> Option<Followed<'t, SystemShelf<'a, HostRuntime>>>
+) -> Option<Followed<'t, SystemShelf<'a, HostSystem<'a, HostRuntime>>>>
     ensures given { (how : Manner) → watched result (λ followed. watch_in how
         followed.shelf.path.now followed.types.now followed.allows_empty followed.every)
         ≡ watched folder.entry (λ path. watch_in how path.now types.now rules.allow_empty
@@ -253,8 +253,8 @@ fn status_file<'a>(
     station: &mut Station<'a>,
     path: Option<&'a str>,
     disk: &'a str,
-) -> Option<StatusFile<'a>>
-    ensures path { option_map (λ (status : StatusFile). status.path.now) result
+) -> Option<StatusFile<'a, HostSystem<'a, HostRuntime>>>
+    ensures path { option_map (λ status. status.path.now) result
         ≡ option_map (λ path. path.now) path.entry }
     ensures opens { station.new.opened.all
         ≡ station.old.opened.all ++ named (codes "status") path.entry }
@@ -310,19 +310,11 @@ fn sync_file<'a, B: Start, W: Write>(
         Ok(disk) => {
             let mut folder = Folder::new(alloc, shelf, types, rules.allow_empty);
             let ended = sync_disk(alloc, disk, &mut folder, log);
-            let cause = cause_of(&folder.shelf);
+            let cause = folder_cause(folder.shelf.fault());
             let seen = folder.shelf.into_seen();
             Finished::of_file(ended, Beside::folder(seen), cause)
         }
         Err(unopened) => Finished::unopened(unopened),
-    }
-}
-
-/// Why the folder was not opened, if it was not.
-fn cause_of<S: Shelf>(shelf: &S) -> Option<Cause> {
-    match shelf.fault() {
-        Some(error) => Some(Cause::Folder(error)),
-        None => None,
     }
 }
 

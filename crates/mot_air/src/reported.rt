@@ -9,6 +9,7 @@ ghost use Rattle.mot_update.specs.Faults.{TellsFaults};
 
 use crate::watched::Facts;
 use disk_model::Disk;
+use mot_files::System;
 use mot_numbers::Refusal;
 use mot_server::Server;
 use mot_status::Reporter;
@@ -18,14 +19,20 @@ use std::io::Write;
 
 /// Updates, of which the log and a status tell. Nothing is changed by that.
 #[derive(Drop)]
-pub(crate) struct Reported<'l, 'a, U: Update + Facts + Drop, W: Write + Drop> {
+pub(crate) struct Reported<'l, 'a, U: Update + Facts + Drop, F: System + Drop, W: Write + Drop> {
     /// The updates.
     pub(crate) update: U,
     /// What tells of them.
-    pub(crate) reporter: Reporter<'l, 'a, W>,
+    pub(crate) reporter: Reporter<'l, 'a, F, W>,
 }
 
-impl<'l, 'a, U: Update + Facts + Drop, W: Write + Drop> Reported<'l, 'a, U, W> {
+impl<'l, 'a, U: Update + Facts + Drop, F: System + Drop, W: Write + Drop> Reported<
+    'l,
+    'a,
+    U,
+    F,
+    W,
+> {
     /// The updates.
     pub(crate) fn into_update(self) -> U
         ensures { result ≡ self.entry.update }
@@ -34,7 +41,8 @@ impl<'l, 'a, U: Update + Facts + Drop, W: Write + Drop> Reported<'l, 'a, U, W> {
     }
 }
 
-impl<'l, 'a, U: Update + Facts + Drop, W: Write + Drop> Update for Reported<'l, 'a, U, W> {
+impl<'l, 'a, U: Update + Facts + Drop, F: System + Drop, W: Write + Drop> Update
+    for Reported<'l, 'a, U, F, W> {
     // What the updates tell.
     ghost tells = { λ old new. U.tells old.update new.update };
 

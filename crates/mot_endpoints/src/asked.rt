@@ -1,5 +1,5 @@
 //! The lines of a file whose replies come next.
-use crate::line_file::WORDS;
+use crate::line_file::is_word;
 use crate::line_log::room_for;
 use std::alloc::Global;
 
@@ -84,19 +84,36 @@ impl Asked {
     /// line's first word is no command.
     pub(crate) fn words(&self) -> (&[u8], &[u8]) {
         let (command, rest) = cut(self.line.as_slice());
-        if !is_among(&WORDS, command) {
+        if !is_word(command) {
             return (b"", b"");
         }
         if !is_among(&WITH_SUBJECT, command) {
             return (command, b"");
         }
-        (command, front(cut(rest).0, NAME))
+        (command, whole_front(cut(rest).0, NAME))
     }
 }
 
 /// The first bytes, so many at most.
 fn front(bytes: &[u8], most: usize) -> &[u8] {
     bytes.get(..most).unwrap_or(bytes)
+}
+
+/// The first bytes, so many at most, and of a text so many that no letter of it is cut: a letter
+/// has four bytes at most.
+fn whole_front(bytes: &[u8], most: usize) -> &[u8] {
+    for back in 0..4 {
+        let end = most.saturating_sub(back);
+        if bytes.get(end).is_none_or(|byte| !is_within(*byte)) {
+            return front(bytes, end);
+        }
+    }
+    front(bytes, most)
+}
+
+/// Whether a letter of a text does not begin with this byte, but goes on with it.
+fn is_within(byte: u8) -> bool {
+    byte >= 0x80 && byte < 0xC0
 }
 
 /// The first word of a line, and what follows the space after it.

@@ -3,6 +3,7 @@ ghost use Rattle.std.specs.Prelude.{◌≡◌};
 ghost use Rattle.mot_numbers.specs.declared.refusal.Refusal.TheVariants.{OutOfMemory, ReadFault};
 
 use disk_store::OpenFault;
+use mot_files::Fault;
 use mot_numbers::Refusal;
 use std::alloc::AllocError;
 use std::fmt::{self, Display, Formatter};
@@ -186,6 +187,18 @@ impl From<io::Error> for TypesFault {
     }
 }
 
+impl From<Fault> for TypesFault {
+    fn from(fault: Fault) -> TypesFault {
+        TypesFault::System(fault.error())
+    }
+}
+
+impl From<AllocError> for TypesFault {
+    fn from(_error: AllocError) -> TypesFault {
+        TypesFault::System(io::Error::from(io::ErrorKind::OutOfMemory))
+    }
+}
+
 impl From<io::Error> for LinesFault {
     ghost use Rattle.mot_endpoints.specs.declared.fault.LinesFault.TheVariants.{System};
 
@@ -203,6 +216,20 @@ impl From<io::Error> for PacketsFault {
 
     fn from(error: io::Error) -> PacketsFault {
         PacketsFault::System(error)
+    }
+}
+
+impl From<Fault> for PacketsFault {
+    ghost use Rattle.mot_endpoints.specs.Placing.{told_as};
+
+    ghost from_gives = { λ fault told. told ≡ told_as fault };
+
+    fn from(fault: Fault) -> PacketsFault {
+        match fault {
+            Fault::Busy => PacketsFault::InUse,
+            Fault::Absent(error) => PacketsFault::System(error),
+            Fault::System(error) => PacketsFault::System(error),
+        }
     }
 }
 

@@ -2,9 +2,11 @@
 ghost use Rattle.std.specs.Prelude.{◌≡◌, ◌≤◌, [], ◌∷◌, ◌++◌, length, take};
 ghost use Rattle.std.specs.Io.KnownBytes.{Consumes};
 
+use crate::spool::Spool;
 use disk_store::Notes;
+use mot_files::System;
 use mot_shelf::Inlet;
-use std::io::Read;
+use std::io::{Read, Write};
 
 /// What each read of lines gave, in order: nothing, if it failed. It takes no memory, and only a
 /// `Heard` adds to it.
@@ -43,11 +45,28 @@ impl<R: Read + Drop> Heard<R> {
         }
     }
 
+    /// The reader.
+    pub fn into_reader(self) -> R
+        ensures { result ≡ self.reader }
+    {
+        self.reader
+    }
+
     /// What its reads gave.
     pub fn into_lines(self) -> LineNotes
         ensures { result ≡ self.lines }
     {
         self.lines
+    }
+}
+
+impl<'a, S: System + Drop, W: Write + Drop> Heard<Spool<'a, S, W>> {
+    /// Ends the reading, once playing has ended and every line that was read was answered: a file
+    /// that is at its end is taken away. It gives no more lines.
+    pub fn finish(&mut self)
+        ensures { self.new.lines ≡ self.old.lines }
+    {
+        self.reader.finish();
     }
 }
 

@@ -1,25 +1,22 @@
-//! A file of lines, and what stands at a name that should be one. No contract says what these calls
-//! do to files.
-use crate::beside::is_same;
+//! A file of lines, and what stands at a name that should be one.
+ghost use Rattle.std.specs.Prelude.{◌≡◌, ◌≤◌, ◌⊎◌, ◌↔◌, IfOk, IsTrue, length, string_bytes};
+ghost use Rattle.mot_endpoints.specs.LineFiles.{Begins, IsFound, IsLookedInto, IsNamed, IsWholeFront};
+ghost use Rattle.mot_endpoints.specs.LineFiles.{IsWord, Removes, Stamps, TakesAway, fault_found};
+ghost use Rattle.mot_endpoints.specs.LineFiles.{fault_named, word_len};
+ghost use Rattle.mot_endpoints.specs.LineReads.{ReadsLines};
+
 use crate::said::Stamp;
+use mot_files::{Fault, Handle, How, Seen, System, is_regular, is_same};
 use mot_numbers::Refusal;
-use std::fs::{File, Metadata, OpenOptions};
-use std::io::{self, ErrorKind, Read};
-use std::os::unix::fs::FileExt;
-use std::rt::Files;
 
-/// The first words of lines.
-pub(crate) const WORDS: [&str; 8] = [
-    "put", "replace", "withdraw", "period", "list", "next", "turn", "raw",
-];
-
-/// A byte more than the longest of them has.
+/// A byte more than the longest first word of lines has.
 const LONGEST: usize = 9;
 
 /// A file of lines that is read.
 #[derive(Drop)]
 pub(crate) struct LineFile {
-    file: File,
+    /// What is open.
+    pub(crate) handle: Handle,
     /// Its name in the folder.
     pub(crate) name: String,
     /// Its path.
@@ -30,9 +27,13 @@ pub(crate) struct LineFile {
 
 impl LineFile {
     /// The file that was opened at this path, of which nothing was read.
-    pub(crate) fn new(file: File, name: String, path: String) -> LineFile {
+    pub(crate) fn new(handle: Handle, name: String, path: String) -> LineFile
+        ensures handle { result.handle ≡ handle }
+        ensures path { result.path ≡ path }
+        ensures name { result.name ≡ name }
+    {
         LineFile {
-            file,
+            handle,
             name,
             path,
             is_cut: false,
@@ -40,33 +41,74 @@ impl LineFile {
     }
 
     /// What distinguishes it, if the system tells.
-    pub(crate) fn stamp(&self) -> Option<Stamp> {
-        match self.file.metadata() {
+    pub(crate) fn stamp<S: System>(&self, system: &mut S) -> Option<Stamp>
+        ensures { Stamps self.now.handle result (S.calls system.old) (S.calls system.new) }
+    {
+        match system.look_at(self.handle) {
             Ok(held) => Some(Stamp::of(&held)),
             Err(_) => None,
         }
     }
 
     /// Whether its path still names it.
-    pub(crate) fn is_named<T: Files<File = File>>(&self, rt: &T) -> io::Result<bool> {
-        let held = self.file.metadata()?;
-        match rt.symlink_metadata(self.path.as_str()) {
+    pub(crate) fn is_named<S: System>(&self, system: &mut S) -> Result<bool, Fault>
+        ensures { IsNamed self.now.handle (string_bytes self.now.path) result (S.calls system.old)
+            (S.calls system.new) }
+    {
+        let held = match system.look_at(self.handle) {
+            Ok(held) => held,
+            Err(fault) => return Err(fault),
+        };
+        match system.look(self.path.as_str()) {
             Ok(named) => Ok(is_same(&held, &named)),
-            Err(error) if error.kind() == ErrorKind::NotFound => Ok(false),
-            Err(error) => Err(error),
+            Err(fault) => refused_name(fault),
         }
     }
-}
 
-/// A last line without its end gets one.
-impl Read for LineFile {
-    fn read(&mut self, buf: &mut [u8]) -> io::Result<usize> {
-        let count = self.file.read(buf)?;
+    /// Removes the file, if its path still names it, and closes it. The path is kept, so that no
+    /// memory can lack here and make its lines come again.
+    pub(crate) fn take_away<S: System>(&self, system: &mut S) -> Result<(), Fault>
+        ensures { TakesAway self.now.handle (string_bytes self.now.path) result
+            (S.calls system.old) (S.calls system.new) }
+    {
+        let removed = self.remove(system);
+        system.close(self.handle);
+        removed
+    }
+
+    /// Removes the file, if its path still names it.
+    fn remove<S: System>(&self, system: &mut S) -> Result<(), Fault>
+        ensures { Removes self.now.handle (string_bytes self.now.path) result
+            (S.calls system.old) (S.calls system.new) }
+    {
+        match self.is_named(system) {
+            Ok(true) => system.remove(self.path.as_str()),
+            Ok(false) => Ok(()),
+            Err(fault) => Err(fault),
+        }
+    }
+
+    /// The next bytes. A last line without its end gets one.
+    pub(crate) fn read<S: System>(&mut self, system: &mut S, buf: &mut [u8]) -> Result<usize, Fault>
+        ensures fits { IfOk result (λ count. count ≤ length buf.new) }
+        ensures reads { ReadsLines self.old.handle self.old.is_cut self.new.is_cut result buf.new
+            (S.calls system.old) (S.calls system.new) }
+        ensures handle { self.new.handle ≡ self.old.handle }
+        ensures path { self.new.path ≡ self.old.path }
+        ensures name { self.new.name ≡ self.old.name }
+    {
+        let count = match system.read(self.handle, buf) {
+            Ok(count) => count,
+            Err(fault) => return Err(fault),
+        };
         if count > 0 {
             self.is_cut = buf[count - 1] != b'\n';
             return Ok(count);
         }
-        if !self.is_cut || buf.is_empty() {
+        if buf.is_empty() {
+            return Ok(0);
+        }
+        if !self.is_cut {
             return Ok(0);
         }
         self.is_cut = false;
@@ -75,69 +117,126 @@ impl Read for LineFile {
     }
 }
 
-/// What stands at a name.
-#[derive(Drop)]
+/// What stands at a path.
+#[derive(Clone, Copy)]
 pub(crate) enum Found {
-    /// A file of lines, or an empty one.
-    Lines(File),
-    /// It is left there, for this reason.
-    Left(Refusal, Option<Stamp>),
+    /// A file of lines, which is open, or an empty one.
+    Lines(Handle),
+    /// It is left there, for this reason; what was seen there, if something was.
+    Left(Refusal, Option<Seen>),
     /// Nothing, or something else than a moment before.
     Gone,
 }
 
-/// What stands at the path. A link is not followed.
-pub(crate) fn find<T: Files<File = File>>(rt: &T, path: &str) -> Found {
-    match rt.symlink_metadata(path) {
-        Ok(named) => {
-            let stamp = Some(Stamp::of(&named));
-            if !named.is_file() {
-                return Found::Left(Refusal::ReadFault, stamp);
-            }
-            match open_lines(rt, path, &named) {
-                Ok(Some(file)) => Found::Lines(file),
-                Ok(None) => Found::Gone,
-                Err(refusal) => Found::Left(refusal, stamp),
-            }
-        }
-        Err(error) if error.kind() == ErrorKind::NotFound => Found::Gone,
-        Err(_) => Found::Left(Refusal::ReadFault, None),
+/// What stands at the path. A link is not followed, and only a file of lines stays open.
+pub(crate) fn find<S: System>(system: &mut S, path: &str) -> Found
+    ensures { IsFound path.now result (S.calls system.old) (S.calls system.new) }
+{
+    let named = match system.look(path) {
+        Ok(named) => named,
+        Err(fault) => return refused(fault, None),
+    };
+    if !is_regular(&named) {
+        return Found::Left(Refusal::ReadFault, Some(named));
+    }
+    let handle = match system.open(path, How::Read) {
+        Ok(handle) => handle,
+        Err(fault) => return refused(fault, Some(named)),
+    };
+    let found = look_into(system, handle, &named);
+    if let Found::Lines(_) = found {
+        return found;
+    }
+    system.close(handle);
+    found
+}
+
+/// What a refused call says of the path.
+fn refused(fault: Fault, named: Option<Seen>) -> Found
+    ensures { result ≡ fault_found named fault }
+{
+    match fault {
+        Fault::Absent(_) => Found::Gone,
+        _ => Found::Left(Refusal::ReadFault, named),
     }
 }
 
-/// Opens this file at the path, if it is still there and its first line begins with a word of
-/// lines.
-fn open_lines<T: Files<File = File>>(
-    rt: &T,
-    path: &str,
-    named: &Metadata,
-) -> Result<Option<File>, Refusal> {
-    let file = match OpenOptions::new().read(true).open(rt, path) {
-        Ok(file) => file,
-        Err(error) if error.kind() == ErrorKind::NotFound => return Ok(None),
-        Err(_) => return Err(Refusal::ReadFault),
-    };
-    let Ok(held) = file.metadata() else {
-        return Err(Refusal::ReadFault);
+/// What a refused look at a path says of whether it names the file.
+fn refused_name(fault: Fault) -> Result<bool, Fault>
+    ensures { result ≡ fault_named fault }
+{
+    match fault {
+        Fault::Absent(_) => Ok(false),
+        other => Err(other),
+    }
+}
+
+/// What the open file is, if it is the one that was seen at its path.
+fn look_into<S: System>(system: &mut S, handle: Handle, named: &Seen) -> Found
+    ensures { IsLookedInto handle named.now result (S.calls system.old) (S.calls system.new) }
+{
+    let held = match system.look_at(handle) {
+        Ok(held) => held,
+        Err(_) => return Found::Left(Refusal::ReadFault, Some(*named)),
     };
     if !is_same(&held, named) {
-        return Ok(None);
+        return Found::Gone;
     }
-    match begins_with_line(&file) {
-        Ok(true) => Ok(Some(file)),
-        Ok(false) => Err(Refusal::BadLine),
-        Err(_) => Err(Refusal::ReadFault),
+    let mut start = [0u8; LONGEST];
+    let count = match system.peek(handle, &mut start) {
+        Ok(count) => count,
+        Err(_) => return Found::Left(Refusal::ReadFault, Some(*named)),
+    };
+    if !is_whole_front(count, held.len) {
+        return Found::Gone;
+    }
+    if begins(&start[..count]) {
+        Found::Lines(handle)
+    } else {
+        Found::Left(Refusal::BadLine, Some(*named))
     }
 }
 
-/// Whether the file begins with the first word of a line, or is empty. Its bytes stay to be read.
-fn begins_with_line(file: &File) -> io::Result<bool> {
-    let mut start = [0u8; LONGEST];
-    let count = file.read_at(&mut start, 0)?;
-    let start = &start[..count];
-    let end = start
-        .iter()
-        .position(|byte| *byte == b' ' || *byte == b'\n');
-    let word = &start[..end.unwrap_or(count)];
-    Ok(count == 0 || WORDS.iter().any(|known| known.as_bytes() == word))
+/// Whether so many first bytes tell the first word of a file of this length: a read may give fewer
+/// than it was asked for, and `put` could be the front of another word.
+fn is_whole_front(count: usize, len: u64) -> bool
+    ensures { IsTrue result ↔ IsWholeFront count len }
+{
+    count >= LONGEST || count as u64 >= len
+}
+
+/// Whether these first bytes begin with the first word of a line, or are none.
+fn begins(start: &[u8]) -> bool
+    ensures { IsTrue result ↔ Begins start.now }
+{
+    start.is_empty() || is_word(&start[..word_len(start)])
+}
+
+/// How many bytes come before a space or the end of the line.
+fn word_len(start: &[u8]) -> usize
+    ensures value { result ≡ word_len start.now }
+    ensures fits { result ≤ length start.now }
+{
+    let mut at = 0;
+    while at < start.len() {
+        if start[at] == b' ' || start[at] == b'\n' {
+            return at;
+        }
+        at += 1;
+    }
+    at
+}
+
+/// Whether it is the first word of a line.
+pub(crate) fn is_word(word: &[u8]) -> bool
+    ensures { IsTrue result ↔ IsWord word.now }
+{
+    word == b"put".as_slice()
+        || word == b"replace".as_slice()
+        || word == b"withdraw".as_slice()
+        || word == b"period".as_slice()
+        || word == b"list".as_slice()
+        || word == b"next".as_slice()
+        || word == b"turn".as_slice()
+        || word == b"raw".as_slice()
 }

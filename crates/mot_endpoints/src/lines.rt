@@ -6,36 +6,41 @@ ghost use Rattle.mot_endpoints.specs.Opened.{BeginsTo, named};
 ghost use Rattle.mot_endpoints.specs.declared.lines.LineFolder.{LineFolder};
 
 use crate::asked::Asked;
-use crate::beside::{folder_of, is_file_at};
+use crate::beside::folder_of;
 use crate::fault::{Cause, LinesFault, Unbegun};
 use crate::heard::Heard;
 use crate::packets::OUTPUT;
 use crate::spool::Spool;
 use crate::station::Station;
+use mot_files::{Fault, HostSystem, Kind, System};
 use mot_lines::Hand;
 use std::alloc::Global;
 use std::cell::RefCell;
-use std::io::{ErrorKind, Write};
-use std::os::unix::fs::MetadataExt;
-use std::rt::Files;
+use std::io::{self, ErrorKind, Write};
+use std::str::from_utf8;
 
 /// After how many packets lines are read, if no number is given.
 const EVERY: u32 = 8;
 
+/// Room for a path without links.
+const PATH: usize = 4_096;
+
 /// A folder of files of lines.
-#[derive(Clone, Copy)]
-pub struct LinePlace<'a> {
-    rt: &'a HostRuntime,
+#[derive(Drop)]
+pub struct LinePlace<'a, S: System + Drop> {
+    /// The files, which nothing else is asked of.
+    pub system: S,
     /// Its path.
     pub path: &'a str,
 }
 
-impl<'a> LinePlace<'a> {
+impl<'a, S: System + Drop> LinePlace<'a, S> {
     /// The folder at this path.
-    pub(crate) fn new(rt: &'a HostRuntime, path: &'a str) -> LinePlace<'a>
-        ensures { result.path ≡ path.entry }
+    pub fn new(system: S, path: &'a str) -> LinePlace<'a, S>
+        ensures path { result.path ≡ path.entry }
+        ensures system { result.system ≡ system }
     {
-        LinePlace { rt, path }
+        LinePlace { system, path }
     }
 
     /// Its files, of which none was read. The lines about them go to `log`.
@@ -44,19 +49,19 @@ impl<'a> LinePlace<'a> {
         alloc: Global,
         log: W,
         asked: &'a RefCell<Asked>,
-    ) -> Heard<Spool<'a, HostRuntime, W>>
-        ensures folder { result.reader.folder.now ≡ self.entry.path.now }
+    ) -> Heard<Spool<'a, S, W>>
+        ensures folder { result.reader.finder.folder.now ≡ self.entry.path.now }
         ensures none { result.lines.notes.all ≡ [] }
     {
-        Heard::new(Spool::new(self.rt, alloc, self.path, log, asked))
+        Heard::new(Spool::new(self.system, alloc, self.path, log, asked))
     }
 }
 
 /// A folder of files of lines, and what has come of the next line.
 #[derive(Drop)]
-pub struct LineFolder<'a> {
+pub struct LineFolder<'a, S: System + Drop> {
     /// The folder.
-    pub place: LinePlace<'a>,
+    pub place: LinePlace<'a, S>,
     /// What has come of the next line.
     pub hand: Hand,
     /// Behind how many packets it is read once; 0 counts as 1.
@@ -84,12 +89,12 @@ pub fn line_folder<'a>(
     path: Option<&'a str>,
     every: Option<u32>,
     others: Others<'_>,
-) -> Result<Option<LineFolder<'a>>, Unbegun>
+) -> Result<Option<LineFolder<'a, HostSystem<'a, HostRuntime>>>, Unbegun>
     ensures given { IfOk result (λ lines. is_none lines ≡ is_none path.entry) }
     ensures folder { IfOk result
-        (λ lines. option_map (λ (lines : LineFolder). lines.place.path) lines ≡ path.entry) }
+        (λ lines. option_map (λ lines. lines.place.path) lines ≡ path.entry) }
     ensures every { IfOk result (λ lines. IfSome lines (λ l. l.every ≡ unwrap_or every EVERY)) }
-    ensures hand { IfOk result (λ lines. option_map (λ (lines : LineFolder). lines.hand) lines
+    ensures hand { IfOk result (λ lines. option_map (λ lines. lines.hand) lines
         ≡ option_map (λ _. []) path.entry) }
     ensures refused { IfErr result (λ unbegun. IsUnlined path.entry unbegun.refusal) }
     ensures opens { MatchResult result
@@ -100,7 +105,7 @@ pub fn line_folder<'a>(
     let Some(path) = path else {
         return Ok(None);
     };
-    let place = match station.lines(alloc, path, others) {
+    let place = match station.lines(path, others) {
         Ok(place) => place,
         Err(fault) => return Err(Unbegun::unread(Cause::Lines(fault))),
     };
@@ -115,19 +120,21 @@ pub fn line_folder<'a>(
 }
 
 /// Why no lines can come from the path.
-pub(crate) fn check_folder(
-    rt: &HostRuntime,
-    alloc: Global,
+pub(crate) fn check_folder<S: System>(
+    system: &mut S,
     path: &str,
     others: Others<'_>,
 ) -> Result<(), LinesFault> {
-    let found = rt.metadata(path)?;
-    if !found.is_dir() {
+    let found = match system.follow(path) {
+        Ok(found) => found,
+        Err(fault) => return Err(LinesFault::System(fault.error())),
+    };
+    if found.kind != Kind::Folder {
         return Err(LinesFault::NoFolder);
     }
     let folder = Folder {
-        device: found.dev(),
-        number: found.ino(),
+        device: found.device,
+        number: found.number,
     };
     let Others {
         objects,
@@ -136,18 +143,18 @@ pub(crate) fn check_folder(
         types,
     } = others;
     if let Some(objects) = objects
-        && folder.is_at(rt, objects)
+        && folder.is_at(system, objects)
     {
         return Err(LinesFault::HasObjects);
     }
-    if folder.has(rt, alloc, disk)? {
+    if folder.has(system, disk)? {
         return Err(LinesFault::HasDisk);
     }
-    if packets != OUTPUT && folder.has(rt, alloc, packets)? {
+    if packets != OUTPUT && folder.has(system, packets)? {
         return Err(LinesFault::HasPackets);
     }
     match types {
-        Some(types) if folder.has(rt, alloc, types)? => Err(LinesFault::HasTypes),
+        Some(types) if folder.has(system, types)? => Err(LinesFault::HasTypes),
         _ => Ok(()),
     }
 }
@@ -161,19 +168,27 @@ struct Folder {
 
 impl Folder {
     /// Whether the path names it.
-    fn is_at(self, rt: &HostRuntime, path: &str) -> bool {
-        is_file_at(rt, path, self.device, self.number)
+    fn is_at<S: System>(self, system: &mut S, path: &str) -> bool {
+        match system.follow(path) {
+            Ok(found) => found.device == self.device && found.number == self.number,
+            Err(_) => false,
+        }
     }
 
     /// Whether what this path names stands in it, or would; or, of a link, what it leads to.
-    fn has(self, rt: &HostRuntime, alloc: Global, path: &str) -> Result<bool, LinesFault> {
-        if self.is_at(rt, folder_of(path)) {
+    fn has<S: System>(self, system: &mut S, path: &str) -> Result<bool, LinesFault> {
+        if self.is_at(system, folder_of(path)) {
             return Ok(true);
         }
-        match rt.canonicalize(alloc, path) {
-            Ok(place) => Ok(self.is_at(rt, folder_of(place.as_path().as_str()))),
-            Err(error) if error.kind() == ErrorKind::NotFound => Ok(false),
-            Err(error) => Err(LinesFault::System(error)),
+        let mut room = [0u8; PATH];
+        let count = match system.resolve(path, &mut room) {
+            Ok(count) => count,
+            Err(Fault::Absent(_)) => return Ok(false),
+            Err(fault) => return Err(LinesFault::System(fault.error())),
+        };
+        match from_utf8(&room[..count]) {
+            Ok(place) => Ok(self.is_at(system, folder_of(place))),
+            Err(_) => Err(LinesFault::System(io::Error::from(ErrorKind::InvalidData))),
         }
     }
 }

@@ -1,33 +1,39 @@
 //! Names in a folder about which the log has a line, so that it has one once.
+ghost use Rattle.std.specs.Prelude.{◌≡◌, ◌≢◌, ◌<◌, ◌≤◌, ◌↔◌, ◌⊎◌, [], All, HoldsAt, IfNone, IfOk, IfSome, IsTrue, MatchOption};
+ghost use Rattle.std.specs.Prelude.{false, length, true};
+ghost use Rattle.mot_endpoints.specs.LineFiles.{IsStampOf};
+ghost use Rattle.mot_endpoints.specs.Inner.Said.{IsDue, IsNew, IsUntold, Remembers};
+
+use mot_files::{Seen, Time};
 use std::alloc::{AllocError, Global};
-use std::fs::Metadata;
-use std::os::unix::fs::MetadataExt;
 
 /// The most names that are remembered. Further ones are not logged.
 const MOST: usize = 100;
 
 /// What distinguishes a file from another one, and from the same one once it was changed.
-#[derive(Clone, Copy, PartialEq, Eq)]
+#[derive(Clone, Copy)]
 pub(crate) struct Stamp {
     device: u64,
     number: u64,
-    changed: (i64, i64),
+    changed: Time,
 }
 
 impl Stamp {
-    /// That of the file which has this metadata.
-    pub(crate) fn of(found: &Metadata) -> Stamp {
+    /// That of the file of which the system says this.
+    pub(crate) fn of(seen: &Seen) -> Stamp
+        ensures { IsStampOf seen.now result }
+    {
         Stamp {
-            device: found.dev(),
-            number: found.ino(),
-            changed: (found.ctime(), found.ctime_nsec()),
+            device: seen.device,
+            number: seen.number,
+            changed: seen.changed,
         }
     }
 }
 
 /// A name about which the log has a line.
 #[derive(Drop)]
-struct Told {
+pub(crate) struct Told {
     name: Vec<u8>,
     /// The file that it named, if one was seen.
     stamp: Option<Stamp>,
@@ -46,7 +52,9 @@ pub(crate) struct Said {
 
 impl Said {
     /// Nothing was logged.
-    pub(crate) fn new(alloc: Global) -> Said {
+    pub(crate) fn new(alloc: Global) -> Said
+        ensures { result.names.items ≡ [] }
+    {
         Said {
             alloc,
             names: Vec::new(alloc),
@@ -55,58 +63,117 @@ impl Said {
 
     /// Whether a line about this file is due, which then counts as logged: not if the log has this
     /// line already, nor if too many names are remembered.
-    pub(crate) fn is_new(&mut self, name: &[u8], stamp: Option<Stamp>) -> Result<bool, AllocError> {
-        for told in self.names.iter_mut() {
-            if told.name.as_slice() == name {
-                let is_new = told.stamp != stamp;
-                told.stamp = stamp;
-                told.is_met = true;
-                told.is_unread = false;
-                return Ok(is_new);
-            }
+    pub(crate) fn is_new(&mut self, name: &[u8], stamp: Option<Stamp>) -> Result<bool, AllocError>
+        ensures due { IfOk result (λ is. IsNew self.old.names.items name.now stamp is) }
+    {
+        match self.keep(name, stamp, false) {
+            Ok(Some(is_new)) => Ok(is_new),
+            Ok(None) => Ok(false),
+            Err(error) => Err(error),
+        }
+    }
+
+    /// Notes that a read of this file failed; whether it will be known again.
+    pub(crate) fn keep_unread(&mut self, name: &[u8], stamp: Option<Stamp>) -> bool
+        ensures { IsTrue result → Remembers self.new.names.items name.now stamp true }
+    {
+        if stamp.is_none() {
+            return false;
+        }
+        match self.keep(name, stamp, true) {
+            Ok(Some(_)) => true,
+            _ => false,
+        }
+    }
+
+    /// Remembers this file, if there is room; whether the log has no line about it yet.
+    fn keep(
+        &mut self,
+        name: &[u8],
+        stamp: Option<Stamp>,
+        is_unread: bool,
+    ) -> Result<Option<bool>, AllocError>
+        ensures due { IfOk result (λ kept. MatchOption kept
+            (IsUntold self.old.names.items name.now × (100 ≤ length self.old.names.items))
+            (λ is. IsDue self.old.names.items name.now stamp is
+            × Remembers self.new.names.items name.now stamp is_unread)) }
+    {
+        if let Some(at) = self.place_of(name) {
+            let told = &mut self.names[at];
+            let is_new = !is_one(&told.stamp, &stamp);
+            told.stamp = stamp;
+            told.is_met = true;
+            told.is_unread = is_unread;
+            return Ok(Some(is_new));
         }
         if self.names.len() >= MOST {
-            return Ok(false);
+            return Ok(None);
         }
         self.names.push(Told {
             name: Vec::from_slice(self.alloc, name)?,
             stamp,
             is_met: true,
-            is_unread: false,
+            is_unread,
         })?;
-        Ok(true)
-    }
-
-    /// Notes that a read of this file failed; whether it will be known again.
-    pub(crate) fn keep_unread(&mut self, name: &[u8], stamp: Option<Stamp>) -> bool {
-        if stamp.is_none() || self.is_new(name, stamp).is_err() {
-            return false;
-        }
-        for told in self.names.iter_mut() {
-            if told.name.as_slice() == name {
-                told.is_unread = true;
-                return true;
-            }
-        }
-        false
+        Ok(Some(true))
     }
 
     /// Whether a read of this file failed, and it is as it was then.
-    pub(crate) fn is_unread(&mut self, name: &[u8], stamp: Option<Stamp>) -> bool {
-        for told in self.names.iter_mut() {
-            if told.is_unread && told.name.as_slice() == name && told.stamp == stamp {
-                told.is_met = true;
-                return true;
-            }
+    pub(crate) fn is_unread(&mut self, name: &[u8], stamp: Option<Stamp>) -> bool
+        ensures { IsTrue result → Remembers self.new.names.items name.now stamp true }
+    {
+        let Some(at) = self.place_of(name) else {
+            return false;
+        };
+        let told = &mut self.names[at];
+        if !told.is_unread || !is_one(&told.stamp, &stamp) {
+            return false;
         }
-        false
+        told.is_met = true;
+        true
+    }
+
+    /// Where the name stands, if it is remembered.
+    fn place_of(&self, name: &[u8]) -> Option<usize>
+        ensures fits { IfSome result (λ at. at < length self.now.names.items) }
+        ensures names { IfSome result
+            (λ at. HoldsAt (λ told. told.name.items ≡ name.now) self.now.names.items at) }
+        ensures none { IfNone result (IsUntold self.now.names.items name.now) }
+    {
+        let mut at = 0;
+        while at < self.names.len() {
+            if self.names[at].name.as_slice() == name {
+                return Some(at);
+            }
+            at += 1;
+        }
+        None
     }
 
     /// Forgets the names that were not met since the last call.
-    pub(crate) fn forget_unmet(&mut self) {
+    pub(crate) fn forget_unmet(&mut self)
+        ensures { All (λ told. told.is_met ≡ false) self.new.names.items }
+    {
         self.names.retain(|told| told.is_met);
-        for told in self.names.iter_mut() {
-            told.is_met = false;
+        let mut at = 0;
+        while at < self.names.len() {
+            self.names[at].is_met = false;
+            at += 1;
         }
+    }
+}
+
+/// Whether both are the same file in the same state, or none.
+fn is_one(stamp: &Option<Stamp>, other: &Option<Stamp>) -> bool
+    ensures { IsTrue result ↔ (stamp.now ≡ other.now) }
+{
+    match (stamp, other) {
+        (Some(stamp), Some(other)) => {
+            stamp.device == other.device
+                && stamp.number == other.number
+                && stamp.changed.nanos == other.changed.nanos
+        }
+        (None, None) => true,
+        _ => false,
     }
 }

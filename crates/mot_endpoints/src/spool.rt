@@ -1,58 +1,35 @@
-//! Files of lines in a folder, read one after the other. No contract says what these calls do to
-//! files.
-ghost use Rattle.std.specs.Prelude.{◌≡◌, ◌≤◌, false, length};
+//! Files of lines in a folder, read one after the other.
+ghost use Rattle.std.specs.Prelude.{◌≡◌, ◌≤◌, ◌⊎◌, ◌∷◌, [], IfOk, IsErr, None, Option, Result};
+ghost use Rattle.std.specs.Prelude.{false, length, string_bytes, take, true};
+ghost use Rattle.mot_endpoints.specs.LineFiles.{TakesAway};
+ghost use Rattle.mot_endpoints.specs.Inner.Said.{Remembers};
+ghost use Rattle.mot_endpoints.specs.declared.said.Stamp.{Stamp};
+ghost use Rattle.mot_endpoints.specs.Spooling.{Finishes, FinishesFile, OnlyReads, Serves, ServesFile};
+ghost use Rattle.mot_files.specs.declared.system.Fault.{Fault};
+ghost use Rattle.std.specs.Io.{ReadsAtMost};
+ghost use Rattle.std.specs.Io.KnownBytes.{ReadConsumes};
 
 use crate::asked::Asked;
-use crate::line_file::{Found, LineFile, find};
-use crate::log::Shown;
-use crate::names::{Names, is_of_lines, plain_text};
-use crate::said::{Said, Stamp};
-use mot_numbers::Refusal;
+use crate::finder::Finder;
+use crate::line_file::LineFile;
+use mot_files::System;
 use std::alloc::Global;
 use std::cell::RefCell;
-use std::fs::File;
-use std::io::{self, ErrorKind, Read, Write};
-use std::rt::Files;
-
-/// Room for the names that one read of a folder gives.
-const ROOM: usize = 16_384;
-
-/// How often a folder is read in one call, at most.
-const READS: u32 = 2;
-
-/// How many names are looked at in one call, at most.
-const LOOKS: u32 = 16;
+use std::io::{self, Read, Write};
 
 /// The end of a line that was not read to its end: with it no line asks for anything, since a
 /// carriage return belongs to the last word.
 const TORN: [u8; 2] = [b'\r', b'\n'];
 
-/// The regular files directly in a folder whose names end in `.lines` and do not begin with a dot,
-/// in the order of their names, as one input that waits for nothing. Each file is removed once it
-/// was read to its end. So its lines come again after a crash, and none is lost. A file whose first
-/// line does not begin with a word of lines, or that can't be opened, is left and logged once. So is
-/// one whose reading fails, until it is another one or was changed; if that can't be remembered, it
+/// The files of lines of a folder, as one input that waits for nothing. Each file is removed once
+/// it was read to its end. So its lines come again after a crash, and none is lost. One whose
+/// reading fails is left, until it is another one or was changed; if that can't be remembered, it
 /// is the last. One that can't be removed is the last, too: else its lines would come again and
 /// again.
-///
-/// A call reads a part of the folder at most, and looks at a few names: so whatever lies there, it
-/// comes back soon.
 #[derive(Drop)]
-pub struct Spool<'a, T: Files<File = File>, W: Write + Drop> {
-    rt: &'a T,
-    alloc: Global,
-    /// The folder's path.
-    pub folder: &'a str,
-    /// Lines about a file go there.
-    pub log: W,
-    /// The folder, while it is read.
-    listing: Option<T::Dir>,
-    /// The names of the files that come next.
-    names: Names,
-    /// The files that are left and logged.
-    said: Said,
-    /// Whether the log says that the folder can't be read.
-    is_unread: bool,
+pub struct Spool<'a, S: System + Drop, W: Write + Drop> {
+    /// What finds the files.
+    finder: Finder<'a, S, W>,
     /// The file that is read.
     open: Option<LineFile>,
     /// Whether the reading of a file failed within a line.
@@ -63,28 +40,22 @@ pub struct Spool<'a, T: Files<File = File>, W: Write + Drop> {
     pub is_stopped: bool,
 }
 
-impl<'a, T: Files<File = File>, W: Write + Drop> Spool<'a, T, W> {
+impl<'a, S: System + Drop, W: Write + Drop> Spool<'a, S, W> {
     /// No file was read.
     pub fn new(
-        rt: &'a T,
+        system: S,
         alloc: Global,
         folder: &'a str,
         log: W,
         asked: &'a RefCell<Asked>,
-    ) -> Spool<'a, T, W>
-        ensures folder { result.folder.now ≡ folder.now }
-        ensures log { result.log ≡ log }
+    ) -> Spool<'a, S, W>
+        ensures folder { result.finder.folder.now ≡ folder.now }
+        ensures log { result.finder.log ≡ log }
+        ensures system { result.finder.system ≡ system }
         ensures goes { result.is_stopped ≡ false }
     {
         Spool {
-            rt,
-            alloc,
-            folder,
-            log,
-            listing: None,
-            names: Names::new(alloc),
-            said: Said::new(alloc),
-            is_unread: false,
+            finder: Finder::new(system, alloc, folder, log),
             open: None,
             is_torn: false,
             asked,
@@ -92,181 +63,91 @@ impl<'a, T: Files<File = File>, W: Write + Drop> Spool<'a, T, W> {
         }
     }
 
-    /// Opens the next file of lines, if there is one among the names that are looked at.
-    fn open_next(&mut self) -> io::Result<()> {
-        let is_listing = self.names.is_empty() || self.listing.is_some();
-        if is_listing && !self.list()? {
-            return Ok(());
+    /// The next bytes of the file that is open, or of the next one.
+    fn read_on(&mut self, buf: &mut [u8]) -> io::Result<usize>
+        ensures fits { IfOk result (λ count. count ≤ length buf.new) }
+        ensures serves { Serves self.old.is_torn self.new.is_torn self.old.«open» self.new.«open» result
+            buf.new (S.calls self.old.finder.system) (S.calls self.new.finder.system) }
+    {
+        if self.is_torn {
+            return Ok(self.end_torn(buf));
         }
-        for _ in 0..LOOKS {
-            let Some(name) = self.names.next()? else {
-                return Ok(());
-            };
-            self.open_named(&name)?;
-            if self.open.is_some() {
-                return Ok(());
+        if self.is_stopped || buf.is_empty() {
+            return Ok(0);
+        }
+        if let Some(lines) = self.open.take() {
+            return self.read_file(lines, buf);
+        }
+        match self.finder.open_next() {
+            Ok(Some(lines)) => {
+                begin(self.asked, lines.name.as_bytes());
+                self.read_file(lines, buf)
+            }
+            Ok(None) => Ok(0),
+            Err(error) => Err(error),
+        }
+    }
+
+    /// The next bytes of this file. At its end it is taken away.
+    fn read_file(&mut self, mut lines: LineFile, buf: &mut [u8]) -> io::Result<usize>
+        requires { self.old.«open» ≡ None }
+        ensures fits { IfOk result (λ count. count ≤ length buf.new) }
+        ensures serves { ServesFile lines self.new.«open» self.new.is_torn result
+            buf.new
+            (S.calls self.old.finder.system) (S.calls self.new.finder.system) }
+    {
+        match lines.read(&mut self.finder.system, buf) {
+            Ok(0) => {
+                self.take_away(&lines);
+                Ok(0)
+            }
+            Ok(count) => {
+                self.open = Some(lines);
+                note(self.asked, &buf[..count]);
+                Ok(count)
+            }
+            Err(fault) => {
+                self.leave_unread(&lines);
+                Err(fault.error())
             }
         }
-        Ok(())
     }
 
-    /// Opens the file of this name, if it is a file of lines. A file that is left there is logged.
-    fn open_named(&mut self, bytes: &[u8]) -> io::Result<()> {
-        let Some(name) = plain_text(bytes) else {
-            return self.leave(bytes, Refusal::BadName, None);
-        };
-        let name = String::from_str(self.alloc, name)?;
-        let path = format!(in self.alloc; "{}/{}", self.folder, name)?;
-        match find(self.rt, path.as_str()) {
-            Found::Lines(file) => {
-                let lines = LineFile::new(file, name, path);
-                if !self.said.is_unread(bytes, lines.stamp()) {
-                    self.begin(bytes);
-                    self.open = Some(lines);
-                }
-                Ok(())
-            }
-            Found::Left(refusal, stamp) => self.leave(bytes, refusal, stamp),
-            Found::Gone => Ok(()),
-        }
-    }
-
-    /// Reads the names of the folder, or a part of them; whether it came to their end. The log says
-    /// once that the folder can't be read, and once that it can again.
-    fn list(&mut self) -> io::Result<bool> {
-        let listed = self.list_on();
-        match listed {
-            Ok(true) => self.tell_readable(),
-            Ok(false) => {}
-            Err(error) => {
-                self.names.clear();
-                if error.kind() != ErrorKind::OutOfMemory {
-                    self.tell_unread();
-                }
-            }
-        }
-        listed
-    }
-
-    /// Reads on in the folder, or begins to.
-    fn list_on(&mut self) -> io::Result<bool> {
-        let mut dir = match self.listing.take() {
-            Some(dir) => dir,
-            None => self.begin_listing()?,
-        };
-        let is_whole = self.read_names(&mut dir)?;
-        if is_whole {
-            self.names.end();
-        } else {
-            self.listing = Some(dir);
-        }
-        Ok(is_whole)
-    }
-
-    /// Opens the folder. If its path is a link, the dot makes the system follow it.
-    fn begin_listing(&mut self) -> io::Result<T::Dir> {
-        if self.names.is_through {
-            self.names.is_through = false;
-            self.said.forget_unmet();
-        }
-        let path = format!(in self.alloc; "{}/.", self.folder)?;
-        self.rt.open_dir(path.as_str())
-    }
-
-    /// Reads names, so often at most; whether it came to their end.
-    fn read_names(&mut self, dir: &mut T::Dir) -> io::Result<bool> {
-        let mut room = Vec::from_elem(self.alloc, 0u8, ROOM)?;
-        for _ in 0..READS {
-            let count = dir.read(&mut room)?;
-            if count == 0 {
-                return Ok(true);
-            }
-            self.see_names(&room[..count])?;
-        }
-        Ok(false)
-    }
-
-    /// Keeps the names of files of lines among these, each ended by a zero byte.
-    fn see_names(&mut self, bytes: &[u8]) -> io::Result<()> {
-        let mut rest = bytes;
-        while let Some(end) = rest.iter().position(|byte| *byte == 0) {
-            if is_of_lines(&rest[..end]) {
-                self.names.keep(&rest[..end])?;
-            }
-            rest = &rest[end + 1..];
-        }
-        Ok(())
-    }
-
-    /// Logs that the file of this name is left there, if the log does not have that already.
-    fn leave(&mut self, name: &[u8], refusal: Refusal, stamp: Option<Stamp>) -> io::Result<()> {
-        if self.said.is_new(name, stamp)? {
-            let name = Shown::new(name);
-            let _ = writeln!(self.log, "lines {name} refused {refusal}");
-            let _ = self.log.flush();
-        }
-        Ok(())
-    }
-
-    /// Tells that the folder can't be read.
-    fn tell_unread(&mut self) {
-        if !self.is_unread {
-            self.is_unread = true;
-            let (folder, refusal) = (Shown::new(self.folder.as_bytes()), Refusal::ReadFault);
-            let _ = writeln!(self.log, "lines {folder} refused {refusal}");
-            let _ = self.log.flush();
-        }
-    }
-
-    /// Tells that the folder can be read again.
-    fn tell_readable(&mut self) {
-        if self.is_unread {
-            self.is_unread = false;
-            let folder = Shown::new(self.folder.as_bytes());
-            let _ = writeln!(self.log, "lines {folder} readable");
-            let _ = self.log.flush();
-        }
-    }
-
-    /// Removes the file that was read, if its path still names it. The path is kept, so that no
-    /// memory can lack here and make its lines come again.
-    fn take_away(&mut self, lines: &LineFile) {
-        match lines.is_named(self.rt) {
-            Ok(true) => {
-                if self.rt.remove_file(lines.path.as_str()).is_err() {
-                    self.stop(lines.name.as_str());
-                }
-            }
-            Ok(false) => {}
-            Err(_) => self.stop(lines.name.as_str()),
-        }
-    }
-
-    /// Notes that the lines of the file of this name are read.
-    fn begin(&mut self, name: &[u8]) {
-        if let Ok(mut asked) = self.asked.try_borrow_mut() {
-            asked.begin(name);
-        }
-    }
-
-    /// Notes that these bytes of it were read.
-    fn note(&mut self, bytes: &[u8]) {
-        if let Ok(mut asked) = self.asked.try_borrow_mut() {
-            asked.read(bytes);
+    /// Takes away the file that was read. If that fails no more is read.
+    fn take_away(&mut self, lines: &LineFile)
+        ensures takes { (taken : Result (Unit {0}) Fault)
+            × TakesAway lines.now.handle (string_bytes lines.now.path) taken
+            (S.calls self.old.finder.system) (S.calls self.new.finder.system)
+            × (IsErr taken → self.new.is_stopped ≡ true) }
+        ensures open { self.new.«open» ≡ self.old.«open» }
+    {
+        if lines.take_away(&mut self.finder.system).is_err() {
+            self.stop(lines.name.as_str());
         }
     }
 
     /// Leaves a file of which a read failed, and reads no more if it would not be known again.
-    fn leave_unread(&mut self, lines: &LineFile) {
+    fn leave_unread(&mut self, lines: &LineFile)
+        ensures reads { OnlyReads (S.calls self.old.finder.system)
+            (S.calls self.new.finder.system) }
+        ensures torn { self.new.is_torn ≡ lines.now.is_cut }
+        ensures open { self.new.«open» ≡ self.old.«open» }
+        ensures known { self.new.is_stopped ≡ false → (stamp : Option Stamp) × Remembers
+            self.new.finder.said.names.items (string_bytes lines.now.name) stamp true }
+    {
         self.is_torn = lines.is_cut;
-        let is_known = self.said.keep_unread(lines.name.as_bytes(), lines.stamp());
+        let is_known = self.finder.leave_unread(lines);
         self.is_stopped = !is_known;
-        self.tell_fault(lines.name.as_str());
+        self.finder.tell_fault(lines.name.as_str());
     }
 
     /// Ends the line within which the reading of a file failed, so that none of its words counts.
     fn end_torn(&mut self, buf: &mut [u8]) -> usize
-        ensures { result ≤ length buf.new }
+        ensures fits { result ≤ length buf.new }
+        ensures ends { (result ≡ 0) ⊎ (take result buf.new ≡ 13 ∷ 10 ∷ []) }
+        ensures finder { self.new.finder ≡ self.old.finder }
+        ensures open { self.new.«open» ≡ self.old.«open» }
+        ensures torn { (result ≡ 0) ⊎ (self.new.is_torn ≡ false) }
     {
         if buf.len() < TORN.len() {
             return 0;
@@ -274,52 +155,81 @@ impl<'a, T: Files<File = File>, W: Write + Drop> Spool<'a, T, W> {
         self.is_torn = false;
         buf[0] = TORN[0];
         buf[1] = TORN[1];
-        self.note(&TORN);
+        note(self.asked, &TORN);
         TORN.len()
     }
 
     /// Reads no more, for this file's sake.
-    fn stop(&mut self, name: &str) {
+    fn stop(&mut self, name: &str)
+        ensures system { self.new.finder.system ≡ self.old.finder.system }
+        ensures open { self.new.«open» ≡ self.old.«open» }
+        ensures stops { self.new.is_stopped ≡ true }
+    {
         self.is_stopped = true;
-        self.tell_fault(name);
+        self.finder.tell_fault(name);
     }
 
-    /// Tells that a file can't be read, or not be removed.
-    fn tell_fault(&mut self, name: &str) {
-        let refusal = Refusal::ReadFault;
-        let _ = writeln!(self.log, "lines {name} refused {refusal}");
-        let _ = self.log.flush();
+    /// The system of files.
+    pub fn into_system(self) -> S
+        ensures { result ≡ self.entry.finder.system }
+    {
+        self.finder.into_system()
+    }
+
+    /// Ends the reading, once playing has ended and every line that was read was answered: a file
+    /// that is at its end is taken away, and nothing more is read. One whose last line has no end
+    /// stays, since that line was not answered.
+    pub fn finish(&mut self)
+        ensures finishes { Finishes self.old.«open» (S.calls self.old.finder.system)
+            (S.calls self.new.finder.system) }
+        ensures stops { self.new.is_stopped ≡ true }
+    {
+        let Some(lines) = self.open.take() else {
+            self.is_stopped = true;
+            return;
+        };
+        self.finish_file(&lines);
+        self.is_stopped = true;
+    }
+
+    /// Takes the file away if it is at its end, and its last line has one; else closes it.
+    fn finish_file(&mut self, lines: &LineFile)
+        ensures { FinishesFile lines.now (S.calls self.old.finder.system)
+            (S.calls self.new.finder.system) }
+    {
+        if lines.is_cut {
+            self.finder.system.close(lines.handle);
+            return;
+        }
+        let mut next = [0u8; 1];
+        match self.finder.system.read(lines.handle, &mut next) {
+            Ok(0) => self.take_away(lines),
+            _ => self.finder.system.close(lines.handle),
+        }
     }
 }
 
-impl<'a, T: Files<File = File>, W: Write + Drop> Read for Spool<'a, T, W> {
-    fn read(&mut self, buf: &mut [u8]) -> io::Result<usize> {
-        if self.is_torn {
-            return Ok(self.end_torn(buf));
-        }
-        if self.is_stopped || buf.is_empty() {
-            return Ok(0);
-        }
-        if self.open.is_none() {
-            self.open_next()?;
-        }
-        let Some(mut lines) = self.open.take() else {
-            return Ok(0);
-        };
-        match lines.read(buf) {
-            Ok(0) => {
-                self.take_away(&lines);
-                Ok(0)
-            }
-            Ok(count) => {
-                self.open = Some(lines);
-                self.note(&buf[..count]);
-                Ok(count)
-            }
-            Err(error) => {
-                self.leave_unread(&lines);
-                Err(error)
-            }
-        }
+impl<'a, S: System + Drop, W: Write + Drop> Read for Spool<'a, S, W> {
+    fn read(&mut self, buf: &mut [u8]) -> io::Result<usize>
+        ensures bound { ReadsAtMost result buf.new }
+        ensures bytes { ReadConsumes None None result buf.new }
+        ensures serves { Serves self.old.is_torn self.new.is_torn self.old.«open» self.new.«open» result
+            buf.new (S.calls self.old.finder.system) (S.calls self.new.finder.system) }
+    {
+        self.read_on(buf)
+    }
+}
+
+/// Notes that the lines of the file of this name are read.
+fn begin(asked: &RefCell<Asked>, name: &[u8]) {
+    if let Ok(mut asked) = asked.try_borrow_mut() {
+        asked.begin(name);
+    }
+}
+
+/// Notes that these bytes of it were read.
+fn note(asked: &RefCell<Asked>, bytes: &[u8]) {
+    if let Ok(mut asked) = asked.try_borrow_mut() {
+        asked.read(bytes);
     }
 }

@@ -3,7 +3,7 @@
 ghost use Rattle.std.specs.Prelude.{◌≡◌, ◌≢◌, ◌≤◌, ◌∷◌, ◌++◌, [], None, Some, IfOk, MatchResult};
 ghost use Rattle.std.specs.Prelude.{codes, false, length};
 ghost use Rattle.disk_store.specs.Beginning.{IsFirst};
-ghost use Rattle.mot_endpoints.specs.Packets.{IsTarget, begun_of, target_of};
+ghost use Rattle.mot_endpoints.specs.Packets.{IsTarget, OpensInto, begun_of, target_of};
 
 use crate::fault::{Cause, LinesFault, TypesFault};
 use crate::lines::{LinePlace, Others, check_folder};
@@ -11,6 +11,7 @@ use crate::packets::{OpenPackets, Target, open_packets};
 use crate::status_file::StatusFile;
 use crate::types::read_text;
 use disk_store::{BegunFile, Start, Unopened, WasThere, open_file};
+use mot_files::HostSystem;
 use mot_shelf::{Pairs, SystemShelf};
 use std::alloc::Global;
 
@@ -33,6 +34,13 @@ impl<'a> Station<'a> {
             rt,
             opened: Pairs::new(),
         }
+    }
+
+    /// The files of the machine, of which nothing was asked.
+    fn system(&self) -> HostSystem<'a, HostRuntime>
+        ensures { result.calls.all ≡ [] }
+    {
+        HostSystem::new(self.rt, self.rt.alloc(), self.rt.stdout())
     }
 
     /// Opens the file at the path as a disk.
@@ -61,7 +69,7 @@ impl<'a> Station<'a> {
         path: &'a str,
         disk: &str,
         turns: Option<u32>,
-    ) -> Result<OpenPackets<'a>, Cause>
+    ) -> Result<OpenPackets<'a, HostSystem<'a, HostRuntime>>, Cause>
         ensures target { IfOk result (λ opened. IsTarget path.now (target_of opened)) }
         ensures begun { IfOk result (λ opened. begun_of opened ≡ path.now ∷ []) }
         ensures turns { IfOk result (λ opened. target_of opened ≡ Target.File
@@ -69,40 +77,47 @@ impl<'a> Station<'a> {
         ensures opened { MatchResult result
             (λ _. self.new.opened.all ≡ self.old.opened.all ++ (codes "packets", path.now) ∷ [])
             (λ _. self.new.opened.all ≡ self.old.opened.all) }
+        ensures calls { IfOk result (λ opened. OpensInto path.now disk.now opened.writer.handle
+            [] opened.writer.system.calls.all opened.destination) }
     {
-        let opened = open_packets(self.rt, path, disk, turns)?;
+        let opened = open_packets(self.system(), self.rt.alloc(), path, disk, turns)?;
         self.opened.note(b"packets", path.as_bytes());
         Ok(opened)
     }
 
     /// The folder of objects at the path, of which nothing was read. Files are read `at_once`, or
     /// once their last change is two seconds ago.
-    pub fn folder(&mut self, path: &'a str, at_once: bool) -> SystemShelf<'a, HostRuntime>
+    pub fn folder(
+        &mut self,
+        path: &'a str,
+        at_once: bool,
+    ) -> SystemShelf<'a, HostSystem<'a, HostRuntime>>
+        ensures none { result.system.calls.all ≡ [] }
         ensures path { result.path.now ≡ path.now }
         ensures rule { result.at_once ≡ at_once }
         ensures opened { self.new.opened.all
             ≡ self.old.opened.all ++ (codes "folder", path.now) ∷ [] }
     {
         self.opened.note(b"folder", path.as_bytes());
-        SystemShelf::new(self.rt, path, at_once)
+        SystemShelf::new(self.system(), path, at_once)
     }
 
     /// The folder of lines at the path, of which nothing was read. It is not that of the objects,
     /// and none of the other files stands in it.
     pub fn lines(
         &mut self,
-        alloc: Global,
         path: &'a str,
         others: Others<'_>,
-    ) -> Result<LinePlace<'a>, LinesFault>
+    ) -> Result<LinePlace<'a, HostSystem<'a, HostRuntime>>, LinesFault>
         ensures path { IfOk result (λ place. place.path ≡ path.entry) }
         ensures opened { MatchResult result
             (λ _. self.new.opened.all ≡ self.old.opened.all ++ (codes "lines", path.now) ∷ [])
             (λ _. self.new.opened.all ≡ self.old.opened.all) }
     {
-        check_folder(self.rt, alloc, path, others)?;
+        let mut system = HostSystem::new(self.rt, self.rt.alloc(), self.rt.stdout());
+        check_folder(&mut system, path, others)?;
         self.opened.note(b"lines", path.as_bytes());
-        Ok(LinePlace::new(self.rt, path))
+        Ok(LinePlace::new(system, path))
     }
 
     /// The bytes of the file that adds suffixes: 65,536 at most.
@@ -112,18 +127,24 @@ impl<'a> Station<'a> {
             (λ _. self.new.opened.all ≡ self.old.opened.all ++ (codes "types", path.now) ∷ [])
             (λ _. self.new.opened.all ≡ self.old.opened.all) }
     {
-        let text = read_text(self.rt, alloc, path)?;
+        let text = read_text(&mut self.system(), alloc, path)?;
         self.opened.note(b"types", path.as_bytes());
         Ok(text)
     }
 
     /// The file of the status at the path, to which nothing was written.
-    pub fn status(&mut self, path: &'a str, disk: &'a str) -> StatusFile<'a>
+    pub fn status(
+        &mut self,
+        path: &'a str,
+        disk: &'a str,
+    ) -> StatusFile<'a, HostSystem<'a, HostRuntime>>
         ensures path { result.path.now ≡ path.now }
+        ensures disk { result.disk.now ≡ disk.now }
+        ensures unasked { result.system.calls.all ≡ [] }
         ensures opened { self.new.opened.all
             ≡ self.old.opened.all ++ (codes "status", path.now) ∷ [] }
     {
         self.opened.note(b"status", path.as_bytes());
-        StatusFile::new(self.rt, path, disk)
+        StatusFile::new(self.system(), self.rt.alloc(), path, disk)
     }
 }

@@ -1,18 +1,17 @@
-//! The file that monitoring reads. No contract says what these calls do to files.
-ghost use Rattle.std.specs.Prelude.{◌≡◌};
+//! The file that monitoring reads.
+ghost use Rattle.std.specs.Prelude.{◌≡◌, ◌++◌, IfSome, MatchOption, codes, string_bytes};
+ghost use Rattle.mot_endpoints.specs.Status.{ChecksPlace, WritesStatus};
 
-use crate::beside::{SUFFIX, clear, is_file_at, is_of_disk};
+use crate::beside::{SUFFIX, is_of_disk};
 use crate::fault::PacketsFault;
-use std::alloc::AllocError;
-use std::fs::{self, OpenOptions};
-use std::io::{self, ErrorKind, Write};
-use std::os::unix::fs::MetadataExt;
-use std::rt::Files;
+use crate::new_file::{clear, find};
+use mot_files::{System, replace};
+use std::alloc::{AllocError, Global};
 
 /// A file of which a reader always sees a whole text.
 #[derive(Drop)]
-pub struct StatusFile<'a> {
-    rt: &'a HostRuntime,
+pub struct StatusFile<'a, S: System + Drop> {
+    system: S,
     /// Its path.
     pub path: &'a str,
     disk: &'a str,
@@ -20,66 +19,88 @@ pub struct StatusFile<'a> {
     beside: Option<String>,
 }
 
-impl<'a> StatusFile<'a> {
+impl<'a, S: System + Drop> StatusFile<'a, S> {
     /// The file at this path. Nothing was written.
-    pub(crate) fn new(rt: &'a HostRuntime, path: &'a str, disk: &'a str) -> StatusFile<'a>
-        ensures { result.path.now ≡ path.now }
+    pub(crate) fn new(system: S, alloc: Global, path: &'a str, disk: &'a str) -> StatusFile<'a, S>
+        ensures path { result.path.now ≡ path.now }
+        ensures disk { result.disk.now ≡ disk.now }
+        ensures system { result.system ≡ system }
+        ensures beside { IfSome result.beside (λ beside. string_bytes beside
+            ≡ path.now ++ codes ".new") }
     {
         StatusFile {
-            rt,
+            system,
             path,
             disk,
-            beside: path_beside(rt, path),
+            beside: path_beside(alloc, path),
         }
     }
 
     /// Writes the text beside the file, and puts it in its place. Neither is synced: after a power
     /// cut the file may be empty. The disk stays, and so does what is no regular file.
-    pub fn write(&self, text: &[u8]) -> Result<(), PacketsFault> {
+    pub fn write(&mut self, text: &[u8]) -> Result<(), PacketsFault>
+        ensures calls { MatchOption self.old.beside
+            (S.calls self.new.system ≡ S.calls self.old.system)
+            (λ beside. WritesStatus self.old.path.now (string_bytes beside) self.old.disk.now
+            text.now result (S.calls self.old.system) (S.calls self.new.system)) }
+        ensures path { self.new.path ≡ self.old.path }
+        ensures disk { self.new.disk ≡ self.old.disk }
+        ensures beside { self.new.beside ≡ self.old.beside }
+    {
         let Some(beside) = &self.beside else {
             return Err(PacketsFault::from(AllocError));
         };
-        self.check_place()?;
-        clear(self.rt, beside.as_str(), self.disk)?;
-        match self.replace(beside.as_str(), text) {
-            Ok(()) => Ok(()),
-            Err(error) => {
-                let _ = fs::remove_file(self.rt, beside.as_str());
-                Err(PacketsFault::System(error))
-            }
-        }
+        put(
+            &mut self.system,
+            self.path,
+            beside.as_str(),
+            self.disk,
+            text,
+        )
     }
+}
 
-    /// Whether the text may take the place.
-    fn check_place(&self) -> Result<(), PacketsFault> {
-        if is_of_disk(self.rt, self.path, self.disk) {
-            return Err(PacketsFault::IsOfDisk);
-        }
-        match self.rt.symlink_metadata(self.path) {
-            Ok(found) if !found.is_file() => Err(PacketsFault::NoFile),
-            Ok(found) if is_file_at(self.rt, self.disk, found.dev(), found.ino()) => {
-                Err(PacketsFault::IsDisk)
-            }
-            Ok(_) => Ok(()),
-            Err(error) if error.kind() == ErrorKind::NotFound => Ok(()),
-            Err(error) => Err(PacketsFault::System(error)),
-        }
+/// Whether a text may take the place of what is at the path.
+fn check_place<S: System>(system: &mut S, path: &str, disk: &str) -> Result<(), PacketsFault>
+    ensures { ChecksPlace path.now disk.now result (S.calls system.old) (S.calls system.new) }
+{
+    if is_of_disk(system, path, disk) {
+        return Err(PacketsFault::IsOfDisk);
     }
+    match find(system, path, disk) {
+        Ok(_) => Ok(()),
+        Err(fault) => Err(fault),
+    }
+}
 
-    /// Writes the text beside the file, and gives it the file's name.
-    fn replace(&self, beside: &str, text: &[u8]) -> io::Result<()> {
-        let mut file = OpenOptions::new()
-            .write(true)
-            .create_new(true)
-            .open(self.rt, beside)?;
-        file.write_all(text)?;
-        fs::rename(self.rt, beside, self.path)
+/// Writes the text beside the path, and puts it in its place.
+fn put<S: System>(
+    system: &mut S,
+    path: &str,
+    beside: &str,
+    disk: &str,
+    text: &[u8],
+) -> Result<(), PacketsFault>
+    ensures { WritesStatus path.now beside.now disk.now text.now result (S.calls system.old)
+        (S.calls system.new) }
+{
+    if let Err(fault) = check_place(system, path, disk) {
+        return Err(fault);
+    }
+    if let Err(fault) = clear(system, beside, disk) {
+        return Err(fault);
+    }
+    match replace(system, beside, path, text) {
+        Ok(()) => Ok(()),
+        Err(fault) => Err(PacketsFault::from(fault)),
     }
 }
 
 /// The path of the file that is written; none if there is no memory for it.
-fn path_beside(rt: &HostRuntime, path: &str) -> Option<String> {
-    match format!(in rt.alloc(); "{path}{SUFFIX}") {
+fn path_beside(alloc: Global, path: &str) -> Option<String>
+    ensures { IfSome result (λ beside. string_bytes beside ≡ path.now ++ codes ".new") }
+{
+    match format!(in alloc; "{path}{SUFFIX}") {
         Ok(beside) => Some(beside),
         Err(_) => None,
     }

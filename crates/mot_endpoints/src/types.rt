@@ -1,20 +1,22 @@
 //! Which files of a folder are objects: the known suffixes, and those that a file adds.
-ghost use Rattle.std.specs.Prelude.{◌≡◌, ◌≤◌, ◌++◌, IfErr, IfOk, MatchResult, codes, length};
+ghost use Rattle.std.specs.Prelude.{◌≡◌, ◌≤◌, ◌<◌, ◌+◌, ◌∷◌, ◌++◌, ℕ, List, []};
+ghost use Rattle.std.specs.Prelude.{IfErr, IfOk, MatchResult, Ok, codes, length, take};
 ghost use Rattle.mot_endpoints.specs.Opened.{BeginsTo, named};
+ghost use Rattle.mot_endpoints.specs.Inner.Texts.{IsOpened, IsReadToEnd, IsTextOf};
 ghost use Rattle.mot_endpoints.specs.Types.{IsTyped, IsUntyped};
+ghost use Rattle.mot_files.specs.Call.{looked_at, read_of};
+ghost use Rattle.mot_files.specs.Reading.{IsSame};
+ghost use Rattle.mot_files.specs.declared.system.Seen.{Seen};
 
-use crate::beside::is_same;
 use crate::fault::{Cause, TypesFault, Unbegun};
 use crate::station::Station;
+use mot_files::{Fault, Handle, How, Seen, System, is_regular, is_same};
 use mot_numbers::Refusal;
 use mot_suffixes::{FileTypes, RefusedLine};
 use std::alloc::{AllocError, Global};
-use std::fs::{File, OpenOptions};
-use std::io::Read;
-use std::rt::Files;
 
 /// The most bytes of a file that adds suffixes.
-const MOST: u64 = 65_536;
+const MOST: usize = 65_536;
 
 /// The known suffixes, and those that the file at the path adds, if one is given: `ReadFault` if it
 /// can't be read or has more than 65,536 bytes, and the refusals of its lines.
@@ -60,28 +62,122 @@ fn wrong(at: RefusedLine) -> Unbegun
     }
 }
 
-/// The bytes of the file.
-pub(crate) fn read_text(rt: &HostRuntime, alloc: Global, path: &str) -> Result<Vec<u8>, TypesFault>
-    ensures { IfOk result (λ text. length text.items ≤ 65536) }
+/// The bytes of the regular file at the path, or where a link there leads: 65,536 at most.
+pub(crate) fn read_text<S: System>(
+    system: &mut S,
+    alloc: Global,
+    path: &str,
+) -> Result<Vec<u8>, TypesFault>
+    ensures short { IfOk result (λ text. length text.items ≤ 65536) }
+    ensures calls { IfOk result (λ text. IsTextOf path.now text.items (S.calls system.old)
+        (S.calls system.new)) }
 {
-    let file = open_regular(rt, path)?;
-    let mut text = Vec::new(alloc);
-    file.take(MOST + 1).read_to_end(&mut text)?;
-    if text.len() as u64 > MOST {
-        return Err(TypesFault::Long);
-    }
-    Ok(text)
+    let handle = match open_regular(system, path) {
+        Ok(handle) => handle,
+        Err(fault) => return Err(fault),
+    };
+    let text = read_open(system, alloc, handle);
+    system.close(handle);
+    text
 }
 
 /// Opens the regular file at the path: a pipe, whose opening would wait, is not opened.
-fn open_regular(rt: &HostRuntime, path: &str) -> Result<File, TypesFault> {
-    let named = rt.metadata(path)?;
-    if !named.is_file() {
+fn open_regular<S: System>(system: &mut S, path: &str) -> Result<Handle, TypesFault>
+    ensures { IfOk result (λ handle. IsOpened path.now handle (S.calls system.old)
+        (S.calls system.new)) }
+{
+    let named = match system.follow(path) {
+        Ok(named) => named,
+        Err(fault) => return Err(TypesFault::from(fault)),
+    };
+    if !is_regular(&named) {
         return Err(TypesFault::NoFile);
     }
-    let file = OpenOptions::new().read(true).open(rt, path)?;
-    if !is_same(&file.metadata()?, &named) {
-        return Err(TypesFault::NoFile);
+    let handle = match system.open(path, How::Read) {
+        Ok(handle) => handle,
+        Err(fault) => return Err(TypesFault::from(fault)),
+    };
+    match check_same(system, handle, &named) {
+        Ok(()) => Ok(handle),
+        Err(fault) => {
+            system.close(handle);
+            Err(fault)
+        }
     }
-    Ok(file)
+}
+
+/// Whether what was opened is the file that was seen at its path.
+fn check_same<S: System>(system: &mut S, handle: Handle, named: &Seen) -> Result<(), TypesFault>
+    ensures { IfOk result (λ _. (held : Seen) × IsSame held named.now × (S.calls system.new
+        ≡ S.calls system.old ++ looked_at handle (Ok held) ∷ [])) }
+{
+    let held = match system.look_at(handle) {
+        Ok(held) => held,
+        Err(fault) => return Err(TypesFault::from(fault)),
+    };
+    if is_same(&held, named) {
+        Ok(())
+    } else {
+        Err(TypesFault::NoFile)
+    }
+}
+
+/// The bytes of an open file, if it has not too many.
+fn read_open<S: System>(
+    system: &mut S,
+    alloc: Global,
+    handle: Handle,
+) -> Result<Vec<u8>, TypesFault>
+    ensures short { IfOk result (λ text. length text.items ≤ 65536) }
+    ensures calls { IfOk result (λ text. IsReadToEnd handle text.items (S.calls system.old)
+        (S.calls system.new)) }
+{
+    let Ok(mut text) = Vec::from_elem(alloc, 0u8, MOST + 1) else {
+        return Err(TypesFault::from(AllocError));
+    };
+    let len = match fill(system, handle, &mut text) {
+        Ok(len) => len,
+        Err(fault) => return Err(TypesFault::from(fault)),
+    };
+    if len > MOST {
+        return Err(TypesFault::Long);
+    }
+    text.truncate(len);
+    Ok(text)
+}
+
+/// Reads until the file ends, or the room is full; how many bytes came.
+fn fill<S: System>(system: &mut S, handle: Handle, room: &mut [u8]) -> Result<usize, Fault>
+    ensures fits { IfOk result (λ count. count ≤ length room.new) }
+    ensures ended { IfOk result (λ count. count < length room.new
+        → IsReadToEnd handle (take count room.new) (S.calls system.old) (S.calls system.new)) }
+{
+    let mut at = 0;
+    while at < room.len() {
+        match read_some(system, handle, room, at) {
+            Ok(0) => return Ok(at),
+            Ok(count) => at += count,
+            Err(fault) => return Err(fault),
+        }
+    }
+    Ok(at)
+}
+
+/// Reads bytes into the room, from this place on.
+fn read_some<S: System>(
+    system: &mut S,
+    handle: Handle,
+    room: &mut [u8],
+    at: usize,
+) -> Result<usize, Fault>
+    requires { at ≤ length room.old }
+    ensures fits { IfOk result (λ count. at + count ≤ length room.new) }
+    ensures noted { IfOk result (λ count. (chunk : List ℕ) × (length chunk ≡ count)
+        × (S.calls system.new ≡ S.calls system.old ++ read_of handle chunk ∷ [])
+        × (take (at + count) room.new ≡ take at room.old ++ chunk)) }
+{
+    match system.read(handle, &mut room[at..]) {
+        Ok(count) => Ok(count),
+        Err(fault) => Err(fault),
+    }
 }

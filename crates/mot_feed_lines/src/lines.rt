@@ -1,5 +1,5 @@
 //! Lines between the packets of a feed.
-ghost use Rattle.std.specs.Prelude.{◌≡◌, ◌<◌, ◌-◌, ℕ, List, true, OnOk};
+ghost use Rattle.std.specs.Prelude.{◌≡◌, ◌<◌, ◌-◌, ◌↔◌, [], ℕ, IsTrue, List, true, OnOk};
 ghost use Rattle.disk_model.specs.Disk.{KeepsLength};
 ghost use Rattle.mot_feed_lines.specs.Answering.{TakesBetween, TellsOnTime};
 ghost use Rattle.mot_update.specs.Between.{IsUpdating};
@@ -59,6 +59,14 @@ impl<R: Inlet + Drop, W: Write + Drop, U: Update + Drop> Lines<R, W, U> {
             between: every.saturating_sub(1),
             left: 0,
         }
+    }
+
+    /// Whether each line of which something was read was read to its end, and so was answered.
+    pub fn is_answered(&self) -> bool
+        ensures { (line : List ℕ) → self.now.hand ≡ bytes_in_hand line
+            → (IsTrue result ↔ (line ≡ [])) }
+    {
+        self.hand.is_empty()
     }
 }
 

@@ -1,7 +1,6 @@
 -- While the names of a folder are listed: what is told of those that are no names of objects.
 use Rattle.std.proofs.Common.{◌≡◌, ◌∙◌, ◌++◌, ℕ, Bool, true, false, not, List, [], ◌∷◌, ap}
-use Rattle.std.proofs.Common.{append-nil, codes, cond, refl, subst, sym}
-use Rattle.std.specs.Prelude.{filter}
+use Rattle.std.proofs.Common.{append-nil, codes, cond, refl, sym}
 use Rattle.std.proofs.lemmas.List.Elements.{filter-append}
 use Rattle.mot_folder.proofs.Log.{look-more}
 use Rattle.mot_folder.proofs.Taken.{any_noted, any_read, read-more}

@@ -2,7 +2,7 @@
 use Rattle.std.proofs.Common.{◌≡◌, ◌∙◌, ℕ, ◌+◌, ◌<◌, length, zero, suc, List, [], ◌∷◌, ◌++◌, ap}
 use Rattle.std.proofs.Common.{append_assoc}
 use Rattle.std.proofs.Common.{append-nil, codes, map, refl, subst, sym, take, arith}
-use Rattle.std.proofs.Common.{Some, Option, Bool, true, false, not, ◌||◌, ◌≢◌, None, cond, inl, inr}
+use Rattle.std.proofs.Common.{Some, Option, Bool, true, false, not, ◌||◌, cond, inl, inr}
 use Rattle.std.specs.List.{list_any}
 use Rattle.std.specs.Prelude.{◌⊎◌, ◌↔◌, slice_get, filter}
 use Rattle.std.proofs.lemmas.Bool.{or_parts}
@@ -28,11 +28,9 @@ use Rattle.mot_server.specs.declared.running.Attempt.TheVariants.{Accepted, Refu
 use Rattle.mot_shelf.specs.Given.{Given, and_missed, and_read}
 use Rattle.mot_suffixes.specs.Types.{SuffixType}
 use Rattle.mot_objects.specs.declared.command.Command.{Command}
-use Rattle.mot_objects.specs.declared.command.Command.TheVariants as command
-use Rattle.mot_server.specs.declared.running.Attempt.{Attempt}
 use Rattle.mot_update.specs.Laws.{names_of}
 use Rattle.mot_update.specs.Looking.{AreAccepted}
-use Rattle.mot_update.specs.Told.{Answer, AreAnswers, IsAnswerTo, Put, Replaced, TellsBoth, Withdrew}
+use Rattle.mot_update.specs.Told.{Answer, AreAnswers, Put, Replaced, TellsBoth, Withdrew}
 use Rattle.mot_update.specs.Told.{came_of, was_accepted}
 use Rattle.mot_update.specs.declared.wanted.Wanted.{Wanted}
 

@@ -1,15 +1,15 @@
 //! A folder of files, as a source of wanted objects.
-ghost use Rattle.std.specs.Prelude.{◌≡◌, ◌⊎◌, ◌-◌, ◌<◌, ℕ, List, [], true, false, not, IfErr, IfOk};
-ghost use Rattle.std.specs.Prelude.{MatchResult, codes, slice_get};
+ghost use Rattle.std.specs.Prelude.{◌≡◌, ◌⊎◌, ◌||◌, ◌-◌, ◌<◌, ℕ, List, [], true, false, not, IfErr};
+ghost use Rattle.std.specs.Prelude.{IfOk, MatchResult, codes, slice_get};
 ghost use Rattle.mot_folder.specs.Inner.Names.{name_or_none};
-ghost use Rattle.mot_folder.specs.Inner.Reading.{Misses, Takes, TellsFile, TellsLook};
+ghost use Rattle.mot_folder.specs.Inner.Reading.{Misses, Takes, TellsFile, TellsLook, is_for_next};
 ghost use Rattle.mot_folder.specs.Log.{TellsOf, TellsOne, entry};
 ghost use Rattle.mot_folder.specs.declared.folder.Untaken.TheVariants.{Refused as NotTaken};
 ghost use Rattle.mot_folder.specs.declared.folder.Untaken.TheVariants.{Unread as NotRead};
 ghost use Rattle.mot_numbers.specs.declared.refusal.Refusal.{Refusal};
 ghost use Rattle.mot_numbers.specs.declared.refusal.Refusal.TheVariants.{OutOfMemory};
 ghost use Rattle.mot_server.specs.declared.running.Attempt.TheVariants.{Refused};
-ghost use Rattle.mot_shelf.specs.declared.unread.Unread.TheVariants.{Changed, TooLong, Young};
+ghost use Rattle.mot_files.specs.declared.reading.Unread.TheVariants.{TooLong};
 ghost use Rattle.mot_shelf.specs.Given.{Given, nothing};
 ghost use Rattle.mot_suffixes.specs.Types.{SuffixType, type_of_name};
 ghost use Rattle.mot_update.specs.Looking.{was_settled};
@@ -19,11 +19,12 @@ ghost use Rattle.mot_update.specs.Told.{TellsBoth, answers_of};
 use crate::listing::{FileNames, read_refusal};
 use crate::report::Report;
 use disk_store::OpenFault;
+use mot_files::Unread;
 use mot_lines::TextLine;
 use mot_numbers::Refusal;
 use mot_objects::{Body, MAX_BODY, Name};
 use mot_server::Attempt;
-use mot_shelf::{Shelf, Unread};
+use mot_shelf::Shelf;
 use mot_suffixes::{FileType, FileTypes};
 use mot_update::{Settled, Source, Wanted};
 use std::alloc::{AllocError, Global};
@@ -136,8 +137,7 @@ fn tell_untaken(report: &mut Report, name: &[u8], untaken: Untaken)
     // What was read of it is told as it was refused; what may be read next time brings a look soon.
     ensures refused { (refusal : Refusal) → untaken ≡ NotTaken refusal
         → TellsOne report.old report.new (entry (codes "read") name.now (Refused refusal)) }
-    ensures left { (untaken ≡ NotRead Young) ⊎ (untaken ≡ NotRead Changed)
-        → report.new.any_left ≡ true }
+    ensures left { report.new.any_left ≡ (report.old.any_left || is_for_next untaken) }
 {
     match untaken {
         Untaken::Refused(refusal) => report.refused("read", name, refusal),
@@ -146,7 +146,8 @@ fn tell_untaken(report: &mut Report, name: &[u8], untaken: Untaken)
         Untaken::Unread(Unread::TooLong(length)) => {
             report.missed(name, long_text(length).as_slice());
         }
-        Untaken::Unread(Unread::System(error)) => tell_fault(report, name, error),
+        Untaken::Unread(Unread::System(fault)) => tell_fault(report, name, fault.error()),
+        Untaken::Unread(Unread::NoMemory) => report.refused("read", name, Refusal::OutOfMemory),
     }
 }
 
@@ -155,6 +156,7 @@ fn tell_fault(report: &mut Report, name: &[u8], error: io::Error)
     ensures any { report.new.any_refused ≡ true }
     ensures stays { report.old.any_without_memory ≡ true
         → report.new.any_without_memory ≡ true }
+    ensures left { report.new.any_left ≡ report.old.any_left }
     ensures told { TellsFile report.old report.new name.now }
 {
     match read_refusal(error) {

@@ -25,10 +25,11 @@ ghost use Rattle.mot_update.specs.Updating.{is_known};
 use crate::report::{Reason, Report};
 use disk_store::OpenFault;
 use memchr::memchr;
+use mot_files::Kind;
 use mot_lines::TextLine;
 use mot_numbers::Refusal;
 use mot_objects::Name;
-use mot_shelf::{Kind, Shelf};
+use mot_shelf::Shelf;
 use mot_suffixes::FileTypes;
 use std::alloc::{AllocError, Global};
 use std::io::{self, ErrorKind, Write};
@@ -294,12 +295,14 @@ fn add_one<S: Shelf + Drop>(
 /// Tells why this name is left out, which has one of the suffixes or none, but for one that begins
 /// with a dot.
 fn tell_skipped<S: Shelf + Drop>(
-    shelf: &S,
+    shelf: &mut S,
     alloc: Global,
     name: &[u8],
     has_suffix: bool,
     report: &mut Report,
 )
+    ensures same { S.path shelf.new ≡ S.path shelf.old }
+    ensures gave { S.gave shelf.new ≡ S.gave shelf.old }
     ensures told { TellsMore (TellsAnswers report.old) (TellsAnswers report.new) [] }
     ensures further { (files : List (List ℕ)) → TellsNameless files report.old
         → TellsNameless files report.new }
@@ -313,7 +316,7 @@ fn tell_skipped<S: Shelf + Drop>(
     match shelf.kind(alloc, name) {
         Some(Kind::Folder) => report.skipped(name, b"folder\n"),
         Some(Kind::Link) => report.skipped(name, b"link\n"),
-        Some(Kind::Special) => report.skipped(name, b"special\n"),
+        Some(Kind::Pipe | Kind::Special) => report.skipped(name, b"special\n"),
         Some(Kind::File) if !has_suffix => report.skipped(name, b"suffix\n"),
         _ => {}
     }

@@ -1,10 +1,10 @@
 //! The log of a look at a folder, line by line.
-ghost use Rattle.std.specs.Prelude.{◌≡◌, ◌↔◌, ◌||◌, ◌++◌, [], List, Option, Some, ℕ, true, false};
+ghost use Rattle.std.specs.Prelude.{◌≡◌, ◌≢◌, ◌↔◌, ◌||◌, ◌++◌, [], List, Option, Some, ℕ, true, false};
 ghost use Rattle.std.specs.Prelude.{codes, not};
 ghost use Rattle.std.specs.Prelude.{IfErr, IsOk, OnOk, nat_le};
 ghost use Rattle.mot_folder.specs.Log.{BeginsAnew, ReportTells, TellsOne, entry, entry_with, kept_entry};
 ghost use Rattle.mot_folder.specs.Log.{log_line, with_reason};
-ghost use Rattle.mot_numbers.specs.declared.refusal.Refusal.TheVariants.{OutOfMemory};
+ghost use Rattle.mot_numbers.specs.declared.refusal.Refusal.TheVariants.{NoRoom, OutOfMemory};
 ghost use Rattle.mot_server.specs.declared.running.Attempt.TheVariants.{Accepted, Refused};
 ghost use Rattle.mot_suffixes.specs.Shown.{shown};
 ghost use Rattle.mot_update.specs.Told.{was_accepted};
@@ -134,6 +134,8 @@ impl Report {
             → self.new.any_without_memory ≡ true }
         ensures told { (why : Option (List ℕ)) × TellsOne self.old self.new
             (with_reason (entry what.now name.now (Refused refusal)) why) }
+        ensures plain { refusal ≢ NoRoom
+            → TellsOne self.old self.new (entry what.now name.now (Refused refusal)) }
     {
         if refusal != Refusal::NoRoom {
             self.refused(what, name, refusal);
@@ -160,6 +162,7 @@ impl Report {
         ensures memory { refusal ≡ OutOfMemory → self.new.any_without_memory ≡ true }
         ensures stays { self.old.any_without_memory ≡ true
             → self.new.any_without_memory ≡ true }
+        ensures left { self.new.any_left ≡ self.old.any_left }
         ensures told { TellsOne self.old self.new (entry what.now name.now (Refused refusal)) }
     {
         self.note_refusal(refusal);
@@ -172,6 +175,7 @@ impl Report {
         ensures memory { refusal ≡ OutOfMemory → self.new.any_without_memory ≡ true }
         ensures stays { self.old.any_without_memory ≡ true
             → self.new.any_without_memory ≡ true }
+        ensures left { self.new.any_left ≡ self.old.any_left }
         ensures told { TellsOne self.old self.new
             (with_reason (entry what.now name.now (Refused refusal)) (Some why.now)) }
     {
@@ -190,8 +194,13 @@ impl Report {
         ensures memory { refusal ≡ OutOfMemory → self.new.any_without_memory ≡ true }
         ensures stays { self.old.any_without_memory ≡ true
             → self.new.any_without_memory ≡ true }
+
+        // That there was no room is noted of this refusal alone.
+        ensures room { (refusal ≡ NoRoom → self.new.any_without_room ≡ true)
+            × (refusal ≢ NoRoom → self.new.any_without_room ≡ self.old.any_without_room) }
         ensures lines { self.new.lines ≡ self.old.lines }
-        ensures whole { self.new.any_left_out ≡ self.old.any_left_out }
+        ensures same { (self.new.any_left_out ≡ self.old.any_left_out)
+            × (self.new.any_left ≡ self.old.any_left) }
     {
         self.any_refused = true;
         if refusal == Refusal::OutOfMemory {

@@ -8,12 +8,10 @@ mod pairs;
 mod seen;
 mod shelf;
 mod system;
-mod unread;
 
 pub use inlet::Inlet;
 pub use memory::MemoryShelf;
 pub use pairs::Pairs;
 pub use seen::{LookNotes, Seen};
-pub use shelf::{Kind, Shelf};
+pub use shelf::Shelf;
 pub use system::SystemShelf;
-pub use unread::Unread;

@@ -1,9 +1,10 @@
 //! A folder in memory, for tests: its path is `memory`.
 ghost use Rattle.std.specs.Prelude.{◌≢◌, ℕ, IfErr, codes, true};
 ghost use Rattle.mot_shelf.specs.Seen.{given_of};
-ghost use Rattle.mot_shelf.specs.declared.unread.Unread.TheVariants.{TooLong, Young};
+ghost use Rattle.mot_files.specs.declared.reading.Unread.TheVariants.{TooLong, Young};
 
-use crate::{Kind, LookNotes, Seen, Shelf, Unread};
+use crate::{LookNotes, Seen, Shelf};
+use mot_files::{Fault, Kind, Unread};
 use std::alloc::Global;
 use std::io::{self, ErrorKind};
 
@@ -40,10 +41,14 @@ impl MemoryShelf {
     {
         for (other, bytes) in self.files {
             if *other == name {
-                return Ok(Vec::from_slice(alloc, bytes)?);
+                return match Vec::from_slice(alloc, bytes) {
+                    Ok(bytes) => Ok(bytes),
+                    Err(_) => Err(Unread::NoMemory),
+                };
             }
         }
-        Err(Unread::System(io::Error::from(ErrorKind::PermissionDenied)))
+        let refused = io::Error::from(ErrorKind::PermissionDenied);
+        Err(Unread::System(Fault::System(refused)))
     }
 }
 
@@ -97,7 +102,7 @@ impl Shelf for MemoryShelf {
         Ok(true)
     }
 
-    fn kind(&self, _alloc: Global, _name: &[u8]) -> Option<Kind> {
+    fn kind(&mut self, _alloc: Global, _name: &[u8]) -> Option<Kind> {
         Some(Kind::File)
     }
 

@@ -1,26 +1,14 @@
 //! What a program has to come to the files of one folder by.
 ghost use Rattle.std.specs.Prelude.{◌≡◌, ◌≢◌, ◌<◌, ◌≤◌, ℕ, Bool, true, List, [], ◌∷◌, ◌++◌, IfErr, IfOk};
 ghost use Rattle.std.specs.Prelude.{MatchResult, length, take};
-ghost use Rattle.mot_shelf.specs.declared.unread.Unread.TheVariants.{TooLong, Young};
+ghost use Rattle.mot_files.specs.declared.reading.Unread.TheVariants.{TooLong, Young};
 ghost use Rattle.mot_shelf.specs.Given.{Given, and_asked, and_failed, and_listed, and_missed};
 ghost use Rattle.mot_shelf.specs.Given.{and_read, nothing};
 
-use crate::{LookNotes, Unread};
+use crate::LookNotes;
+use mot_files::{Kind, Unread};
 use std::alloc::Global;
 use std::io;
-
-/// What a name in a folder names.
-#[derive(Clone, Copy)]
-pub enum Kind {
-    /// A regular file.
-    File,
-    /// A folder.
-    Folder,
-    /// A symbolic link.
-    Link,
-    /// Anything else: a pipe, a socket or a device.
-    Special,
-}
 
 /// One folder. Nothing else is listed or read through it, and what it gave since a look began is
 /// noted for clauses.
@@ -79,7 +67,10 @@ pub trait Shelf {
             (λ _. gave self.new ≡ and_failed (gave self.old) name.now) };
 
     /// What this name in it names, to be told; `None` if the system does not say.
-    fn kind(&self, alloc: Global, name: &[u8]) -> Option<Kind>;
+    fn kind(&mut self, alloc: Global, name: &[u8]) -> Option<Kind>
+        ensures same { path self.new ≡ path self.old }
+        ensures rule { at_once self.new ≡ at_once self.old }
+        ensures gave { gave self.new ≡ gave self.old };
 
     /// The bytes of the regular file of this name, which has so many at most. The error says why
     /// it was not read.

@@ -1,50 +1,60 @@
-//! A folder of the system. Each method asks the system for what it notes, of the folder's path, and
-//! notes the answer: no contract can say so, and a reader of this file has to see it.
-ghost use Rattle.std.specs.Prelude.{◌≡◌, ◌≢◌, ◌<◌, ◌≤◌, ℕ, IfErr, IfOk, length, true};
+//! A folder of a system of files.
+ghost use Rattle.std.specs.Prelude.{◌≡◌, ◌≢◌, ◌<◌, ◌≤◌, ◌++◌, ◌∷◌, [], ℕ, Err, IfErr, IfOk};
+ghost use Rattle.std.specs.Prelude.{IfSome, MatchResult, Ok, Some, length, take, true};
+ghost use Rattle.mot_files.specs.Call.{opened};
+ghost use Rattle.mot_files.specs.declared.system.Fault.{Fault};
+ghost use Rattle.mot_files.specs.declared.system.Handle.{Handle};
+ghost use Rattle.mot_files.specs.declared.system.How.TheVariants as How;
+ghost use Rattle.mot_shelf.specs.Given.{and_asked, and_failed, and_listed, and_missed, and_read};
+ghost use Rattle.mot_shelf.specs.Given.{nothing};
+ghost use Rattle.mot_files.specs.declared.reading.Unread.TheVariants.{TooLong, Young};
+ghost use Rattle.mot_shelf.specs.Calls.{FileIsRead, FileIsUnread, IsAsked, NamesAreRead};
+ghost use Rattle.mot_shelf.specs.Calls.{FolderIsClosed, FolderIsOpened, KindIsAsked};
 ghost use Rattle.mot_shelf.specs.Seen.{given_of};
-ghost use Rattle.mot_shelf.specs.declared.unread.Unread.TheVariants.{TooLong, Young};
 
-use crate::{Kind, LookNotes, Seen, Shelf, Unread};
-use std::alloc::{AllocError, Global};
-use std::fs::{File, Metadata, OpenOptions};
-use std::io::{self, ErrorKind, Read};
-use std::os::unix::fs::MetadataExt;
-use std::rt::{Clock, Files};
+use crate::{LookNotes, Seen, Shelf};
+use mot_files::{Fault, Handle, How, Kind, System, Unread, is_file, path_in, read_file};
+use std::alloc::Global;
+use std::io::{self, ErrorKind};
 use std::str::from_utf8;
-use std::time::{Duration, SystemTime};
 
-/// How many seconds ago the last change of a file has to be.
-const OLD_SECONDS: u64 = 2;
-
-/// The folder at a path.
+/// The folder at a path of a system of files.
 #[derive(Drop)]
-pub struct SystemShelf<'a, T: Files<File = File>> {
-    rt: &'a T,
+pub struct SystemShelf<'a, S: System + Drop> {
+    system: S,
     path: &'a str,
     /// Whether a file is read however young it is.
     at_once: bool,
     /// The open folder, while its names are listed.
-    folder: Option<T::Dir>,
+    listing: Option<Handle>,
     /// Why it was not opened, if it was last opened in vain.
     fault: Option<io::Error>,
     seen: Seen,
 }
 
-impl<'a, T: Files<File = File>> SystemShelf<'a, T> {
+impl<'a, S: System + Drop> SystemShelf<'a, S> {
     /// The folder at this path, which gave nothing yet. Files are read `at_once`, or once their last
     /// change is two seconds ago.
-    pub fn new(rt: &'a T, path: &'a str, at_once: bool) -> SystemShelf<'a, T>
+    pub fn new(system: S, path: &'a str, at_once: bool) -> SystemShelf<'a, S>
+        ensures system { result.system ≡ system }
         ensures path { result.path.now ≡ path.now }
         ensures rule { result.at_once ≡ at_once }
     {
         SystemShelf {
-            rt,
+            system,
             path,
             at_once,
-            folder: None,
+            listing: None,
             fault: None,
             seen: Seen::nothing(),
         }
+    }
+
+    /// The system of files.
+    pub fn into_system(self) -> S
+        ensures { result ≡ self.entry.system }
+    {
+        self.system
     }
 
     /// What it gave since the last look began.
@@ -55,7 +65,7 @@ impl<'a, T: Files<File = File>> SystemShelf<'a, T> {
     }
 }
 
-impl<'a, T: Files<File = File> + Clock> Shelf for SystemShelf<'a, T> {
+impl<'a, S: System + Drop> Shelf for SystemShelf<'a, S> {
     ghost path = { λ shelf. shelf.path.now };
 
     ghost gave = { λ shelf. given_of shelf.seen };
@@ -70,17 +80,36 @@ impl<'a, T: Files<File = File> + Clock> Shelf for SystemShelf<'a, T> {
         looks.note(&self.seen);
     }
 
-    fn begin(&mut self) {
-        self.folder = None;
+    fn begin(&mut self)
+        ensures same { self.new.path.now ≡ self.old.path.now }
+        ensures rule { self.new.at_once ≡ self.old.at_once }
+        ensures gave { given_of self.new.seen ≡ nothing }
+        ensures calls { FolderIsClosed self.old.listing (S.calls self.old.system)
+            (S.calls self.new.system) }
+    {
+        close_listing(&mut self.system, self.listing);
+        self.listing = None;
         self.fault = None;
         self.seen = Seen::nothing();
     }
 
-    fn open(&mut self, alloc: Global) -> io::Result<()> {
-        match open_folder(self.rt, alloc, self.path) {
-            Ok(folder) => {
+    fn open(&mut self, alloc: Global) -> io::Result<()>
+        ensures same { self.new.path.now ≡ self.old.path.now }
+        ensures rule { self.new.at_once ≡ self.old.at_once }
+        ensures gave { MatchResult result
+            (λ _. given_of self.new.seen ≡ and_listed (given_of self.old.seen) self.old.path.now)
+            (λ _. given_of self.new.seen ≡ and_failed (given_of self.old.seen) self.old.path.now) }
+        ensures calls { MatchResult result
+            (λ _. (handle : Handle) × (self.new.listing ≡ Some handle)
+            × FolderIsOpened self.old.path.now (Ok handle) (S.calls self.old.system)
+            (S.calls self.new.system))
+            (λ error. FolderIsOpened self.old.path.now (Err error) (S.calls self.old.system)
+            (S.calls self.new.system)) }
+    {
+        match open_folder(&mut self.system, alloc, self.path) {
+            Ok(handle) => {
                 self.seen.listed.note(self.path.as_bytes());
-                self.folder = Some(folder);
+                self.listing = Some(handle);
                 Ok(())
             }
             Err(error) => {
@@ -95,8 +124,18 @@ impl<'a, T: Files<File = File> + Clock> Shelf for SystemShelf<'a, T> {
         self.fault
     }
 
-    fn names(&mut self, room: &mut [u8]) -> io::Result<usize> {
-        match next_names(&mut self.folder, room) {
+    fn names(&mut self, room: &mut [u8]) -> io::Result<usize>
+        ensures same { self.new.path.now ≡ self.old.path.now }
+        ensures rule { self.new.at_once ≡ self.old.at_once }
+        ensures fits { IfOk result (λ count. count ≤ length room.new) }
+        ensures gave { MatchResult result
+            (λ count. given_of self.new.seen
+            ≡ and_listed (given_of self.old.seen) (take count room.new))
+            (λ _. given_of self.new.seen ≡ and_failed (given_of self.old.seen) self.old.path.now) }
+        ensures calls { IfOk result (λ count. NamesAreRead self.old.listing self.new.listing
+            room.new count (S.calls self.old.system) (S.calls self.new.system)) }
+    {
+        match next_names(&mut self.system, &mut self.listing, room) {
             Ok(count) => {
                 self.seen.listed.note(&room[..count]);
                 Ok(count)
@@ -108,8 +147,17 @@ impl<'a, T: Files<File = File> + Clock> Shelf for SystemShelf<'a, T> {
         }
     }
 
-    fn is_file(&mut self, alloc: Global, name: &[u8]) -> io::Result<bool> {
-        let answer = is_regular(self.rt, alloc, self.path, name);
+    fn is_file(&mut self, alloc: Global, name: &[u8]) -> io::Result<bool>
+        ensures same { self.new.path.now ≡ self.old.path.now }
+        ensures rule { self.new.at_once ≡ self.old.at_once }
+        ensures gave { MatchResult result
+            (λ is_file. given_of self.new.seen
+            ≡ and_asked (given_of self.old.seen) name.now is_file)
+            (λ _. given_of self.new.seen ≡ and_failed (given_of self.old.seen) name.now) }
+        ensures calls { IfOk result (λ is_file. IsAsked self.old.path.now name.now is_file
+            (S.calls self.old.system) (S.calls self.new.system)) }
+    {
+        let answer = is_regular(&mut self.system, alloc, self.path, name);
         match answer {
             Ok(true) => self.seen.files.note(name),
             Ok(false) => self.seen.others.note(name),
@@ -118,12 +166,39 @@ impl<'a, T: Files<File = File> + Clock> Shelf for SystemShelf<'a, T> {
         answer
     }
 
-    fn kind(&self, alloc: Global, name: &[u8]) -> Option<Kind> {
-        kind_of(self.rt, alloc, self.path, name)
+    fn kind(&mut self, alloc: Global, name: &[u8]) -> Option<Kind>
+        ensures same { self.new.path.now ≡ self.old.path.now }
+        ensures rule { self.new.at_once ≡ self.old.at_once }
+        ensures gave { given_of self.new.seen ≡ given_of self.old.seen }
+        ensures calls { IfSome result (λ kind. KindIsAsked self.old.path.now name.now kind
+            (S.calls self.old.system) (S.calls self.new.system)) }
+    {
+        kind_of(&mut self.system, alloc, self.path, name)
     }
 
-    fn read(&mut self, alloc: Global, name: &[u8], most: u64) -> Result<Vec<u8>, Unread> {
-        match read_file(self.rt, alloc, self.path, name, most, self.at_once) {
+    fn read(&mut self, alloc: Global, name: &[u8], most: u64) -> Result<Vec<u8>, Unread>
+        ensures same { self.new.path.now ≡ self.old.path.now }
+        ensures rule { self.new.at_once ≡ self.old.at_once }
+        ensures gave { MatchResult result
+            (λ bytes. given_of self.new.seen
+            ≡ and_read (given_of self.old.seen) name.now bytes.items)
+            (λ _. given_of self.new.seen ≡ and_missed (given_of self.old.seen) name.now) }
+        ensures young { self.old.at_once ≡ true → IfErr result (λ unread. unread ≢ Young) }
+        ensures long { IfErr result (λ unread.
+            (count : ℕ) → unread ≡ TooLong count → most < count) }
+        ensures calls { MatchResult result
+            (λ bytes. FileIsRead self.old.path.now name.now most self.old.at_once bytes.items
+            (S.calls self.old.system) (S.calls self.new.system))
+            (λ unread. FileIsUnread self.old.path.now name.now most self.old.at_once unread
+            (S.calls self.old.system) (S.calls self.new.system)) }
+    {
+        match read_named(
+            &mut self.system,
+            alloc,
+            self.path,
+            name,
+            (most, self.at_once),
+        ) {
             Ok(bytes) => {
                 self.seen.read.note(name, bytes.as_slice());
                 Ok(bytes)
@@ -136,132 +211,126 @@ impl<'a, T: Files<File = File> + Clock> Shelf for SystemShelf<'a, T> {
     }
 }
 
+/// Closes the folder, if one is open.
+fn close_listing<S: System>(system: &mut S, listing: Option<Handle>)
+    ensures { FolderIsClosed listing (S.calls system.old) (S.calls system.new) }
+{
+    if let Some(handle) = listing {
+        system.close(handle);
+    }
+}
+
 /// Opens the folder of this path, or the one that it is a link to, to be listed.
-fn open_folder<T: Files<File = File>>(rt: &T, alloc: Global, path: &str) -> io::Result<T::Dir> {
+fn open_folder<S: System>(system: &mut S, alloc: Global, path: &str) -> io::Result<Handle>
+    ensures { FolderIsOpened path.now result (S.calls system.old) (S.calls system.new) }
+{
     // An empty path is no folder; with a slash behind it, it would be the topmost one.
     if path.is_empty() {
-        return rt.open_dir(path);
+        return open_exactly(system, path);
     }
     // A link to a folder is opened by no other path.
-    let inside = joined(alloc, path, ".")?;
-    rt.open_dir(inside.as_str())
+    match path_in(alloc, path, ".") {
+        Ok(inside) => open_exactly(system, inside.as_str()),
+        Err(error) => Err(io::Error::from(error)),
+    }
+}
+
+/// Opens the folder of exactly this path.
+fn open_exactly<S: System>(system: &mut S, path: &str) -> io::Result<Handle>
+    ensures { MatchResult result
+        (λ handle. S.calls system.new
+        ≡ S.calls system.old ++ opened path.now How.Folder (Ok handle) ∷ [])
+        (λ error. (fault : Fault) × (S.calls system.new
+        ≡ S.calls system.old ++ opened path.now How.Folder (Err fault) ∷ [])) }
+{
+    match system.open(path, How::Folder) {
+        Ok(handle) => Ok(handle),
+        Err(fault) => Err(fault.error()),
+    }
 }
 
 /// The next names of the open folder; behind the last it is closed.
-fn next_names<D: Read + Drop>(folder: &mut Option<D>, room: &mut [u8]) -> io::Result<usize>
+fn next_names<S: System>(
+    system: &mut S,
+    listing: &mut Option<Handle>,
+    room: &mut [u8],
+) -> io::Result<usize>
     ensures fits { IfOk result (λ count. count ≤ length room.new) }
+    ensures calls { IfOk result (λ count. NamesAreRead listing.old listing.new room.new count
+        (S.calls system.old) (S.calls system.new)) }
 {
-    let Some(open) = folder else {
+    let Some(handle) = *listing else {
         return Err(io::Error::from(ErrorKind::NotFound));
     };
-    let count = open.read(room)?;
-    if count == 0 {
-        *folder = None;
+    match system.read(handle, room) {
+        Ok(0) => {
+            system.close(handle);
+            *listing = None;
+            Ok(0)
+        }
+        Ok(count) => Ok(count),
+        Err(fault) => Err(fault.error()),
     }
-    Ok(count)
 }
 
 /// Whether there is a regular file of this name in the folder. A link is none.
-fn is_regular<T: Files<File = File>>(
-    rt: &T,
-    alloc: Global,
-    path: &str,
-    name: &[u8],
-) -> io::Result<bool> {
+fn is_regular<S: System>(system: &mut S, alloc: Global, path: &str, name: &[u8]) -> io::Result<bool>
+    ensures { IfOk result (λ is_file. IsAsked path.now name.now is_file (S.calls system.old)
+        (S.calls system.new)) }
+{
     let Ok(name) = from_utf8(name) else {
         return Ok(false);
     };
-    match rt.symlink_metadata(joined(alloc, path, name)?.as_str()) {
-        Ok(metadata) => Ok(metadata.is_file()),
-        Err(error) if error.kind() == ErrorKind::NotFound => Ok(false),
-        Err(error) => Err(error),
+    let path = path_in(alloc, path, name)?;
+    match is_file(system, path.as_str()) {
+        Ok(is_file) => Ok(is_file),
+        Err(fault) => Err(fault.error()),
     }
 }
 
 /// What this name in the folder names, if the system says it.
-fn kind_of<T: Files<File = File>>(rt: &T, alloc: Global, path: &str, name: &[u8]) -> Option<Kind> {
+fn kind_of<S: System>(system: &mut S, alloc: Global, path: &str, name: &[u8]) -> Option<Kind>
+    ensures { IfSome result (λ kind. KindIsAsked path.now name.now kind (S.calls system.old)
+        (S.calls system.new)) }
+{
     let Ok(name) = from_utf8(name) else {
         return None;
     };
-    let Ok(path) = joined(alloc, path, name) else {
+    let Ok(path) = path_in(alloc, path, name) else {
         return None;
     };
-    match rt.symlink_metadata(path.as_str()) {
-        Ok(found) if found.is_file() => Some(Kind::File),
-        Ok(found) if found.is_dir() => Some(Kind::Folder),
-        Ok(found) if found.is_symlink() => Some(Kind::Link),
-        Ok(_) => Some(Kind::Special),
+    match system.look(path.as_str()) {
+        Ok(named) => Some(named.kind),
         Err(_) => None,
     }
 }
 
 /// The bytes of the regular file of this name in the folder, if it has so many at most. One that is
-/// young is read only `at_once`.
-fn read_file<T: Files<File = File> + Clock>(
-    rt: &T,
+/// young is read only if it is asked for `at_once`.
+fn read_named<S: System>(
+    system: &mut S,
     alloc: Global,
     path: &str,
     name: &[u8],
-    most: u64,
-    at_once: bool,
+    how: (u64, bool),
 ) -> Result<Vec<u8>, Unread>
-    ensures young { at_once ≡ true → IfErr result (λ unread. unread ≢ Young) }
-    ensures long { IfErr result (λ unread. (count : ℕ) → unread ≡ TooLong count → most < count) }
+    ensures young { how.1 ≡ true → IfErr result (λ unread. unread ≢ Young) }
+    ensures long { IfErr result (λ unread. (count : ℕ) → unread ≡ TooLong count → how.0 < count) }
+    ensures calls { MatchResult result
+        (λ bytes. FileIsRead path.now name.now how.0 how.1 bytes.items (S.calls system.old)
+        (S.calls system.new))
+        (λ unread. FileIsUnread path.now name.now how.0 how.1 unread (S.calls system.old)
+        (S.calls system.new)) }
 {
     let Ok(name) = from_utf8(name) else {
         return Err(Unread::Changed);
     };
-    let path = joined(alloc, path, name)?;
-    let named = rt.symlink_metadata(path.as_str())?;
-    // What is none is not opened: a pipe would wait for its writer.
-    if !named.is_file() {
-        return Err(Unread::Changed);
+    let Ok(path) = path_in(alloc, path, name) else {
+        return Err(Unread::NoMemory);
+    };
+    let (most, at_once) = how;
+    match read_file(system, alloc, path.as_str(), most, at_once) {
+        Ok(bytes) => Ok(bytes),
+        Err(unread) => Err(unread),
     }
-    let file = OpenOptions::new().read(true).open(rt, path.as_str())?;
-    let before = file.metadata()?;
-    if !before.is_file() || before.dev() != named.dev() || before.ino() != named.ino() {
-        return Err(Unread::Changed);
-    }
-    if !at_once && is_young(rt, &before) {
-        return Err(Unread::Young);
-    }
-    if before.len() > most {
-        return Err(Unread::TooLong(before.len()));
-    }
-    let mut bytes = Vec::new(alloc);
-    let count = (&file).take(most).read_to_end(&mut bytes)?;
-    let after = file.metadata()?;
-    if !is_unchanged(&before, &after) || count as u64 != after.len() {
-        return Err(Unread::Changed);
-    }
-    Ok(bytes)
-}
-
-/// Whether the last change of a file is less than two seconds ago. One of the future is not, nor is
-/// one if the time of it, or of now, is not known.
-fn is_young<T: Clock>(rt: &T, file: &Metadata) -> bool {
-    match (file.modified(), SystemTime::now(rt)) {
-        (Ok(changed), Ok(now)) => match now.duration_since(changed) {
-            Ok(age) => age < Duration::from_secs(OLD_SECONDS),
-            Err(_) => false,
-        },
-        _ => false,
-    }
-}
-
-/// Whether a file was not written between the two.
-fn is_unchanged(before: &Metadata, after: &Metadata) -> bool {
-    before.len() == after.len()
-        && before.mtime() == after.mtime()
-        && before.mtime_nsec() == after.mtime_nsec()
-        && before.ctime() == after.ctime()
-        && before.ctime_nsec() == after.ctime_nsec()
-}
-
-/// The path of a file in the folder.
-fn joined(alloc: Global, path: &str, name: &str) -> Result<String, AllocError> {
-    let mut whole = String::from_str(alloc, path)?;
-    whole.push('/')?;
-    whole.push_str(name)?;
-    Ok(whole)
 }

@@ -3,6 +3,7 @@ use crate::text::{Figures, write_status};
 use crate::turn::{TurnSize, turn_size};
 use disk_model::Disk;
 use mot_endpoints::{LineLog, PacketsFault, SharedLog, Shown, StatusFile};
+use mot_files::System;
 use mot_numbers::Refusal;
 use mot_server::Server;
 use mot_update::Moment;
@@ -21,21 +22,21 @@ const ROOM: usize = 16_384;
 
 /// What is told of a disk while it is played.
 #[derive(Drop)]
-pub struct Telling<'a> {
+pub struct Telling<'a, S: System + Drop> {
     /// The path of the disk.
     pub disk: &'a str,
     /// The file that the status is written to, if one is given.
-    pub status: Option<StatusFile<'a>>,
+    pub status: Option<StatusFile<'a, S>>,
     /// Whether lines of the log begin with their level.
     pub levels: bool,
 }
 
 /// What tells of a disk while it is played.
 #[derive(Drop)]
-pub struct Reporter<'l, 'a, W: Write + Drop> {
+pub struct Reporter<'l, 'a, S: System + Drop, W: Write + Drop> {
     log: &'l RefCell<LineLog<W>>,
     disk: &'a str,
-    status: Option<StatusFile<'a>>,
+    status: Option<StatusFile<'a, S>>,
     /// The text of the status.
     text: Vec<u8>,
     /// How many updates there were, one in front of each packet.
@@ -52,13 +53,13 @@ pub struct Reporter<'l, 'a, W: Write + Drop> {
     is_unwritten: bool,
 }
 
-impl<'l, 'a, W: Write + Drop> Reporter<'l, 'a, W> {
+impl<'l, 'a, S: System + Drop, W: Write + Drop> Reporter<'l, 'a, S, W> {
     /// Nothing was told.
     pub fn new(
         alloc: Global,
         log: &'l RefCell<LineLog<W>>,
-        telling: Telling<'a>,
-    ) -> Reporter<'l, 'a, W> {
+        telling: Telling<'a, S>,
+    ) -> Reporter<'l, 'a, S, W> {
         let Telling { disk, status, .. } = telling;
         let text = match Vec::with_capacity(alloc, ROOM) {
             Ok(text) => text,
@@ -149,11 +150,11 @@ impl<'l, 'a, W: Write + Drop> Reporter<'l, 'a, W> {
         let mut log = SharedLog::new(self.log);
         let disk = Shown::new(self.disk.as_bytes());
         let objects = server.carousel().objects.len();
-        let packets = self.turn_size().packets;
-        let _ = writeln!(
-            log,
-            "play: motcar {VERSION}, {disk}, {objects} objects, {packets} packets a turn"
-        );
+        let _ = write!(log, "play: motcar {VERSION}, {disk}, {objects} objects, ");
+        let _ = match &self.size {
+            Some((_, size)) => writeln!(log, "{} packets a turn", size.packets),
+            None => writeln!(log, "a turn not measured: {}", Refusal::OutOfMemory),
+        };
         let _ = log.flush();
     }
 
@@ -208,7 +209,7 @@ impl<'l, 'a, W: Write + Drop> Reporter<'l, 'a, W> {
 
     /// Writes the status, with the files that these lines refuse. A fault of it is told, once.
     fn write(&mut self, figures: &Figures<'_>, lines: &[u8]) {
-        let Some(status) = &self.status else {
+        let Some(status) = &mut self.status else {
             return;
         };
         let written = match write_status(&mut self.text, figures, lines) {

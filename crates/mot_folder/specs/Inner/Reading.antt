@@ -1,10 +1,13 @@
 -- A folder while its files are read, and what a source of them was told.
 use Rattle.std.specs.Prelude.{◌≡◌, ◌⊎◌, ℕ, List, [], ◌∷◌, ◌++◌, codes, length, map, take}
-use Rattle.std.specs.Prelude.{None, Some}
+use Rattle.std.specs.Prelude.{None, Some, Bool, true, false}
 use Rattle.mot_folder.specs.Listed.{IsListing}
 use Rattle.mot_folder.specs.Log.{TellsOf, TellsOne, entry_with}
 use Rattle.mot_folder.specs.Taken.{IsUntakable, wanted_file}
+use Rattle.mot_folder.specs.declared.folder.Untaken.{Untaken}
+use Rattle.mot_folder.specs.declared.folder.Untaken.TheVariants.{Refused as NotTaken, Unread as NotRead}
 use Rattle.mot_folder.specs.declared.report.Report.{Report}
+use Rattle.mot_files.specs.declared.reading.Unread.TheVariants.{Changed, NoMemory as OutOfRoom, System, TooLong, Young}
 use Rattle.mot_server.specs.declared.running.Attempt.TheVariants.{Accepted}
 use Rattle.mot_shelf.specs.Given.{Given, and_missed, and_read}
 use Rattle.mot_suffixes.specs.Types.{SuffixType, type_of_name}
@@ -52,3 +55,12 @@ pub record TellsLook (types : List SuffixType) (path : List ℕ) (given : Given)
   pub typed : gave ≡ map as_wanted types ++ wanted
   pub listing : IsListing types path given names
   pub tells : TellsOf types given report (take place names) answers wanted
+
+-- whether the next look may take what was not taken: a file that is too young, or was changed
+abbrev pub is_for_next : Untaken → Bool
+is_for_next (NotRead Young) = true
+is_for_next (NotRead Changed) = true
+is_for_next (NotRead (TooLong count)) = false
+is_for_next (NotRead (System fault)) = false
+is_for_next (NotRead OutOfRoom) = false
+is_for_next (NotTaken refusal) = false

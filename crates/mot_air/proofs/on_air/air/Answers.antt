@@ -26,7 +26,7 @@ returns-in-Some g c =
     h (manner d l t) c.play_and_answer.result.inputs c.play_and_answer.result.any_refused)
     (manner d l t) ending before after start now)
     c.directory_of-directory.ensures c.look_of-look.ensures c.turns_of-turns.ensures
-    (sym (ap (λ (o : Option LineFolder). option_map (λ (l : LineFolder). (l.hand, l.every - 1)) o) c.in-Some.is))
+    (sym (ap (λ (o : Option (LineFolder _)). option_map (λ l. (l.hand, l.every - 1)) o) c.in-Some.is))
     c.play_and_answer.ensures
 
 pub returns-in-None : goal.returns-in-None
@@ -42,5 +42,5 @@ returns-in-None g c =
     h (manner d l t) c.play_disk.result.inputs c.play_disk.result.any_refused) (manner d l t)
     ending before after start now)
     c.directory_of-directory.ensures c.look_of-look.ensures c.turns_of-turns.ensures
-    (sym (ap (λ (o : Option LineFolder). option_map (λ (l : LineFolder). (l.hand, l.every - 1)) o) c.in-None.is))
+    (sym (ap (λ (o : Option (LineFolder _)). option_map (λ l. (l.hand, l.every - 1)) o) c.in-None.is))
     c.play_disk.ensures

@@ -87,7 +87,7 @@ played g c w hand plays =
       (
         refused,
         (λ none. whole none ∙ c.is_all_done.ensures
-            ∙ ap (λ (t : Target). is_all_done t refused) c.target_of-target.ensures),
+            ∙ ap (λ (t : Target). is_all_done t refused) c.target-target.ensures),
         handed g c P (since_opened c.in-Ok-disk.disk.disk ended.disk.disk (P taken inputs)
             c.in-Ok-disk.ensures.first ended.disk.begins
             (into_keeps target (tale inputs refused) how (fault_of ended.result) path taken first

@@ -16,8 +16,8 @@ returns-in-Some g c =
     let out = c.looking.result in
     let same = c.lines_between-lines.ensures.update in
     let looks = c.looking.ensures.looks ∙ ap (λ (l : _). l.looks) (c.into_update.ensures
-    ∙ ap (λ (u : _). u.update) c.parts_of-lines.ensures.update) in
-    let heard = c.looking.ensures.lines ∙ c.parts_of-lines.ensures.lines in
+    ∙ ap (λ (u : _). u.update) (c.parts_of-lines.ensures.update ∙ c.finish.ensures.update)) in
+    let heard = c.looking.ensures.lines ∙ c.parts_of-lines.ensures.lines ∙ c.finish.ensures.lines in
     rw (c.in-Some.is)
     (handed_out g.D.Disk.state _ how before after start ended out.ended c.looking.ensures.ended
     (plays_lines _ _ _ _ how (fault_of ended.result) c.lines_between-lines.result
@@ -29,7 +29,7 @@ returns-in-Some g c =
     ∙ c.looks_at-looks.ensures.none)
     (ap (λ (l : _). l.all) (sym looks))
     (sym (c.looking.ensures.refused ∙ ap (λ (l : _). l.any_refused) (c.into_update.ensures
-    ∙ ap (λ (u : _). u.update) c.parts_of-lines.ensures.update)))
+    ∙ ap (λ (u : _). u.update) (c.parts_of-lines.ensures.update ∙ c.finish.ensures.update))))
     _ _ _ _ (c.args.lines.every - 1) c.args.lines.hand
     c.lines_between-lines.ensures.every c.lines_between-lines.ensures.due
     c.lines_between-lines.ensures.hand c.lines_between-lines.ensures.unread
@@ -43,7 +43,8 @@ returns g c =
     let after = g.O.Outlet.writes c.play_with-ended-in-None.new.outlet in
     let start = g.D.Disk.state c.args.disk in
     let out = c.unwatched.result in
-    let heard = c.unwatched.ensures.lines ∙ c.parts_of-lines-in-None.ensures.lines in
+    let heard = c.unwatched.ensures.lines ∙ c.parts_of-lines-in-None.ensures.lines
+    ∙ c.finish-in-None.ensures.lines in
     rw (c.in-None.is)
     (handed_out g.D.Disk.state _ how before after start ended out.ended c.unwatched.ensures.ended
     (subst (λ b. Plays (tale_with None (Some (c.args.lines.hand, c.args.lines.every - 1)) how

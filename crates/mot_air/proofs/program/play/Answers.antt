@@ -48,11 +48,11 @@ returns-in-Err-line_folder-clause-ended g c =
     ))
 
 -- the lines that are read are those of the words
-reads_asked : (eight : ℕ) (every : Option ℕ) (path : Option (Bor (List ℕ)))
-    (lines : Option LineFolder) → option_map (λ (l : LineFolder). l.hand) lines
+reads_asked : {S : Type 0} (eight : ℕ) (every : Option ℕ) (path : Option (Bor (List ℕ)))
+    (lines : Option (LineFolder S)) → option_map (λ (l : LineFolder S). l.hand) lines
     ≡ option_map (λ _. []) path
-    → IfSome lines (λ (l : LineFolder). l.every ≡ unwrap_or every eight)
-    → option_map {U = List ℕ × ℕ} (λ (l : LineFolder). (l.hand, l.every - 1)) lines
+    → IfSome lines (λ (l : LineFolder S). l.every ≡ unwrap_or every eight)
+    → option_map {U = List ℕ × ℕ} (λ (l : LineFolder S). (l.hand, l.every - 1)) lines
     ≡ option_map {U = List ℕ × ℕ} (λ _. ([], unwrap_or every eight - 1)) path
 reads_asked eight every None None same is = refl
 reads_asked eight every (Some path) None same is = absurd (let e : None ≡ Some [] = same in cc)

@@ -28,14 +28,14 @@ pub returns-in-Ok-false-clause-goes : goal.returns-in-Ok-false-clause-goes
 returns-in-Ok-false-clause-goes g c =
     let name = c.args.name.now in
     let old = g.S.Shelf.gave c.args.shelf.now in
-    let new = g.S.Shelf.gave c.is_file.new.self in
+    let new = g.S.Shelf.gave c.tell_skipped-in-Ok-false.new.shelf in
     let names = c.args.names.now.names.items in
     subst (λ (v : _). GoesOn c.args.types.now (name ∷ []) old new c.args.names.now.counted
     c.count.new.self.counted names v.items)
     (sym c.in_ok-count.ensures.same)
     (of_other c.args.types.now name old new c.args.names.now.counted c.count.new.self.counted names
     (sym c.if-not-is_object.ensures.typed) c.in_ok-count.ensures.counted
-    (c.in-Ok-false.ensures.gave ∙ ap (λ t. and_asked old name t) c.in-Ok-false.field-0-test))
+    (c.tell_skipped-in-Ok-false.ensures.gave ∙ c.in-Ok-false.ensures.gave ∙ ap (λ t. and_asked old name t) c.in-Ok-false.field-0-test))
 
 pub returns-in_ok-add_file-in-Ok-true-clause-shown :
     goal.returns-in_ok-add_file-in-Ok-true-clause-shown

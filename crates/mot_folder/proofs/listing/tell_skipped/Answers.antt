@@ -9,9 +9,9 @@ pub returns-in-Some-Link-clause-skips : goal.returns-in-Some-Link-clause-skips
 returns-in-Some-Link-clause-skips g c =
     told_so _ (inr (inl refl)) c.skipped-in-Some-Link.ensures.told
 
-pub returns-in-Some-Special-clause-skips : goal.returns-in-Some-Special-clause-skips
-returns-in-Some-Special-clause-skips g c =
-    told_so _ (inr (inr (inl refl))) c.skipped-in-Some-Special.ensures.told
+pub returns-in-Some-Pipe-clause-skips : goal.returns-in-Some-Pipe-clause-skips
+returns-in-Some-Pipe-clause-skips g c =
+    told_so _ (inr (inr (inl refl))) c.skipped-in-Some-Pipe.ensures.told
 
 pub returns-in-Some-File-clause-skips : goal.returns-in-Some-File-clause-skips
 returns-in-Some-File-clause-skips g c =

@@ -1,6 +1,6 @@
 use Rattle.std.proofs.Common.{◌≡◌, ◌∙◌, codes, length, subst}
 use Rattle.std.specs.Prelude.{◌⊎◌}
-use Rattle.mot_folder.specs.Inner.Notes.{most_text, unknown_objects}
+use Rattle.mot_folder.specs.Inner.Notes.{most_text}
 use Rattle.mot_folder.specs.Log.{TellsOne, entry_with}
 use Rattle.mot_folder.proofs.looking.note_most.Goals as goal
 

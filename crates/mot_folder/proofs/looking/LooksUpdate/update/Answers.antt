@@ -1,4 +1,4 @@
-use Rattle.std.proofs.Common.{◌≡◌, ◌∙◌, ◌||◌, ℕ, Bool, true, false, not, List, ◌∷◌, ◌++◌, Option}
+use Rattle.std.proofs.Common.{◌≡◌, ◌∙◌, ◌||◌, ℕ, Bool, true, false, not, ◌∷◌, ◌++◌, Option}
 use Rattle.std.proofs.Common.{None, []}
 use Rattle.std.proofs.Common.{ap, refl, sym}
 use Rattle.disk_model.specs.Disk.{State}

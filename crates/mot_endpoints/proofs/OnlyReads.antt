@@ -1,0 +1,110 @@
+-- Calls that only read, one after the other.
+use Rattle.std.proofs.Common.{ℕ, List, [], ◌∷◌, ◌++◌, ◌≡◌, refl, sym, subst, Option, None, Some, Result, Ok, Err, IsTrue, IsErr, MatchOption, MatchResult, string_bytes}
+use Rattle.mot_files.specs.Call.{Call}
+use Rattle.mot_files.specs.declared.system.Handle.{Handle}
+use Rattle.mot_files.specs.declared.system.Seen.{Seen}
+use Rattle.mot_files.specs.declared.system.Fault.{Fault}
+use Rattle.mot_endpoints.specs.LineFiles.{IsFound, IsLookedInto, Stamps, TakesAway}
+use Rattle.mot_endpoints.specs.LineFiles.IsFound.{kept, left, none as no_file, unopened, unseen}
+use Rattle.mot_endpoints.specs.LineFiles.IsLookedInto.{cut, lines, no_lines, other, unheld, unread}
+use Rattle.mot_endpoints.specs.LineFiles.Stamps.{held as stamp_held, unheld as stamp_unheld}
+use Rattle.mot_endpoints.specs.Spooling.{Finds, OnlyReads, is_reading}
+use Rattle.mot_endpoints.specs.Spooling.Finds.{nothing, one}
+use Rattle.mot_endpoints.specs.Spooling.OnlyReads.{more, none}
+use Rattle.mot_endpoints.specs.declared.line_file.Found.{Found}
+use Rattle.mot_endpoints.specs.declared.line_file.Found.TheVariants.{Lines}
+use Rattle.mot_endpoints.specs.declared.line_file.LineFile.{LineFile}
+use Rattle.mot_endpoints.specs.declared.said.Stamp.{Stamp}
+
+-- one call
+pub one_call : {old new : List Call} (call : Call) → IsTrue (is_reading call.what)
+    → new ≡ old ++ call ∷ [] → OnlyReads old new
+one_call {old} call reads here = more old call (none refl) reads here
+
+-- behind calls that only read
+pub and_then : {old mid new : List Call} → OnlyReads old mid → OnlyReads mid new → OnlyReads old new
+and_then {old} before (none same) = subst (λ l. OnlyReads old l) (sym same) before
+and_then before (more mid call between reads here) = more mid call (and_then before between) reads here
+
+-- what a file is stamped with
+pub stamped : {handle : Handle} {stamp : Option Stamp} {old new : List Call}
+    → Stamps handle stamp old new → OnlyReads old new
+stamped (stamp_unheld fault is here) = one_call _ refl here
+stamped (stamp_held held of is right here) = one_call _ refl here
+
+-- looking into a file
+pub looking_into : {handle : Handle} {named : Seen} {f : Found} {old new : List Call}
+    → IsLookedInto handle named f old new → OnlyReads old new
+looking_into (unheld fault is here) = one_call _ refl here
+looking_into (other held is not here) = one_call _ refl here
+looking_into (unread held room fault is same here) =
+    more _ _ (one_call _ refl refl) refl here
+looking_into (cut held room count is same here few) = more _ _ (one_call _ refl refl) refl here
+looking_into (lines held room count is same here whole begins) =
+    more _ _ (one_call _ refl refl) refl here
+looking_into (no_lines held room count is same here whole begins) =
+    more _ _ (one_call _ refl refl) refl here
+
+-- finding what stands at a path
+pub finding : {path : List ℕ} {f : Found} {old new : List Call} → IsFound path f old new
+    → OnlyReads old new
+finding (unseen fault is here) = one_call _ refl here
+finding (no_file named is kind here) = one_call _ refl here
+finding (unopened named fault is kind here) = more _ _ (one_call _ refl refl) refl here
+finding (kept named handle of is kind into) =
+    and_then (more _ _ (one_call _ refl refl) refl refl) (looking_into into)
+finding (left named handle inner not kind into here) =
+    more _ _ (and_then (more _ _ (one_call _ refl refl) refl refl) (looking_into into)) refl here
+
+-- a file that was found behind calls that only read
+pub finds_behind : {found : Option LineFile} {old mid new : List Call} → OnlyReads old mid
+    → Finds found mid new → Finds found old new
+finds_behind before (nothing is reads) = nothing is (and_then before reads)
+finds_behind before (one file first then is reads found rest) =
+    one file first then is (and_then before reads) found rest
+
+-- none was found
+pub found_none : {found : Option LineFile} {old new : List Call} → found ≡ None
+    → Finds found old new → OnlyReads old new
+found_none same (nothing is reads) = reads
+found_none same (one file first then is reads found rest) =
+    and_then (and_then reads (finding found)) rest
+
+-- a file of lines stands there, which is kept open or not
+pub keeps : (file : LineFile) {old mid new : List Call} (kept : Option LineFile)
+    → MatchOption kept (OnlyReads mid new) (λ it. (it ≡ file) × OnlyReads mid new)
+    → IsFound (string_bytes file.path) (Lines file.handle) old mid → Finds kept old new
+keeps file None reads is = nothing refl (and_then (finding is) reads)
+keeps file {old = old} {mid = mid} (Some it) (same, reads) is =
+    one it old mid refl (none refl)
+    (subst (λ (f : LineFile). IsFound (string_bytes f.path) (Lines f.handle) old mid) (sym same) is) reads
+
+-- nothing was found, since there was no memory
+pub refused : {E : Type 0} {old new : List Call} (result : Result (Option LineFile) E) → IsErr result
+    → OnlyReads old new
+    → MatchResult result (λ found. Finds found old new) (λ _. OnlyReads old new)
+refused (Ok found) is reads = absurd (let h = is in cc)
+refused (Err error) is reads = reads
+
+-- what was found behind calls that only read
+pub later : {E : Type 0} {old mid : List Call} (new : List Call) (result : Result (Option LineFile) E)
+    → OnlyReads old mid → MatchResult result (λ found. Finds found mid new) (λ _. OnlyReads mid new)
+    → MatchResult result (λ found. Finds found old new) (λ _. OnlyReads old new)
+later new (Ok found) before is = finds_behind before is
+later new (Err error) before is = and_then before is
+
+-- a file that is taken away, by another term for it
+pub taken_as : {handle same_handle : Handle} {path name : List ℕ} {taken : Result (Unit {0}) Fault}
+    {old new : List Call} → handle ≡ same_handle → path ≡ name
+    → TakesAway handle path taken old new → TakesAway same_handle name taken old new
+taken_as {same_handle = h'} {path = path} {taken = taken} {old = old} {new = new} same names takes =
+    subst (λ (n : List ℕ). TakesAway h' n taken old new) names
+    (subst (λ (h : Handle). TakesAway h path taken old new) same takes)
+
+-- a file of lines that was found, by other terms for it
+pub found_as : {handle same_handle : Handle} {path name : List ℕ} {old new : List Call} → path ≡ name
+    → handle ≡ same_handle → IsFound path (Lines handle) old new
+    → IsFound name (Lines same_handle) old new
+found_as {handle = handle} {name = name} {old = old} {new = new} names same is =
+    subst (λ (h : Handle). IsFound name (Lines h) old new) same
+    (subst (λ (n : List ℕ). IsFound n (Lines handle) old new) names is)

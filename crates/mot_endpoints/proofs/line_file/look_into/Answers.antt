@@ -1,0 +1,34 @@
+use Rattle.std.proofs.Common.{refl}
+use Rattle.mot_endpoints.specs.LineFiles.IsLookedInto.{cut, lines, no_lines, other, unheld, unread}
+use Rattle.mot_files.proofs.Laws.{step}
+use Rattle.mot_endpoints.proofs.line_file.look_into.Goals as goal
+
+pub returns-in-Err : goal.returns-in-Err
+returns-in-Err g c = unheld c.in-Err.field-0 refl c.in-Err.ensures
+
+pub returns-then-not-is_same : goal.returns-then-not-is_same
+returns-then-not-is_same g c =
+    other c.in-Ok.held refl (λ same. let h = c.if-not-is_same.ensures.1 same in cc) c.in-Ok.ensures
+
+pub returns-in-Err-peek : goal.returns-in-Err-peek
+returns-in-Err-peek g c =
+    unread c.in-Ok.held c.peek.new.room c.in-Err-peek.field-0 refl (c.if-not-is_same.ensures.0 refl)
+    (step _ c.in-Err-peek.ensures.noted c.in-Ok.ensures)
+
+pub returns-then-not-is_whole_front : goal.returns-then-not-is_whole_front
+returns-then-not-is_whole_front g c =
+    cut c.in-Ok.held c.peek.new.room c.in-Ok-peek.count refl (c.if-not-is_same.ensures.0 refl)
+    (step _ c.in-Ok-peek.ensures.noted c.in-Ok.ensures)
+    (λ whole. let h = c.if-not-is_whole_front.ensures.1 whole in cc)
+
+pub returns-then-begins : goal.returns-then-begins
+returns-then-begins g c =
+    lines c.in-Ok.held c.peek.new.room c.in-Ok-peek.count refl (c.if-not-is_same.ensures.0 refl)
+    (step _ c.in-Ok-peek.ensures.noted c.in-Ok.ensures)
+    (c.if-not-is_whole_front.ensures.0 refl) (c.if-begins.ensures.0 refl)
+
+pub returns-else-begins : goal.returns-else-begins
+returns-else-begins g c =
+    no_lines c.in-Ok.held c.peek.new.room c.in-Ok-peek.count refl (c.if-not-is_same.ensures.0 refl)
+    (step _ c.in-Ok-peek.ensures.noted c.in-Ok.ensures)
+    (c.if-not-is_whole_front.ensures.0 refl) (λ is. let h = c.if-begins.ensures.1 is in cc)

@@ -1,0 +1,6 @@
+use Rattle.mot_endpoints.specs.Inner.Said.IsNew.{due}
+use Rattle.mot_endpoints.proofs.said.Said.is_new.Goals as goal
+
+pub returns-in-Ok-Some : goal.returns-in-Ok-Some
+returns-in-Ok-Some c =
+    let h = rw c.in-Ok-Some.field-0-is at c.in-Ok-Some.ensures.due in record { due = due h.0 }

@@ -1,0 +1,30 @@
+use Rattle.std.proofs.Common.{◌≡◌, refl, sym, subst, arith}
+use Rattle.mot_endpoints.specs.Inner.Said.{Remembers}
+use Rattle.mot_endpoints.specs.Inner.Said.IsDue.{known, new}
+use Rattle.mot_endpoints.specs.Inner.Said.Remembers.{by}
+use Rattle.mot_endpoints.specs.declared.said.Told.{Told}
+use Rattle.mot_endpoints.proofs.Told.{added_contains, not_iff, set_contains}
+use Rattle.mot_endpoints.proofs.said.Said.keep.Goals as goal
+
+pub returns-in-Some : goal.returns-in-Some
+returns-in-Some c =
+    let named = subst (λ (t : Told). t.name.items ≡ c.args.name.now) (sym c.index_mut-told.ensures.value)
+    (c.in-Some.ensures.names c.index_mut-told.result.now) in
+    record {
+      due = (
+        known c.index_mut-told.result.now
+            (c.in-Some.at, c.in-Some.ensures.fits, sym c.index_mut-told.ensures.value) named
+            (not_iff c.is_one-is_new.result c.is_one-is_new.ensures),
+        by _ (set_contains _ c.in-Some.at _ c.in-Some.ensures.fits) named refl refl refl,
+      );
+    }
+
+pub returns : goal.returns
+returns c = record {
+  due = (
+    new c.in_default.ensures.none (omega (arith, c.if-len-ge-MOST.false, c.len.ensures)) refl,
+    subst (λ (l : _). Remembers l c.args.name.now c.args.stamp c.args.is_unread)
+        (sym c.in_ok-push.ensures.items)
+        (by _ (added_contains c.args.self.now.names.items _) c.in_ok-from_slice.ensures.items refl refl refl),
+  );
+}

@@ -1,0 +1,5 @@
+use Rattle.mot_endpoints.proofs.said.Said.keep_unread.Goals as goal
+
+pub returns-in-Ok-Some : goal.returns-in-Ok-Some
+returns-in-Ok-Some c =
+    let h = rw c.in-Ok-Some.field-0-is at c.in-Ok-Some.ensures.due in λ _. h.1

@@ -1,0 +1,11 @@
+use Rattle.std.proofs.Common.{ℕ, ◌≢◌, ◌≤◌, ◌<◌, ◌-◌, get_or, length}
+use Rattle.mot_endpoints.specs.declared.said.Told.{Told}
+use Rattle.mot_endpoints.proofs.said.Said.place_of.Given as goal
+
+abbrev pub invariant-loop-at : goal.invariant-loop-at
+invariant-loop-at l =
+    (l.at ≤ length l.self.names.items)
+    × ((k : ℕ) (d : Told) → k < l.at → (get_or l.self.names.items k d).name.items ≢ l.name)
+
+abbrev pub decreases-loop-at : goal.decreases-loop-at
+decreases-loop-at l = length l.self.names.items - l.at

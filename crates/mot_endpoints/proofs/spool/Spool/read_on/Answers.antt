@@ -1,0 +1,17 @@
+use Rattle.std.proofs.Common.{refl, ap, sym, ◌∙◌}
+use Rattle.mot_endpoints.specs.Spooling.Serves.{line_end, next, on}
+use Rattle.mot_endpoints.proofs.spool.Spool.read_on.Goals as goal
+
+pub returns-then-self-clause-serves : goal.returns-then-self-clause-serves
+returns-then-self-clause-serves g c =
+    line_end c.end_torn.result c.if-self.true refl c.end_torn.ensures.ends c.end_torn.ensures.open
+    (ap (λ (f : _). g.S.System.calls f.system) c.end_torn.ensures.finder)
+
+pub returns-in-Some-clause-serves : goal.returns-in-Some-clause-serves
+returns-in-Some-clause-serves g c =
+    on c.in-Some.lines (sym c.take.ensures.value ∙ c.in-Some.is) c.read_file.ensures.serves
+
+pub returns-in-Ok-Some-clause-serves : goal.returns-in-Ok-Some-clause-serves
+returns-in-Ok-Some-clause-serves g c =
+    next c.in-Ok-Some.lines _ (sym c.take.ensures.value ∙ c.in_default.is) (rw c.in-Ok-Some.field-0-is at c.in-Ok-Some.ensures)
+    c.read_file-in-Ok-Some.ensures.serves

@@ -1,0 +1,3 @@
+pub mod LineNames
+pub mod Said
+pub mod Texts

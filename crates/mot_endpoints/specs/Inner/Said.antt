@@ -1,0 +1,26 @@
+-- The names of a folder about which the log has a line.
+use Rattle.std.specs.Prelude.{◌≡◌, ◌≢◌, ◌≤◌, ◌<◌, ◌↔◌, ℕ, Bool, true, false, IsTrue, List, All, Contains, Option, length}
+use Rattle.mot_endpoints.specs.declared.said.Stamp.{Stamp}
+use Rattle.mot_endpoints.specs.declared.said.Told.{Told}
+
+-- no entry is about the name
+abbrev pub IsUntold : List Told → List ℕ → Type 0
+IsUntold tolds name = All (λ told. told.name.items ≢ name) tolds
+
+-- whether the log has no line yet about a file: its name has no entry, or one about another file, or
+-- about the same one before it was changed
+pub data IsDue (tolds : List Told) (name : List ℕ) (stamp : Option Stamp) (is : Bool) : Type 0 where
+  known : (told : Told) → Contains tolds told → told.name.items ≡ name
+      → (IsTrue is ↔ told.stamp ≢ stamp) → IsDue tolds name stamp is
+  new : IsUntold tolds name → length tolds < 100 → is ≡ true → IsDue tolds name stamp is
+
+-- whether a line about a file is due: as long as a hundred names suffice
+pub data IsNew (tolds : List Told) (name : List ℕ) (stamp : Option Stamp) (is : Bool) : Type 0 where
+  full : IsUntold tolds name → 100 ≤ length tolds → is ≡ false → IsNew tolds name stamp is
+  due : IsDue tolds name stamp is → IsNew tolds name stamp is
+
+-- an entry is about this file, as it is, and was met
+pub data Remembers (tolds : List Told) (name : List ℕ) (stamp : Option Stamp) (unread : Bool) :
+    Type 0 where
+  by : (told : Told) → Contains tolds told → told.name.items ≡ name → told.stamp ≡ stamp
+      → told.is_met ≡ true → told.is_unread ≡ unread → Remembers tolds name stamp unread

@@ -1,0 +1,33 @@
+-- Reading the text of a file. Each relation goes from the calls that were made before to those that
+-- were made then.
+use Rattle.std.specs.Prelude.{◌≡◌, ℕ, List, [], ◌∷◌, ◌++◌, Ok}
+use Rattle.mot_files.specs.Call.{Call, closed, followed, looked_at, opened, read_of}
+use Rattle.mot_files.specs.Reading.{IsSame, joined, reads}
+use Rattle.mot_files.specs.declared.system.Handle.{Handle}
+use Rattle.mot_files.specs.declared.system.How.TheVariants as How
+use Rattle.mot_files.specs.declared.system.Kind.TheVariants.{File}
+use Rattle.mot_files.specs.declared.system.Seen.{Seen}
+
+-- a regular file was opened, the one that the path led to
+pub record IsOpened (path : List ℕ) (handle : Handle) (old new : List Call) : Type 0 where
+  pub named : Seen
+  pub held : Seen
+  pub regular : named.kind ≡ File
+  pub same : IsSame held named
+  pub calls : new ≡ old ++ followed path (Ok named) ∷ [] ++ opened path How.Read (Ok handle) ∷ []
+      ++ looked_at handle (Ok held) ∷ []
+
+-- a handle was read, one piece after the other, until a read gave nothing
+pub record IsReadToEnd (handle : Handle) (text : List ℕ) (old new : List Call) : Type 0 where
+  pub chunks : List (List ℕ)
+  pub given : text ≡ joined chunks
+  pub calls : new ≡ old ++ reads handle chunks ++ read_of handle [] ∷ []
+
+-- all bytes of the regular file that the path led to, and it was closed again
+pub record IsTextOf (path text : List ℕ) (old new : List Call) : Type 0 where
+  pub handle : Handle
+  pub opening : List Call
+  pub inner : List Call
+  pub opened : IsOpened path handle old opening
+  pub read : IsReadToEnd handle text opening inner
+  pub calls : new ≡ inner ++ closed handle ∷ []

@@ -1,0 +1,134 @@
+-- Which file is taken for one of lines, and whether it still has its name.
+use Rattle.std.specs.Prelude.{◌≡◌, ◌≢◌, ◌≤◌, ◌⊎◌, ◌↔◌, ◌||◌, ℕ, Bool, true, false, IsTrue, nat_eq, if◌then◌else◌, List}
+use Rattle.std.specs.Prelude.{[], ◌∷◌, ◌++◌, Result, Ok, Err, Option, None, Some, codes, suc, take}
+use Rattle.mot_files.specs.Call.{Call, closed, looked, looked_at, opened, peeked, removed}
+use Rattle.mot_files.specs.Reading.{IsSame}
+use Rattle.mot_files.specs.declared.system.Fault.{Fault}
+use Rattle.mot_files.specs.declared.system.Fault.TheVariants.{Absent, Busy, System}
+use Rattle.mot_files.specs.declared.system.Handle.{Handle}
+use Rattle.mot_files.specs.declared.system.How.TheVariants as How
+use Rattle.mot_files.specs.declared.system.Kind.TheVariants.{File}
+use Rattle.mot_files.specs.declared.system.Seen.{Seen}
+use Rattle.mot_endpoints.specs.declared.line_file.Found.{Found}
+use Rattle.mot_endpoints.specs.declared.line_file.Found.TheVariants.{Gone, Left, Lines}
+use Rattle.mot_endpoints.specs.declared.said.Stamp.{Stamp}
+use Rattle.mot_numbers.specs.declared.refusal.Refusal.TheVariants.{BadLine, ReadFault}
+
+-- what a refused call says of a path: only what is not there is gone
+abbrev pub fault_found : Option Seen → Fault → Found
+fault_found named (Absent error) = Gone
+fault_found named Busy = Left ReadFault named
+fault_found named (System error) = Left ReadFault named
+
+-- how many bytes come before a space or a line end
+abbrev pub word_len : List ℕ → ℕ
+word_len [] = 0
+word_len (x ∷ xs) = (if nat_eq x 32 || nat_eq x 10 then 0 else suc (word_len xs))
+
+-- the first words of lines
+abbrev pub IsWord : List ℕ → Type 0
+IsWord word = (((word ≡ codes "put") ⊎ (word ≡ codes "replace"))
+    ⊎ ((word ≡ codes "withdraw") ⊎ (word ≡ codes "period")))
+    ⊎ (((word ≡ codes "list") ⊎ (word ≡ codes "next"))
+    ⊎ ((word ≡ codes "turn") ⊎ (word ≡ codes "raw")))
+
+-- the first bytes of a file of lines: none, or those of a first word
+abbrev pub Begins : List ℕ → Type 0
+Begins start = (start ≡ []) ⊎ IsWord (take (word_len start) start)
+
+-- so many first bytes of a file of this length tell its first word: nine, which are one more than
+-- the longest word has, or all
+abbrev pub IsWholeFront : (count len : ℕ) → Type 0
+IsWholeFront count len = (9 ≤ count) ⊎ (len ≤ count)
+
+-- what an open file is, of which nine bytes are asked for
+pub data IsLookedInto (handle : Handle) (named : Seen) (found : Found) (old new : List Call) :
+    Type 0 where
+  unheld : (fault : Fault) → found ≡ Left ReadFault (Some named)
+      → new ≡ old ++ looked_at handle (Err fault) ∷ [] → IsLookedInto handle named found old new
+  other : (held : Seen) → found ≡ Gone → ¬ (IsSame held named)
+      → new ≡ old ++ looked_at handle (Ok held) ∷ [] → IsLookedInto handle named found old new
+  unread : (held : Seen) (room : List ℕ) (fault : Fault) → found ≡ Left ReadFault (Some named)
+      → IsSame held named
+      → new ≡ old ++ looked_at handle (Ok held) ∷ [] ++ peeked handle 9 room (Err fault) ∷ []
+      → IsLookedInto handle named found old new
+  cut : (held : Seen) (room : List ℕ) (count : ℕ) → found ≡ Gone → IsSame held named
+      → new ≡ old ++ looked_at handle (Ok held) ∷ [] ++ peeked handle 9 room (Ok count) ∷ []
+      → ¬ (IsWholeFront count held.len) → IsLookedInto handle named found old new
+  lines : (held : Seen) (room : List ℕ) (count : ℕ) → found ≡ Lines handle → IsSame held named
+      → new ≡ old ++ looked_at handle (Ok held) ∷ [] ++ peeked handle 9 room (Ok count) ∷ []
+      → IsWholeFront count held.len → Begins (take count room)
+      → IsLookedInto handle named found old new
+  no_lines : (held : Seen) (room : List ℕ) (count : ℕ) → found ≡ Left BadLine (Some named)
+      → IsSame held named
+      → new ≡ old ++ looked_at handle (Ok held) ∷ [] ++ peeked handle 9 room (Ok count) ∷ []
+      → IsWholeFront count held.len → ¬ (Begins (take count room))
+      → IsLookedInto handle named found old new
+
+-- what stands at a path
+pub data IsFound (path : List ℕ) (found : Found) (old new : List Call) : Type 0 where
+  unseen : (fault : Fault) → found ≡ fault_found None fault
+      → new ≡ old ++ looked path (Err fault) ∷ [] → IsFound path found old new
+  none : (named : Seen) → found ≡ Left ReadFault (Some named) → named.kind ≢ File
+      → new ≡ old ++ looked path (Ok named) ∷ [] → IsFound path found old new
+  unopened : (named : Seen) (fault : Fault) → found ≡ fault_found (Some named) fault
+      → named.kind ≡ File
+      → new ≡ old ++ looked path (Ok named) ∷ [] ++ opened path How.Read (Err fault) ∷ []
+      → IsFound path found old new
+  -- only a file of lines stays open
+  kept : (named : Seen) (handle of : Handle) → found ≡ Lines of → named.kind ≡ File
+      → IsLookedInto handle named found
+      (old ++ looked path (Ok named) ∷ [] ++ opened path How.Read (Ok handle) ∷ []) new
+      → IsFound path found old new
+  left : (named : Seen) (handle : Handle) (inner : List Call)
+      → ((of : Handle) → found ≢ Lines of) → named.kind ≡ File
+      → IsLookedInto handle named found
+      (old ++ looked path (Ok named) ∷ [] ++ opened path How.Read (Ok handle) ∷ []) inner
+      → new ≡ inner ++ closed handle ∷ [] → IsFound path found old new
+
+-- what distinguishes a file, by what the system says of it
+abbrev pub IsStampOf : Seen → Stamp → Type 0
+IsStampOf seen stamp = (stamp.device ≡ seen.device) × (stamp.number ≡ seen.number)
+    × (stamp.changed ≡ seen.changed)
+
+-- what distinguishes an open file, if the system says it
+pub data Stamps (handle : Handle) (stamp : Option Stamp) (old new : List Call) : Type 0 where
+  unheld : (fault : Fault) → stamp ≡ None → new ≡ old ++ looked_at handle (Err fault) ∷ []
+      → Stamps handle stamp old new
+  held : (held : Seen) (of : Stamp) → stamp ≡ Some of → IsStampOf held of
+      → new ≡ old ++ looked_at handle (Ok held) ∷ [] → Stamps handle stamp old new
+
+-- what a refused look at a path says of whether it names a file
+abbrev pub fault_named : Fault → Result Bool Fault
+fault_named (Absent error) = Ok false
+fault_named Busy = Err Busy
+fault_named (System error) = Err (System error)
+
+-- whether a path names an open file: it was looked at by its handle, and then by the path
+pub data IsNamed (handle : Handle) (path : List ℕ) (result : Result Bool Fault)
+    (old new : List Call) : Type 0 where
+  unheld : (fault : Fault) → result ≡ Err fault → new ≡ old ++ looked_at handle (Err fault) ∷ []
+      → IsNamed handle path result old new
+  unseen : (held : Seen) (fault : Fault) → result ≡ fault_named fault
+      → new ≡ old ++ looked_at handle (Ok held) ∷ [] ++ looked path (Err fault) ∷ []
+      → IsNamed handle path result old new
+  seen : (held named : Seen) (is : Bool) → result ≡ Ok is → (IsTrue is ↔ IsSame held named)
+      → new ≡ old ++ looked_at handle (Ok held) ∷ [] ++ looked path (Ok named) ∷ []
+      → IsNamed handle path result old new
+
+-- a path is removed only once it was seen to name the open file still
+pub data Removes (handle : Handle) (path : List ℕ) (result : Result (Unit {0}) Fault)
+    (old new : List Call) : Type 0 where
+  named : (inner : List Call) → IsNamed handle path (Ok true) old inner
+      → new ≡ inner ++ removed path result ∷ [] → Removes handle path result old new
+  other : result ≡ Ok tt → IsNamed handle path (Ok false) old new
+      → Removes handle path result old new
+  unknown : (fault : Fault) → result ≡ Err fault → IsNamed handle path (Err fault) old new
+      → Removes handle path result old new
+
+-- a file that was read to its end is removed so, and closed
+pub record TakesAway (handle : Handle) (path : List ℕ) (result : Result (Unit {0}) Fault)
+    (old new : List Call) : Type 0 where
+  pub inner : List Call
+  pub removes : Removes handle path result old inner
+  pub calls : new ≡ inner ++ closed handle ∷ []

@@ -1,0 +1,102 @@
+-- What is asked of the system while files of lines are read, one after the other.
+use Rattle.std.specs.Prelude.{◌≡◌, ◌≢◌, ◌⊎◌, ℕ, Bool, true, false, IsTrue, List, [], ◌∷◌, ◌++◌, Result, Ok, Err}
+use Rattle.std.specs.Prelude.{Option, None, Some, string_bytes, take}
+use Rattle.mot_files.specs.Call.{Call, read}
+use Rattle.mot_files.specs.declared.system.Event.{Event}
+use Rattle.mot_files.specs.declared.system.Event.TheVariants.{Closed, Followed, IsTerminal, Locked, Looked}
+use Rattle.mot_files.specs.declared.system.Event.TheVariants.{LookedAt, Opened, Peeked, Read, Removed, Renamed}
+use Rattle.mot_files.specs.declared.system.Event.TheVariants.{Resolved, Synced, Told, Wrote}
+use Rattle.mot_files.specs.declared.system.Fault.{Fault}
+use Rattle.mot_files.specs.declared.system.How.{How}
+use Rattle.mot_endpoints.specs.LineFiles.{IsFound, TakesAway}
+use Rattle.mot_endpoints.specs.LineReads.{ReadsLines}
+use Rattle.mot_endpoints.specs.declared.line_file.Found.TheVariants.{Lines}
+use Rattle.mot_endpoints.specs.declared.line_file.LineFile.{LineFile}
+
+-- what is opened to be read alone
+abbrev pub is_to_read : How → Bool
+is_to_read How.Read = true
+is_to_read How.New = false
+is_to_read How.Stream = false
+is_to_read How.Folder = true
+is_to_read How.Output = false
+
+-- a call that changes no file, removes none and opens none to write it
+abbrev pub is_reading : Event → Bool
+is_reading (Looked _) = true
+is_reading (Followed _) = true
+is_reading (Resolved _) = true
+is_reading (Opened how _) = is_to_read how
+is_reading (LookedAt _ _) = true
+is_reading (Read _ _) = true
+is_reading (Peeked _ _ _) = true
+is_reading (Wrote _ _) = false
+is_reading (IsTerminal _ _) = true
+is_reading (Locked _ _) = false
+is_reading (Synced _ _) = false
+is_reading (Closed _) = true
+is_reading (Renamed _) = false
+is_reading (Removed _) = false
+is_reading (Told _) = true
+
+-- only such calls came between
+pub data OnlyReads (old : List Call) : (new : List Call) → Type 0 where
+  none : {new : List Call} → new ≡ old → OnlyReads old new
+  more : {new : List Call} (mid : List Call) (call : Call) → OnlyReads old mid
+      → IsTrue (is_reading call.what) → new ≡ mid ++ call ∷ [] → OnlyReads old new
+
+-- the next file of lines: what stands at its path was looked for last, and it stayed open
+pub data Finds (found : Option LineFile) (old new : List Call) : Type 0 where
+  nothing : found ≡ None → OnlyReads old new → Finds found old new
+  one : (file : LineFile) (before after : List Call) → found ≡ Some file → OnlyReads old before
+      → IsFound (string_bytes file.path) (Lines file.handle) before after → OnlyReads after new
+      → Finds found old new
+
+-- what a read of this file comes to: bytes that are handed out, and it stays open; or its end, which
+-- the system's read gave as no bytes, and then it is taken away; or a fault, and it is closed, and
+-- what follows is torn if the fault came within a line
+pub data ServesFile {E : Type 0} (file : LineFile) (after : Option LineFile) (torn : Bool)
+    (result : Result ℕ E) (room : List ℕ) (old new : List Call) : Type 0 where
+  given : (then : LineFile) (count : ℕ)
+      → ReadsLines file.handle file.is_cut then.is_cut (Ok count) room old new
+      → then.handle ≡ file.handle → then.path ≡ file.path → count ≢ 0 → result ≡ Ok count
+      → after ≡ Some then → ServesFile file after torn result room old new
+  ended : (is_cut : Bool) (inner : List Call) (taken : Result (Unit {0}) Fault)
+      → ReadsLines file.handle file.is_cut is_cut (Ok 0) room old inner
+      → TakesAway file.handle (string_bytes file.path) taken inner new → result ≡ Ok 0
+      → after ≡ None → ServesFile file after torn result room old new
+  failed : (is_cut : Bool) (inner : List Call) (fault : Fault) (error : E)
+      → ReadsLines file.handle file.is_cut is_cut (Err fault) room old inner
+      → OnlyReads inner new → torn ≡ is_cut → result ≡ Err error → after ≡ None
+      → ServesFile file after torn result room old new
+
+-- what a read comes to: behind a torn line its end, of which no call is made; nothing; or what a
+-- read of the open file comes to, or of the next one that is found
+pub data Serves {E : Type 0} (torn torn_then : Bool) (open_file after : Option LineFile)
+    (result : Result ℕ E) (room : List ℕ) (old new : List Call) : Type 0 where
+  line_end : (count : ℕ) → torn ≡ true → result ≡ Ok count
+      → (count ≡ 0) ⊎ (take count room ≡ 13 ∷ 10 ∷ []) → after ≡ open_file → new ≡ old
+      → Serves torn torn_then open_file after result room old new
+  idle : result ≡ Ok 0 → after ≡ open_file → new ≡ old
+      → Serves torn torn_then open_file after result room old new
+  unfound : open_file ≡ None → (result ≡ Ok 0) ⊎ ((error : E) × (result ≡ Err error))
+      → after ≡ None → OnlyReads old new → Serves torn torn_then open_file after result room old new
+  on : (file : LineFile) → open_file ≡ Some file → ServesFile file after torn_then result room old new
+      → Serves torn torn_then open_file after result room old new
+  next : (file : LineFile) (inner : List Call) → open_file ≡ None → Finds (Some file) old inner
+      → ServesFile file after torn_then result room inner new
+      → Serves torn torn_then open_file after result room old new
+
+-- what becomes of the file that is open once playing has ended: it is taken away if a further read
+-- of it gives nothing and its last line has an end; else it stays
+pub data FinishesFile (file : LineFile) (old new : List Call) : Type 0 where
+  ended : (room : List ℕ) (inner : List Call) (taken : Result (Unit {0}) Fault)
+      → file.is_cut ≡ false → inner ≡ old ++ read file.handle room (Ok 0) ∷ []
+      → TakesAway file.handle (string_bytes file.path) taken inner new → FinishesFile file old new
+  stays : OnlyReads old new → FinishesFile file old new
+
+-- if one is open
+pub data Finishes (open_file : Option LineFile) (old new : List Call) : Type 0 where
+  none : open_file ≡ None → new ≡ old → Finishes open_file old new
+  one : (file : LineFile) → open_file ≡ Some file → FinishesFile file old new
+      → Finishes open_file old new

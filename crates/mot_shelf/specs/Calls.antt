@@ -1,0 +1,66 @@
+-- Which calls a folder is listed and read by.
+use Rattle.std.specs.Prelude.{◌≡◌, ◌≢◌, ◌⊎◌, ℕ, Bool, false, List, [], ◌∷◌, ◌++◌, Option, Some, None}
+use Rattle.std.specs.Prelude.{Result, Ok, Err, codes}
+use Rattle.std.specs.declared.io.Error.{Error}
+use Rattle.mot_files.specs.Call.{Call, closed, looked, opened, read}
+use Rattle.mot_files.specs.Listing.{file_of, path_in}
+use Rattle.mot_files.specs.Reading.{IsRead, IsUnread}
+use Rattle.mot_files.specs.declared.reading.Unread.{Unread}
+use Rattle.mot_files.specs.declared.reading.Unread.TheVariants.{Changed, NoMemory}
+use Rattle.mot_files.specs.declared.system.Fault.{Fault}
+use Rattle.mot_files.specs.declared.system.Handle.{Handle}
+use Rattle.mot_files.specs.declared.system.How.TheVariants as How
+use Rattle.mot_files.specs.declared.system.Kind.{Kind}
+use Rattle.mot_files.specs.declared.system.Seen.{Seen}
+
+-- by which path a folder is opened, so that a link to it is followed: no path is none
+abbrev pub folder_place : List ℕ → List ℕ
+folder_place [] = []
+folder_place (first ∷ rest) = path_in (first ∷ rest) (codes ".")
+
+-- it was opened; or it was not, since the system refused that, or there was no memory for the path
+abbrev pub FolderIsOpened : (path : List ℕ) → Result Handle Error → (old new : List Call) → Type 0
+FolderIsOpened path (Ok handle) old new =
+    new ≡ old ++ opened (folder_place path) How.Folder (Ok handle) ∷ []
+FolderIsOpened path (Err error) old new =
+    (new ≡ old) ⊎ ((fault : Fault) × (new
+    ≡ old ++ opened (folder_place path) How.Folder (Err fault) ∷ []))
+
+-- it was closed, if it was open
+abbrev pub FolderIsClosed : Option Handle → (old new : List Call) → Type 0
+FolderIsClosed None old new = new ≡ old
+FolderIsClosed (Some handle) old new = new ≡ old ++ closed handle ∷ []
+
+-- so many bytes of names came of the open folder; behind the last it is closed
+pub data NamesAreRead (before after : Option Handle) (room : List ℕ) (count : ℕ)
+    (old new : List Call) : Type 0 where
+  some : (handle : Handle) → before ≡ Some handle → after ≡ before → count ≢ 0
+      → new ≡ old ++ read handle room (Ok count) ∷ [] → NamesAreRead before after room count old new
+  none : (handle : Handle) → before ≡ Some handle → after ≡ None → count ≡ 0
+      → new ≡ old ++ read handle room (Ok count) ∷ [] ++ closed handle ∷ []
+      → NamesAreRead before after room count old new
+
+-- whether a name in the folder is that of a regular file: the system was asked for it, but of a name
+-- that is no text
+abbrev pub IsAsked : (path name : List ℕ) → Bool → (old new : List Call) → Type 0
+IsAsked path name is_file old new =
+    ((is_file ≡ false) × (new ≡ old))
+    ⊎ ((answer : Result Seen Fault) × (file_of answer ≡ Ok is_file)
+    × (new ≡ old ++ looked (path_in path name) answer ∷ []))
+
+-- what a name in the folder names
+abbrev pub KindIsAsked : (path name : List ℕ) → Kind → (old new : List Call) → Type 0
+KindIsAsked path name kind old new = (named : Seen) × (named.kind ≡ kind)
+    × (new ≡ old ++ looked (path_in path name) (Ok named) ∷ [])
+
+-- a file of the folder was read, and when it was not
+abbrev pub FileIsRead : (path name : List ℕ) → (most : ℕ) → (at_once : Bool) → (bytes : List ℕ)
+    → (old new : List Call) → Type 0
+FileIsRead path name most at_once bytes old new =
+    IsRead (path_in path name) most at_once bytes old new
+
+abbrev pub FileIsUnread : (path name : List ℕ) → (most : ℕ) → (at_once : Bool) → Unread
+    → (old new : List Call) → Type 0
+FileIsUnread path name most at_once unread old new =
+    ((new ≡ old) × ((unread ≡ Changed) ⊎ (unread ≡ NoMemory)))
+    ⊎ IsUnread (path_in path name) most at_once unread old new
