@@ -55,6 +55,13 @@ PROMISES = [
         ("mot_air", "is_air", ""), ("mot_air", "run_air_on", ""), ("mot_air", "play_disk", ""),
         ("mot_air", "play_and_answer", ""), ("mot_air", "sync_disk", ""), ("mot_export", "export_disk", ""), ("mot_export", "inspect_disk", ""),
     ]),
+    ("Files beside the disk", [
+        ("mot_files", "read_file", ""), ("mot_files", "is_file", ""), ("mot_files", "write_all", ""), ("mot_files", "hold", ""),
+        ("mot_files", "take_place", ""), ("mot_files", "replace", ""), ("mot_endpoints", "StatusFile::write", ""),
+        ("mot_endpoints", "OpenPackets::take_place", ""), ("mot_endpoints", "OpenPackets::take_away", ""),
+        ("mot_endpoints", "PacketWriter::write_once", ""), ("mot_endpoints", "Station::packets", ""),
+        ("mot_endpoints", "Spool::read", ""), ("mot_endpoints", "Spool::finish", ""),
+    ]),
     ("Single crates", []),
 ]
 

@@ -1,6 +1,7 @@
 #!/usr/bin/env python3
 """Shows by strace which system calls the built program makes on a disk's file and its folder, and what it answers if
-one of them fails or moves one byte alone. Only this sees a method of a file disk that makes no call, or another one.
+one of them fails or moves one byte alone; and those of `play` on the files beside its disk. Only this sees a method of
+a file disk, or of the files of the machine, that makes no call, or another one.
 
     tools/file_calls.py [PROGRAM]            prints it all
     tools/file_calls.py [PROGRAM] --check    compares with tools/file_calls.txt (needs strace and cc)
@@ -111,6 +112,40 @@ def shortened(file, case, count):
         yield number, file.run(case, env=environment), file.left()
 
 
+def play_shown(file):
+    """The calls of `play` on the files beside its disk: a folder with one object, one with a file of lines, a file of
+    suffixes, the status, and the file of packets."""
+    room = file.room / "air"
+    for name in ("objects", "lines"):
+        (room / name).mkdir(parents=True)
+    (room / "objects/a.txt").write_bytes(b"one\n")
+    (room / "lines/1.lines").write_bytes(b"period 5\n")
+    (room / "types").write_bytes(b"abc 5 0 -\n")
+    shutil.copy(file.new, room / "disk")
+    words = [file.program, "play", room / "disk", room / "packets", "--turns", "1", "--look", "0", "--at-once"]
+    words += ["--folder", room / "objects", "--lines", room / "lines", "--types", room / "types"]
+    words += ["--status", room / "status"]
+    status, printed, said = built.run(["strace", "-f", "-y", "-e", "trace=%file,%desc", "-o", file.trace, *words])
+    yield f"play: status {status}: {'; '.join((printed + said).decode().replace(str(room), 'ROOM').splitlines())}"
+    for line in file.trace.read_text().splitlines():
+        is_call = re.match(r"\d+ +\w+\(", line) and not re.match(r"\d+ +(execve\(|write\([12]<)", line)
+        if is_call and str(room) in line and f"{room}/disk" not in line:
+            yield f"    {plain_beside(line, room)}"
+
+
+def plain_beside(line, room):
+    """A call without numbers that change from run to run, and without bytes."""
+    line = re.sub(r"^\d+ +", "", line)
+    line = re.sub(r"AT_FDCWD<[^>]*>", "AT_FDCWD", line)
+    line = re.sub(rf"\d+<{re.escape(str(room))}/?([^>]*)>", lambda it: (it[1] or "ROOM").upper(), line)
+    line = re.sub(rf'"{re.escape(str(room))}/([^"]*)"', lambda it: it[1].upper(), line).replace(f'"{room}"', "ROOM")
+    line = re.sub(r'"[^"]*"(\.\.\.)?', "..", line)
+    line = re.sub(r"\b0x[0-9a-f]{6,}\b", "..", line)
+    line = re.sub(r"st_\w+=[^,}]*(, )?|stx_\w+=[^,}]*(, )?", "", line)
+    line = re.sub(r"(?<=STATUS.NEW, .., )\d+\) += \d+", "LENGTH) = LENGTH", line)
+    return re.sub(r" += ", " = ", line)
+
+
 def compare(lines):
     """Prints each line that is not the one that is kept; the status."""
     kept = KEPT.read_text().splitlines()
@@ -125,7 +160,8 @@ def main():
     words = [it for it in sys.argv[1:] if it != "--check"]
     motcar = str(pathlib.Path(words[0]).resolve()) if words else built.find()
     with tempfile.TemporaryDirectory() as name:
-        lines = list(shown(File(pathlib.Path(name).resolve(), motcar)))
+        file = File(pathlib.Path(name).resolve(), motcar)
+        lines = [*shown(file), *play_shown(file)]
     if "--check" in sys.argv[1:]:
         return compare(lines)
     print("\n".join(lines))
