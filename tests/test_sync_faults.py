@@ -197,6 +197,7 @@ class Memory(AirCase):
                 if status != 1 or not told <= stored:
                     wrong.append((number, status, said))
         self.expect("want of memory in a look", [], wrong)
-        self.expect("ends it", {"motcar: 14 OutOfMemory"}, ends - {"motcar: 15 DeviceFault"})
+        # (if there is none to open what takes the packets, that is the reason of a 23)
+        self.expect("ends it", {"motcar: 14 OutOfMemory", "motcar: 23 WriteFault"}, ends - {"motcar: 15 DeviceFault"})
 
     test_each_request.takes_long = True
