@@ -1,4 +1,7 @@
 //! What came of the seeds.
+ghost use Rattle.std.specs.Prelude.{◌≡◌, ◌≢◌, ◌+◌, None, min};
+ghost use Rattle.simulate.specs.declared.verdict.Wrong.{Wrong};
+ghost use Rattle.simulate.specs.declared.verdict.Verdict.TheVariants.{Wrong as WentWrong};
 
 /// What went wrong.
 #[derive(Clone, Copy)]
@@ -82,13 +85,17 @@ impl Tally {
     }
 
     /// This one, too, with so many calls.
-    pub fn count(&mut self, seed: u64, verdict: Verdict, calls: u64) {
+    pub fn count(&mut self, seed: u64, verdict: Verdict, calls: u64)
+        ensures wrong { (why : Wrong) → verdict ≡ WentWrong why
+            → self.new.wrong ≡ min (self.old.wrong + 1) 18446744073709551615 }
+        ensures told { (why : Wrong) → verdict ≡ WentWrong why → self.new.first ≢ None }
+    {
         self.calls = self.calls.saturating_add(calls);
         match verdict {
             Verdict::Done => self.done = self.done.wrapping_add(1),
             Verdict::Undone => self.undone = self.undone.wrapping_add(1),
             Verdict::Wrong(why) => {
-                self.wrong = self.wrong.wrapping_add(1);
+                self.wrong = self.wrong.saturating_add(1);
                 if self.first.is_none() {
                     self.first = Some((seed, why));
                 }
