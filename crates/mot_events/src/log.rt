@@ -1,0 +1,153 @@
+//! The log, line by line.
+ghost use Rattle.std.specs.Prelude.{◌≡◌, Bool, List, OnOk, Option, false, true, ℕ};
+ghost use Rattle.std.specs.Io.KnownBytes.{Appends};
+ghost use Rattle.mot_events.specs.Counters.{counted, none_counted};
+ghost use Rattle.mot_events.specs.Tally.{tally_of};
+ghost use Rattle.mot_events.specs.Text.{level_words, line_of, logged};
+
+use crate::counters::Counters;
+use crate::event::Event;
+use crate::text::{add, add_text};
+use std::alloc::{AllocError, Global};
+use std::io::Write;
+
+/// The most bytes of a line, without its level and its end. What is longer is cut.
+const MAX_LINE: usize = 8_192;
+
+/// Room for a level and an end.
+const AROUND: usize = 4;
+
+/// What is told of events, and has a log of them. Who makes events tells them to one of these, and
+/// knows of the log no more than that.
+pub trait Tells {
+    // The bytes that the log has, if they are known.
+    ghost log_has: { Self → Option (List ℕ) };
+
+    // Each line was written whole.
+    ghost log_is_whole: { Self → Bool };
+
+    // Lines begin with their level.
+    ghost log_has_levels: { Self → Bool };
+
+    /// This happened. If the log is whole afterwards, it has the event's line more, and nothing
+    /// else.
+    fn tell(&mut self, event: &Event<'_>)
+        ensures levels { log_has_levels self.new ≡ log_has_levels self.old }
+        ensures whole { log_is_whole self.new ≡ true → log_is_whole self.old ≡ true }
+        ensures told { log_is_whole self.new ≡ true → Appends (log_has self.old)
+            (log_has self.new) (logged (log_has_levels self.old) event.now) };
+
+    /// Something that happened is left out: the log is not whole.
+    fn leave_out(&mut self)
+        ensures levels { log_has_levels self.new ≡ log_has_levels self.old }
+        ensures left { log_is_whole self.new ≡ false };
+}
+
+/// A log of events, each with its line in one write. What happened is counted, also if its line
+/// can't be written.
+#[derive(Drop)]
+pub struct EventLog<W: Write + Drop> {
+    /// What takes the lines.
+    pub writer: W,
+    /// Whether lines begin with their level.
+    pub levels: bool,
+    /// Room for a line.
+    line: Vec<u8>,
+    /// Counts of what happened.
+    pub counters: Counters,
+    /// Whether each line was written whole, and flushed.
+    pub is_whole: bool,
+}
+
+impl<W: Write + Drop> EventLog<W> {
+    /// Nothing happened. If there is no memory for a line now, it is taken as the line comes.
+    pub fn new(alloc: Global, writer: W, levels: bool) -> EventLog<W>
+        ensures writer { result.writer ≡ writer }
+        ensures levels { result.levels ≡ levels }
+        ensures counters { result.counters ≡ none_counted }
+        ensures whole { result.is_whole ≡ true }
+    {
+        let line = match Vec::with_capacity(alloc, MAX_LINE + AROUND) {
+            Ok(line) => line,
+            Err(AllocError) => Vec::new(alloc),
+        };
+        EventLog {
+            writer,
+            levels,
+            line,
+            counters: Counters::new(),
+            is_whole: true,
+        }
+    }
+
+    /// Writes the line of an event, and flushes; whether that was done.
+    fn write_line(&mut self, event: &Event<'_>) -> bool
+        ensures counts { self.new.counters ≡ self.old.counters }
+        ensures levels { self.new.levels ≡ self.old.levels }
+        ensures whole { self.new.is_whole ≡ self.old.is_whole }
+        ensures told { result ≡ true → Appends (W.contents self.old.writer)
+            (W.contents self.new.writer) (line_of self.old.levels event.now) }
+    {
+        if set_line(&mut self.line, self.levels, event).is_err() {
+            return false;
+        }
+        if self.writer.write_all(self.line.as_slice()).is_err() {
+            return false;
+        }
+        self.writer.flush().is_ok()
+    }
+}
+
+impl<W: Write + Drop> Tells for EventLog<W> {
+    ghost log_has = { λ log. W.contents log.writer };
+
+    ghost log_is_whole = { λ log. log.is_whole };
+
+    ghost log_has_levels = { λ log. log.levels };
+
+    /// Counts an event, and writes its line, if it has one.
+    fn tell(&mut self, event: &Event<'_>)
+        ensures counts { self.new.counters ≡ counted self.old.counters (tally_of event.now) }
+        ensures levels { self.new.levels ≡ self.old.levels }
+        ensures whole { self.new.is_whole ≡ true → self.old.is_whole ≡ true }
+        ensures told { self.new.is_whole ≡ true → Appends (W.contents self.old.writer)
+            (W.contents self.new.writer) (logged self.old.levels event.now) }
+    {
+        let tally = event.tally();
+        self.counters.count(tally);
+        if tally.has_line() && !self.write_line(event) {
+            self.is_whole = false;
+        }
+    }
+
+    fn leave_out(&mut self)
+        ensures levels { self.new.levels ≡ self.old.levels }
+        ensures left { self.new.is_whole ≡ false }
+        ensures counts { self.new.counters ≡ self.old.counters }
+    {
+        self.is_whole = false;
+    }
+}
+
+/// Makes the line that of an event, with its end.
+fn set_line(line: &mut Vec<u8>, levels: bool, event: &Event<'_>) -> Result<(), AllocError>
+    ensures { OnOk result (line.new.items ≡ line_of levels event.now) }
+{
+    begin_line(line, levels, event)?;
+    let front = line.as_slice().len();
+    add_text(line, event)?;
+    line.truncate(front + MAX_LINE);
+    line.push(b'\n')?;
+    Ok(())
+}
+
+/// Makes the line what stands before the text of an event.
+fn begin_line(line: &mut Vec<u8>, levels: bool, event: &Event<'_>) -> Result<(), AllocError>
+    ensures { OnOk result (line.new.items ≡ level_words levels (tally_of event.now)) }
+{
+    line.clear();
+    if !levels {
+        return Ok(());
+    }
+    add(line, event.tally().level().prefix())
+}
