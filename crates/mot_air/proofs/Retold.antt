@@ -5,6 +5,8 @@ use Rattle.std.proofs.Common.{refl}
 use Rattle.std.proofs.Common.{subst}
 use Rattle.disk_model.specs.Disk.{State}
 use Rattle.mot_air.specs.Playing.{HasAired, Manner, Plays, Tale, look_of_feed, tale_of}
+use Rattle.mot_air.specs.Inner.Fed.{IsEndOf, disk_of, ending_of}
+use Rattle.mot_air.specs.declared.playing.Fed.{Fed}
 use Rattle.mot_air.specs.Telling.{Sources, first_sources, tale_with, tells_lines, tells_looks}
 use Rattle.mot_feed_lines.specs.Answering.{TellsBetween, TellsInTurn, TellsOnTime}
 use Rattle.mot_feed_lines.specs.Answering.{late_behind}
@@ -314,3 +316,13 @@ pub handed_out : {D : Type 0} (state : D → State) (tale : Tale) (how : Manner)
     → Plays tale how (fault_of out.result) before after start (state out.disk)
 handed_out state tale how before after start ended out same plays = subst (λ (e : Ended _ Unit).
     Plays tale how (fault_of e.result) before after start (state e.disk)) (sym same) plays
+
+-- the end of what was fed is handed out
+pub fed_out : {D : Type 0} (state : D → State) (tale : Tale) (how : Manner)
+    (before after : Option (List (List ℕ))) (start : State) (fed : Fed D) (ended : Ended D Unit)
+    → IsEndOf fed ended
+    → Plays tale how (ending_of fed) before after start (state (disk_of fed))
+    → Plays tale how (fault_of ended.result) before after start (state ended.disk)
+fed_out state tale how before after start fed ended is plays =
+    subst (λ d. Plays tale how (fault_of ended.result) before after start (state d)) (sym is.disk)
+    (subst (λ f. Plays tale how f before after start (state (disk_of fed))) (sym is.ending) plays)

@@ -13,7 +13,9 @@ use Rattle.mot_air.specs.Inner.Looked as looks
 use Rattle.mot_air.specs.Syncing.{HasSynced, IsEqual, Syncs, SyncsAndTells}
 use Rattle.mot_air.proofs.Opened.{ends_off, opened_leaves}
 use Rattle.mot_feed.specs.Feeding.{IsFeedFault}
-use Rattle.mot_folder.specs.Log.{LogEntry, ReportTells}
+use Rattle.mot_events.specs.Text.{met_line}
+use Rattle.mot_events.specs.declared.event.LookEvent.{LookEvent}
+use Rattle.mot_folder.specs.Log.{ReportTells}
 use Rattle.mot_folder.proofs.Laws.{every_named}
 use Rattle.mot_folder.specs.Looked.{HasLookedAtFolder, IsLook, TellsRightly, kept, listed}
 use Rattle.mot_folder.specs.Looked.{unlisted}
@@ -44,6 +46,7 @@ use Rattle.mot_update.specs.HasRun.{HasRun}
 use Rattle.mot_update.specs.Looking.{AreAccepted}
 use Rattle.mot_update.specs.declared.wanted.Wanted.{Wanted}
 use Rattle.mot_numbers.specs.Refusal.{is_device_fault}
+use Rattle.std.specs.List.{flat_map}
 use Rattle.std.specs.Option.{option_map_or}
 use Rattle.mot_update.specs.Updating.{updating}
 
@@ -109,7 +112,7 @@ module _ {D : Type 0} (state : D → State) (disk : D) (server new : ServerView 
       → AllAre s (state disk)
       → HasLookedAtFolder server new (state server.disk) (state new.disk) s types allows path given
       report fault
-      → (entries : List LogEntry)
+      → (entries : List LookEvent)
       × HasSynced types allows path given (state disk) (state new.disk) (not report.any_refused)
       fault entries s × ReportTells report entries
   has_synced s types allows path given report fault honest all looked =
@@ -134,7 +137,7 @@ module _ {D : Type 0} (state : D → State) (disk : D) (server new : ServerView 
     where
       equal : (fine : Bool) (fault : Option Refusal) (commands : List Command)
           (marks : List Bool) (names : List (List ℕ)) (wanted : List Wanted)
-          (entries : List LogEntry)
+          (entries : List LookEvent)
           → HasRun server new (state server.disk) (state new.disk) s commands marks fault
           → IsLook types allows path given s.carousel commands marks fault names wanted fine entries
           → fine ≡ true → fault ≡ None → IsEqual s names wanted (state new.disk)
@@ -187,7 +190,7 @@ module _ {D : Type 0} (state : D → State) (disk : D) (server new : ServerView 
           why = inl (ap (λ (r : Result Bool Refusal). fault_of r) (sym is));
           told = λ whole_is. (
             ap (λ (r : Result Bool Refusal). result_unwrap_or r false) (sym is),
-            subst (Appends before after) (done.2 whole) written,
+            subst (λ l. Appends before after (flat_map met_line l)) (done.2 whole) written,
           );
         }
     tells s result honest each (looks.broken report refusal is look) =

@@ -1,2 +1,3 @@
 pub mod Concluded
+pub mod Fed
 pub mod Looked

@@ -4,7 +4,8 @@ use Rattle.std.specs.Io.KnownBytes.{Appends, Keeps}
 use Rattle.std.specs.List.{flat_map}
 use Rattle.disk_model.specs.Disk.{State}
 use Rattle.mot_air.specs.Opening.{EndsBy, Leaves}
-use Rattle.mot_folder.specs.Log.{LogEntry, log_line}
+use Rattle.mot_events.specs.Text.{met_line}
+use Rattle.mot_events.specs.declared.event.LookEvent.{LookEvent}
 use Rattle.mot_folder.specs.Looked.{IsLook, TellsRightly}
 use Rattle.mot_journal.specs.Image.{Standing, half_of}
 use Rattle.mot_journal.specs.Slot.{layout_of}
@@ -33,7 +34,7 @@ module _ (types : List SuffixType) (allows : Bool) (path : List ℕ) (given : Gi
     (start now : State) where
   -- What a look made of a disk that stood for s: whether all of it is right, what broke it off, and
   -- what was told of it.
-  pub record HasSynced (all : Bool) (fault : Option Refusal) (entries : List LogEntry)
+  pub record HasSynced (all : Bool) (fault : Option Refusal) (entries : List LookEvent)
       (s : Standing) : Type 0 where
     pub commands : List Command
     pub marks : List Bool
@@ -52,10 +53,10 @@ module _ (types : List SuffixType) (allows : Bool) (path : List ℕ) (given : Gi
       (s : Standing) : Type 0 where
     pub fine : Bool
     pub fault : Option Refusal
-    pub entries : List LogEntry
+    pub entries : List LookEvent
     pub synced : HasSynced fine fault entries s
     pub why : (fault ≡ ending) ⊎ ((fault ≡ None) × (ending ≡ Some WriteFault))
-    pub told : ending ≡ None → (fine ≡ all) × Appends old new (flat_map log_line entries)
+    pub told : ending ≡ None → (fine ≡ all) × Appends old new (flat_map met_line entries)
 
   -- The disk's carousel was made equal to the folder, up to this ending; where it came to its end,
   -- true if nothing was refused. The log's known bytes were old and are new.

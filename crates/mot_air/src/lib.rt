@@ -8,8 +8,6 @@ mod missing;
 mod on_air;
 mod playing;
 mod program;
-mod reported;
-mod watched;
 
 pub use lives::{keep_done, open_done};
 pub use mot_cli::{AirTask as Task, PlayTask};

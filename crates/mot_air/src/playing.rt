@@ -1,6 +1,6 @@
 //! Playing a disk, and making its carousel equal to a folder.
 ghost use Rattle.std.specs.Prelude.{◌≡◌, ◌⊎◌, ◌-◌, ℕ, [], IfErr, IsSomeAnd, List, MatchResult};
-ghost use Rattle.std.specs.Prelude.{None, OnOk, Some, false};
+ghost use Rattle.std.specs.Prelude.{None, OnOk, Some, false, flat_map};
 ghost use Rattle.std.specs.Result.{result_unwrap_or};
 ghost use Rattle.std.specs.Io.KnownBytes.{Appends};
 ghost use Rattle.disk_model.specs.Disk.{KeepsLength};
@@ -8,7 +8,9 @@ ghost use Rattle.mot_air.specs.Lives.{AirsOn, KeepsDone};
 ghost use Rattle.mot_air.specs.Playing.{Plays, manner, tale_of};
 ghost use Rattle.mot_air.specs.Syncing.{Syncs};
 ghost use Rattle.mot_air.specs.Telling.{tale_with, watch_in, watched};
+ghost use Rattle.mot_air.specs.Inner.Fed.{IsEndOf, disk_of, ending_of};
 ghost use Rattle.mot_air.specs.Inner.Looked.{LooksAndTells};
+ghost use Rattle.mot_events.specs.Text.{met_line};
 ghost use Rattle.mot_feed.specs.Feeding.{IsFeedFault};
 ghost use Rattle.mot_folder.specs.Looked.{so_far, watch};
 ghost use Rattle.mot_journal.specs.Image.{Standing};
@@ -21,11 +23,11 @@ ghost use Rattle.mot_server.specs.Attempts.{fault_of};
 ghost use Rattle.mot_update.specs.Faults.{StaysCalm};
 
 use crate::Ended;
-use crate::reported::Reported;
 use disk_model::Disk;
-use mot_endpoints::{Asked, Heard, LineFolder, LineLog, LineNotes, Replies, SharedLog, Spool};
+use mot_endpoints::{LineFolder, LineNotes, Spool};
+use mot_events::{LookEvent, add_met_line};
 use mot_feed::feed_every;
-use mot_feed_lines::Lines;
+use mot_feed_lines::{Lines, Reported};
 use mot_files::System;
 use mot_folder::{FileTypes, Folder, Looks, look_at_folder};
 use mot_numbers::Refusal;
@@ -35,10 +37,9 @@ use mot_reason::open_server;
 use mot_server::Server;
 use mot_shelf::{LookNotes, Shelf};
 use mot_status::{Reporter, Telling};
-use mot_update::{NoUpdate, Update};
+use mot_update::{Facts, NoUpdate, Update, Watch};
 use std::alloc::Global;
-use std::cell::RefCell;
-use std::io::{self, Read, Write};
+use std::io::{self, Write};
 
 /// A folder that a carousel is made equal to, and which of its files are objects.
 #[derive(Drop)]
@@ -68,11 +69,7 @@ pub struct Aired<D: Disk> {
 
 impl<D: Disk> Aired<D> {
     /// Playing ended so, after these looks and with what these reads of lines gave.
-    fn looking<S: Shelf + Drop, W: Write + Drop>(
-        ended: Ended<D, ()>,
-        looks: Looks<'_, S, W>,
-        lines: LineNotes,
-    ) -> Self
+    fn looking<S: Shelf + Drop>(ended: Ended<D, ()>, looks: Looks<'_, S>, lines: LineNotes) -> Self
         ensures ended { result.ended ≡ ended }
         ensures looks { result.inputs.looks ≡ looks.entry.looks }
         ensures lines { result.inputs.lines ≡ lines }
@@ -129,29 +126,20 @@ pub fn play_disk<S: Shelf + Drop, F: System + Drop, D: Disk, O: Outlet, L: Write
         result.any_refused) how (fault_of result.ended.result) (O.writes outlet.old) (O.writes outlet.new)
         (D.state disk) (D.state result.ended.disk) }
 {
-    let log = RefCell::new(LineLog::new(alloc, log, telling.levels));
+    let watch = Reporter::new(alloc, log, telling);
     match folder {
         Some(followed) => {
-            let looks = looks_at(alloc, followed, SharedLog::new(&log), directory, look);
-            let mut looks = Reported {
-                update: looks,
-                reporter: Reporter::new(alloc, &log, telling),
-            };
-            let ended = play_with(alloc, disk, &mut looks, outlet, turns, directory, look);
-            if ended.result.is_ok() {
-                looks.reporter.tell_end(turns);
-            }
+            let update = looks_at(alloc, followed, directory, look);
+            let mut looks = Reported { update, watch };
+            let fed = feed_disk(alloc, disk, &mut looks, outlet, turns, directory, look);
+            let ended = end_telling(alloc, fed, turns, &mut looks);
             Aired::looking(ended, looks.into_update(), LineNotes::new())
         }
         None => {
-            let mut none = Reported {
-                update: NoUpdate,
-                reporter: Reporter::new(alloc, &log, telling),
-            };
-            let ended = play_with(alloc, disk, &mut none, outlet, turns, directory, look);
-            if ended.result.is_ok() {
-                none.reporter.tell_end(turns);
-            }
+            let update = NoUpdate;
+            let mut none = Reported { update, watch };
+            let fed = feed_disk(alloc, disk, &mut none, outlet, turns, directory, look);
+            let ended = end_telling(alloc, fed, turns, &mut none);
             Aired::unwatched(ended, LineNotes::new())
         }
     }
@@ -180,50 +168,35 @@ pub fn play_and_answer<S: Shelf + Drop, F: System + Drop, D: Disk, O: Outlet, L:
         how (fault_of result.ended.result) (O.writes outlet.old) (O.writes outlet.new)
         (D.state disk) (D.state result.ended.disk) }
 {
-    let log = RefCell::new(LineLog::new(alloc, log, telling.levels));
-    let asked = RefCell::new(Asked::new(alloc));
+    let watch = Reporter::new(alloc, log, telling);
     match folder {
         Some(followed) => {
-            let looks = looks_at(alloc, followed, SharedLog::new(&log), directory, look);
-            let looks = Reported {
-                update: looks,
-                reporter: Reporter::new(alloc, &log, telling),
-            };
-            let mut lines = lines_between(alloc, lines, &log, &asked, looks);
-            let ended = play_with(alloc, disk, &mut lines, outlet, turns, directory, look);
-            finish(&mut lines, ended.result.is_ok());
-            if ended.result.is_ok() {
-                lines.update.reporter.tell_end(turns);
-            }
-            let (lines, update) = parts_of(lines);
-            Aired::looking(ended, update.into_update(), lines)
+            let update = looks_at(alloc, followed, directory, look);
+            let mut lines = lines_between(alloc, lines, Reported { update, watch });
+            let fed = feed_disk(alloc, disk, &mut lines, outlet, turns, directory, look);
+            let ended = end_lines(alloc, fed, turns, &mut lines);
+            let (spool, looks) = lines.into_parts();
+            Aired::looking(ended, looks, spool.into_lines())
         }
         None => {
-            let none = Reported {
-                update: NoUpdate,
-                reporter: Reporter::new(alloc, &log, telling),
-            };
-            let mut lines = lines_between(alloc, lines, &log, &asked, none);
-            let ended = play_with(alloc, disk, &mut lines, outlet, turns, directory, look);
-            finish(&mut lines, ended.result.is_ok());
-            if ended.result.is_ok() {
-                lines.update.reporter.tell_end(turns);
-            }
-            let (lines, _) = parts_of(lines);
-            Aired::unwatched(ended, lines)
+            let update = NoUpdate;
+            let mut lines = lines_between(alloc, lines, Reported { update, watch });
+            let fed = feed_disk(alloc, disk, &mut lines, outlet, turns, directory, look);
+            let ended = end_lines(alloc, fed, turns, &mut lines);
+            let (spool, _) = lines.into_parts();
+            Aired::unwatched(ended, spool.into_lines())
         }
     }
 }
 
 /// Looks at the folder while a disk is played so: behind so many packets, if looks come within
 /// turns.
-fn looks_at<'a, S: Shelf + Drop, W: Write + Drop>(
+fn looks_at<'a, S: Shelf + Drop>(
     alloc: Global,
     followed: Followed<'a, S>,
-    log: W,
     directory: u32,
     look: u32,
-) -> Looks<'a, S, W>
+) -> Looks<'a, S>
     ensures watch { (turns : ℕ) → watch (S.path result.folder.shelf) result.folder.types.now
         result.folder.allows_empty result.every result.within
         ≡ watch_in (manner directory look turns) (S.path followed.entry.shelf)
@@ -237,7 +210,7 @@ fn looks_at<'a, S: Shelf + Drop, W: Write + Drop>(
         every,
     } = followed;
     let folder = Folder::new(alloc, shelf, types, allows_empty);
-    let mut looks = Looks::new(alloc, folder, log);
+    let mut looks = Looks::new(alloc, folder);
     if directory > 0 && look > 0 {
         looks.every = u64::from(every);
         looks.within = true;
@@ -245,49 +218,105 @@ fn looks_at<'a, S: Shelf + Drop, W: Write + Drop>(
     looks
 }
 
-/// What the reads of these lines gave, and the updates that they are answered with.
-fn parts_of<R: Read + Drop, W: Write + Drop, U: Update + Drop>(
-    lines: Lines<Heard<R>, W, U>,
-) -> (LineNotes, U)
-    ensures lines { result.0 ≡ lines.reader.lines }
-    ensures update { result.1 ≡ lines.update }
-{
-    (lines.reader.into_lines(), lines.update)
-}
-
-/// Takes away the file of lines that was answered to its end, if playing has come to its end: else
-/// the next run would answer it again.
-fn finish<'a, F: System + Drop, L: Write + Drop, U: Update + Drop>(
-    lines: &mut Lines<Heard<Spool<'a, F, SharedLog<'a, L>>>, Replies<'a, L>, U>,
-    is_ended: bool,
-)
-    ensures lines { lines.new.reader.lines ≡ lines.old.reader.lines }
-    ensures update { lines.new.update ≡ lines.old.update }
-{
-    if is_ended && lines.is_answered() {
-        lines.reader.finish();
-    }
-}
-
-/// The lines of the files in a folder, answered with these updates. The replies are written to the
-/// log.
-fn lines_between<'a, F: System + Drop, L: Write + Drop, U: Update + Drop>(
+/// The lines of the files in a folder, answered behind these updates, which are watched.
+fn lines_between<'a, F: System + Drop, U: Update + Facts + Drop, T: Watch + Drop>(
     alloc: Global,
     lines: LineFolder<'a, F>,
-    log: &'a RefCell<L>,
-    asked: &'a RefCell<Asked>,
-    update: U,
-) -> Lines<Heard<Spool<'a, F, SharedLog<'a, L>>>, Replies<'a, L>, U>
-    ensures hand { result.hand ≡ lines.entry.hand }
+    reported: Reported<U, T>,
+) -> Lines<Spool<'a, F>, U, T>
+    ensures hand { result.intake.hand ≡ lines.entry.hand }
     ensures every { result.between ≡ lines.entry.every - 1 }
     ensures due { result.left ≡ 0 }
     ensures unread { result.reader.lines.notes.all ≡ [] }
-    ensures update { result.update ≡ update }
+    ensures reported { result.reported ≡ reported }
 {
     let LineFolder { place, hand, every } = lines;
-    let spool = place.spool(alloc, SharedLog::new(log), asked);
-    let replies = Replies::new(SharedLog::new(log), asked);
-    Lines::new(spool, hand, replies, every, update)
+    Lines::new(alloc, place.spool(alloc), hand, every, reported)
+}
+
+/// What became of a disk that was to be played.
+#[derive(Drop)]
+pub(crate) enum Fed<D: Disk> {
+    /// It was not opened.
+    Unopened(Ended<D, ()>),
+    /// It is open, and feeding came to this.
+    Open(Server<D>, Result<(), Refusal>),
+}
+
+/// Tells the end, if feeding has come to one, with the last status.
+fn end_telling<D: Disk, U: Update + Facts + Drop, F: System + Drop, L: Write + Drop>(
+    alloc: Global,
+    fed: Fed<D>,
+    turns: u64,
+    reported: &mut Reported<U, Reporter<'_, F, L>>,
+) -> Ended<D, ()>
+    ensures update { reported.new.update ≡ reported.old.update }
+    ensures ended { IsEndOf fed result }
+{
+    match fed {
+        Fed::Unopened(ended) => ended,
+        Fed::Open(server, result) => {
+            tell_end(alloc, &server, result, turns, reported);
+            Ended {
+                disk: server.into_disk(),
+                result,
+                reason: None,
+            }
+        }
+    }
+}
+
+/// Tells the end, with the last status, if playing has come to it.
+fn tell_end<D: Disk, U: Update + Facts + Drop, F: System + Drop, L: Write + Drop>(
+    alloc: Global,
+    server: &Server<D>,
+    ended: Result<(), Refusal>,
+    turns: u64,
+    reported: &mut Reported<U, Reporter<'_, F, L>>,
+)
+    ensures { reported.new.update ≡ reported.old.update }
+{
+    if ended.is_ok() {
+        let events = reported.update.events();
+        reported.watch.tell_end(server, alloc, turns, events);
+    }
+}
+
+/// The same with lines. If feeding has come to its end, the file of lines that was answered to its
+/// end is taken away before: else the next run would answer it again.
+fn end_lines<'a, D: Disk, U: Update + Facts + Drop, F: System + Drop, L: Write + Drop>(
+    alloc: Global,
+    fed: Fed<D>,
+    turns: u64,
+    lines: &mut Lines<Spool<'a, F>, U, Reporter<'_, F, L>>,
+) -> Ended<D, ()>
+    ensures lines { lines.new.reader.lines ≡ lines.old.reader.lines }
+    ensures update { lines.new.reported.update ≡ lines.old.reported.update }
+    ensures ended { IsEndOf fed result }
+{
+    finish(lines, has_ended(&fed));
+    end_telling(alloc, fed, turns, &mut lines.reported)
+}
+
+/// Whether feeding has come to its end.
+fn has_ended<D: Disk>(fed: &Fed<D>) -> bool {
+    match fed {
+        Fed::Open(_, Ok(())) => true,
+        _ => false,
+    }
+}
+
+/// Takes away the file of lines that was answered to its end, if playing has come to its end.
+fn finish<'a, F: System + Drop, U: Update + Facts + Drop, T: Watch + Drop>(
+    lines: &mut Lines<Spool<'a, F>, U, T>,
+    is_ended: bool,
+)
+    ensures lines { lines.new.reader.lines ≡ lines.old.reader.lines }
+    ensures update { lines.new.reported.update ≡ lines.old.reported.update }
+{
+    if is_ended && lines.is_answered() {
+        lines.reader.finish(&mut lines.reported.watch);
+    }
 }
 
 /// Opens the disk and plays it into the outlet, so many turns, with one of these updates in front
@@ -315,18 +344,45 @@ pub fn play_with<D: Disk, U: Update, O: Outlet>(
         (tale_of U.tells how update.old update.new) how (fault_of result.result)
         (O.writes outlet.old) (O.writes outlet.new) (D.state disk) (D.state result.disk)) }
 {
+    match feed_disk(alloc, disk, update, outlet, turns, directory, look) {
+        Fed::Unopened(ended) => ended,
+        Fed::Open(server, result) => Ended {
+            disk: server.into_disk(),
+            result,
+            reason: None,
+        },
+    }
+}
+
+/// Opens the disk and plays it into the outlet, so many turns, as `play_with` does.
+fn feed_disk<D: Disk, U: Update, O: Outlet>(
+    alloc: Global,
+    disk: D,
+    update: &mut U,
+    outlet: &mut O,
+    turns: u64,
+    directory: u32,
+    look: u32,
+) -> Fed<D>
+    ensures ended { let how = manner directory look turns in
+        Plays (tale_of U.tells how update.old update.new) how (ending_of result)
+        (O.writes outlet.old) (O.writes outlet.new) (D.state disk) (D.state (disk_of result)) }
+    ensures lives { (g : Geometry) (first : ℕ) (done : List Command)
+        → KeepsDone g first done (D.state disk) → (D.state (disk_of result)).IsHonest
+        → IsSomeAnd (ending_of result)
+        (λ r. IsUnopened r (D.state disk) (D.state (disk_of result)))
+        ⊎ (let how = manner directory look turns in AirsOn g first done
+        (tale_of U.tells how update.old update.new) how (ending_of result)
+        (O.writes outlet.old) (O.writes outlet.new) (D.state disk) (D.state (disk_of result))) }
+{
     let mut server = match open_server(alloc, disk) {
         Ok(server) => server,
-        Err(refused) => return Ended::unopened(refused),
+        Err(refused) => return Fed::Unopened(Ended::unopened(refused)),
     };
     // Its sizes are in their ranges: each packet has room. (The line is there for the proof.)
     let _ = server.geometry();
     let result = feed_every(&mut server, alloc, update, outlet, turns, directory, look);
-    Ended {
-        disk: server.into_disk(),
-        result,
-        reason: None,
-    }
+    Fed::Open(server, result)
 }
 
 /// Opens the disk and makes its carousel equal to the folder; whether nothing was refused. The
@@ -376,22 +432,39 @@ fn look_and_tell<S: Shelf + Drop, D: Disk, L: Write>(
         (L.contents log.old) (L.contents log.new) result }
 {
     let looked = look_at_folder(alloc, server, folder);
-    let told = write_lines(log, folder.report.lines.as_slice());
+    let told = write_events(alloc, log, folder.report.events.as_slice());
     looked?;
     told?;
     Ok(!folder.report.any_refused)
 }
 
-/// Writes the lines to the log.
-fn write_lines<L: Write>(log: &mut L, lines: &[u8]) -> Result<(), Refusal>
-    ensures written { OnOk result
-        (Appends (L.contents log.old) (L.contents log.new) lines.now) }
+/// Writes a line for each event to the log.
+fn write_events<L: Write>(alloc: Global, log: &mut L, events: &[LookEvent]) -> Result<(), Refusal>
+    ensures written { OnOk result (Appends (L.contents log.old) (L.contents log.new)
+        (flat_map met_line events.now)) }
     ensures fault { IfErr result (λ r. r ≡ WriteFault) }
 {
-    let Ok(()) = log.write_all(lines) else {
-        return Err(Refusal::WriteFault);
-    };
+    let mut line = Vec::new(alloc);
+    for event in events {
+        write_event(&mut line, log, event)?;
+    }
     match log.flush() {
+        Ok(()) => Ok(()),
+        Err(_) => Err(Refusal::WriteFault),
+    }
+}
+
+/// Writes the line of an event to the log.
+fn write_event<L: Write>(line: &mut Vec<u8>, log: &mut L, event: &LookEvent) -> Result<(), Refusal>
+    ensures written { OnOk result (Appends (L.contents log.old) (L.contents log.new)
+        (met_line event.now)) }
+    ensures fault { IfErr result (λ r. r ≡ WriteFault) }
+{
+    line.clear();
+    if add_met_line(line, event).is_err() {
+        return Err(Refusal::WriteFault);
+    }
+    match log.write_all(line.as_slice()) {
         Ok(()) => Ok(()),
         Err(_) => Err(Refusal::WriteFault),
     }

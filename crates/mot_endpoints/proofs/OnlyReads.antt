@@ -1,10 +1,10 @@
 -- Calls that only read, one after the other.
-use Rattle.std.proofs.Common.{ℕ, List, [], ◌∷◌, ◌++◌, ◌≡◌, refl, sym, subst, Option, None, Some, Result, Ok, Err, IsTrue, IsErr, MatchOption, MatchResult, string_bytes}
+use Rattle.std.proofs.Common.{ℕ, List, [], ◌∷◌, ◌++◌, ◌≡◌, refl, sym, subst, Option, Result, Ok, Err, IsTrue, IsErr, MatchResult}
 use Rattle.mot_files.specs.Call.{Call}
 use Rattle.mot_files.specs.declared.system.Handle.{Handle}
 use Rattle.mot_files.specs.declared.system.Seen.{Seen}
 use Rattle.mot_files.specs.declared.system.Fault.{Fault}
-use Rattle.mot_endpoints.specs.LineFiles.{IsFound, IsLookedInto, Stamps, TakesAway}
+use Rattle.mot_endpoints.specs.LineFiles.{IsFound, IsLookedInto, Leaves, Stamps, TakesAway}
 use Rattle.mot_endpoints.specs.LineFiles.IsFound.{kept, left, none as no_file, unopened, unseen}
 use Rattle.mot_endpoints.specs.LineFiles.IsLookedInto.{cut, lines, no_lines, other, unheld, unread}
 use Rattle.mot_endpoints.specs.LineFiles.Stamps.{held as stamp_held, unheld as stamp_unheld}
@@ -57,41 +57,26 @@ finding (left named handle inner not kind into here) =
     more _ _ (and_then (more _ _ (one_call _ refl refl) refl refl) (looking_into into)) refl here
 
 -- a file that was found behind calls that only read
-pub finds_behind : {found : Option LineFile} {old mid new : List Call} → OnlyReads old mid
-    → Finds found mid new → Finds found old new
+pub finds_behind : {folder : List ℕ} {found : Option LineFile} {old mid new : List Call}
+    → OnlyReads old mid → Finds folder found mid new → Finds folder found old new
 finds_behind before (nothing is reads) = nothing is (and_then before reads)
-finds_behind before (one file first then is reads found rest) =
-    one file first then is (and_then before reads) found rest
-
--- none was found
-pub found_none : {found : Option LineFile} {old new : List Call} → found ≡ None
-    → Finds found old new → OnlyReads old new
-found_none same (nothing is reads) = reads
-found_none same (one file first then is reads found rest) =
-    and_then (and_then reads (finding found)) rest
-
--- a file of lines stands there, which is kept open or not
-pub keeps : (file : LineFile) {old mid new : List Call} (kept : Option LineFile)
-    → MatchOption kept (OnlyReads mid new) (λ it. (it ≡ file) × OnlyReads mid new)
-    → IsFound (string_bytes file.path) (Lines file.handle) old mid → Finds kept old new
-keeps file None reads is = nothing refl (and_then (finding is) reads)
-keeps file {old = old} {mid = mid} (Some it) (same, reads) is =
-    one it old mid refl (none refl)
-    (subst (λ (f : LineFile). IsFound (string_bytes f.path) (Lines f.handle) old mid) (sym same) is) reads
+finds_behind before (one file first then is of_folder reads found rest) =
+    one file first then is of_folder (and_then before reads) found rest
 
 -- nothing was found, since there was no memory
-pub refused : {E : Type 0} {old new : List Call} (result : Result (Option LineFile) E) → IsErr result
-    → OnlyReads old new
-    → MatchResult result (λ found. Finds found old new) (λ _. OnlyReads old new)
-refused (Ok found) is reads = absurd (let h = is in cc)
-refused (Err error) is reads = reads
+pub refused : {E : Type 0} (folder : List ℕ) {old new : List Call}
+    (result : Result (Option LineFile) E) → IsErr result → OnlyReads old new
+    → MatchResult result (λ found. Finds folder found old new) (λ _. OnlyReads old new)
+refused folder (Ok found) is reads = absurd (let h = is in cc)
+refused folder (Err error) is reads = reads
 
 -- what was found behind calls that only read
-pub later : {E : Type 0} {old mid : List Call} (new : List Call) (result : Result (Option LineFile) E)
-    → OnlyReads old mid → MatchResult result (λ found. Finds found mid new) (λ _. OnlyReads mid new)
-    → MatchResult result (λ found. Finds found old new) (λ _. OnlyReads old new)
-later new (Ok found) before is = finds_behind before is
-later new (Err error) before is = and_then before is
+pub later : {E : Type 0} (folder : List ℕ) {old mid : List Call} (new : List Call)
+    (result : Result (Option LineFile) E) → OnlyReads old mid
+    → MatchResult result (λ found. Finds folder found mid new) (λ _. OnlyReads mid new)
+    → MatchResult result (λ found. Finds folder found old new) (λ _. OnlyReads old new)
+later folder new (Ok found) before is = finds_behind before is
+later folder new (Err error) before is = and_then before is
 
 -- a file that is taken away, by another term for it
 pub taken_as : {handle same_handle : Handle} {path name : List ℕ} {taken : Result (Unit {0}) Fault}
@@ -100,6 +85,12 @@ pub taken_as : {handle same_handle : Handle} {path name : List ℕ} {taken : Res
 taken_as {same_handle = h'} {path = path} {taken = taken} {old = old} {new = new} same names takes =
     subst (λ (n : List ℕ). TakesAway h' n taken old new) names
     (subst (λ (h : Handle). TakesAway h path taken old new) same takes)
+
+-- a file that is left, by another term for it
+pub left_as : {handle same_handle : Handle} {stamp : Option Stamp} {old new : List Call}
+    → handle ≡ same_handle → Leaves handle stamp old new → Leaves same_handle stamp old new
+left_as {stamp = stamp} {old = old} {new = new} same leaves =
+    subst (λ (h : Handle). Leaves h stamp old new) same leaves
 
 -- a file of lines that was found, by other terms for it
 pub found_as : {handle same_handle : Handle} {path name : List ℕ} {old new : List Call} → path ≡ name

@@ -1,3 +1,4 @@
+pub mod Finding
 pub mod LineNames
 pub mod Said
 pub mod Texts

@@ -1,5 +1,6 @@
 pub mod Inner
 pub mod LineFiles
+pub mod LinePlaces
 pub mod LineReads
 pub mod Lines
 pub mod Names

@@ -1,6 +1,7 @@
 -- Which file is taken for one of lines, and whether it still has its name.
 use Rattle.std.specs.Prelude.{◌≡◌, ◌≢◌, ◌≤◌, ◌⊎◌, ◌↔◌, ◌||◌, ℕ, Bool, true, false, IsTrue, nat_eq, if◌then◌else◌, List}
 use Rattle.std.specs.Prelude.{[], ◌∷◌, ◌++◌, Result, Ok, Err, Option, None, Some, codes, suc, take}
+use Rattle.std.specs.Prelude.{◌-◌, All, IsUtf8, drop, get_or, length}
 use Rattle.mot_files.specs.Call.{Call, closed, looked, looked_at, opened, peeked, removed}
 use Rattle.mot_files.specs.Reading.{IsSame}
 use Rattle.mot_files.specs.declared.system.Fault.{Fault}
@@ -12,13 +13,32 @@ use Rattle.mot_files.specs.declared.system.Seen.{Seen}
 use Rattle.mot_endpoints.specs.declared.line_file.Found.{Found}
 use Rattle.mot_endpoints.specs.declared.line_file.Found.TheVariants.{Gone, Left, Lines}
 use Rattle.mot_endpoints.specs.declared.said.Stamp.{Stamp}
+use Rattle.mot_numbers.specs.declared.refusal.Refusal.{Refusal}
 use Rattle.mot_numbers.specs.declared.refusal.Refusal.TheVariants.{BadLine, ReadFault}
+use Rattle.mot_endpoints.specs.declared.line_file.Reason.{Reason}
+use Rattle.mot_endpoints.specs.declared.line_file.Reason.TheVariants.{NoFile, NoLine}
+use Rattle.mot_endpoints.specs.declared.line_file.Reason.TheVariants.{Refused}
+
+-- a file of this name is one of lines: it ends in `.lines`, and does not begin with a dot
+abbrev pub IsOfLines : List ℕ → Type 0
+IsOfLines name = (6 ≤ length name) × (get_or name 0 0 ≢ 46)
+    × (drop (length name - 6) name ≡ codes ".lines")
+
+-- a text in which no control character stands
+abbrev pub IsPlain : List ℕ → Type 0
+IsPlain name = IsUtf8 name × All (λ byte. (32 ≤ byte) × (byte ≢ 127)) name
+
+-- the refusal of a file that is left for a reason
+abbrev pub refusal_of : Reason → Refusal
+refusal_of NoLine = BadLine
+refusal_of NoFile = ReadFault
+refusal_of (Refused fault) = ReadFault
 
 -- what a refused call says of a path: only what is not there is gone
 abbrev pub fault_found : Option Seen → Fault → Found
 fault_found named (Absent error) = Gone
-fault_found named Busy = Left ReadFault named
-fault_found named (System error) = Left ReadFault named
+fault_found named Busy = Left (Refused Busy) named
+fault_found named (System error) = Left (Refused (System error)) named
 
 -- how many bytes come before a space or a line end
 abbrev pub word_len : List ℕ → ℕ
@@ -44,11 +64,12 @@ IsWholeFront count len = (9 ≤ count) ⊎ (len ≤ count)
 -- what an open file is, of which nine bytes are asked for
 pub data IsLookedInto (handle : Handle) (named : Seen) (found : Found) (old new : List Call) :
     Type 0 where
-  unheld : (fault : Fault) → found ≡ Left ReadFault (Some named)
+  unheld : (fault : Fault) → found ≡ Left (Refused fault) (Some named)
       → new ≡ old ++ looked_at handle (Err fault) ∷ [] → IsLookedInto handle named found old new
   other : (held : Seen) → found ≡ Gone → ¬ (IsSame held named)
       → new ≡ old ++ looked_at handle (Ok held) ∷ [] → IsLookedInto handle named found old new
-  unread : (held : Seen) (room : List ℕ) (fault : Fault) → found ≡ Left ReadFault (Some named)
+  unread : (held : Seen) (room : List ℕ) (fault : Fault)
+      → found ≡ Left (Refused fault) (Some named)
       → IsSame held named
       → new ≡ old ++ looked_at handle (Ok held) ∷ [] ++ peeked handle 9 room (Err fault) ∷ []
       → IsLookedInto handle named found old new
@@ -59,7 +80,7 @@ pub data IsLookedInto (handle : Handle) (named : Seen) (found : Found) (old new 
       → new ≡ old ++ looked_at handle (Ok held) ∷ [] ++ peeked handle 9 room (Ok count) ∷ []
       → IsWholeFront count held.len → Begins (take count room)
       → IsLookedInto handle named found old new
-  no_lines : (held : Seen) (room : List ℕ) (count : ℕ) → found ≡ Left BadLine (Some named)
+  no_lines : (held : Seen) (room : List ℕ) (count : ℕ) → found ≡ Left NoLine (Some named)
       → IsSame held named
       → new ≡ old ++ looked_at handle (Ok held) ∷ [] ++ peeked handle 9 room (Ok count) ∷ []
       → IsWholeFront count held.len → ¬ (Begins (take count room))
@@ -69,7 +90,7 @@ pub data IsLookedInto (handle : Handle) (named : Seen) (found : Found) (old new 
 pub data IsFound (path : List ℕ) (found : Found) (old new : List Call) : Type 0 where
   unseen : (fault : Fault) → found ≡ fault_found None fault
       → new ≡ old ++ looked path (Err fault) ∷ [] → IsFound path found old new
-  none : (named : Seen) → found ≡ Left ReadFault (Some named) → named.kind ≢ File
+  none : (named : Seen) → found ≡ Left NoFile (Some named) → named.kind ≢ File
       → new ≡ old ++ looked path (Ok named) ∷ [] → IsFound path found old new
   unopened : (named : Seen) (fault : Fault) → found ≡ fault_found (Some named) fault
       → named.kind ≡ File
@@ -97,6 +118,12 @@ pub data Stamps (handle : Handle) (stamp : Option Stamp) (old new : List Call) :
       → Stamps handle stamp old new
   held : (held : Seen) (of : Stamp) → stamp ≡ Some of → IsStampOf held of
       → new ≡ old ++ looked_at handle (Ok held) ∷ [] → Stamps handle stamp old new
+
+-- an open file is left: what distinguishes it is asked for, and then it is closed
+pub record Leaves (handle : Handle) (stamp : Option Stamp) (old new : List Call) : Type 0 where
+  pub inner : List Call
+  pub seen : Stamps handle stamp old inner
+  pub calls : new ≡ inner ++ closed handle ∷ []
 
 -- what a refused look at a path says of whether it names a file
 abbrev pub fault_named : Fault → Result Bool Fault

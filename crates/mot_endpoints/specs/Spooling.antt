@@ -1,17 +1,20 @@
 -- What is asked of the system while files of lines are read, one after the other.
 use Rattle.std.specs.Prelude.{◌≡◌, ◌≢◌, ◌⊎◌, ℕ, Bool, true, false, IsTrue, List, [], ◌∷◌, ◌++◌, Result, Ok, Err}
-use Rattle.std.specs.Prelude.{Option, None, Some, string_bytes, take}
-use Rattle.mot_files.specs.Call.{Call, read}
+use Rattle.std.specs.Prelude.{Option, None, Some, codes, string_bytes, take}
+use Rattle.std.specs.Result.{result_unwrap_or}
+use Rattle.std.specs.declared.io.Error.{Error}
+use Rattle.mot_files.specs.Call.{Call, closed, read}
 use Rattle.mot_files.specs.declared.system.Event.{Event}
 use Rattle.mot_files.specs.declared.system.Event.TheVariants.{Closed, Followed, IsTerminal, Locked, Looked}
 use Rattle.mot_files.specs.declared.system.Event.TheVariants.{LookedAt, Opened, Peeked, Read, Removed, Renamed}
 use Rattle.mot_files.specs.declared.system.Event.TheVariants.{Resolved, Synced, Told, Wrote}
 use Rattle.mot_files.specs.declared.system.Fault.{Fault}
 use Rattle.mot_files.specs.declared.system.How.{How}
-use Rattle.mot_endpoints.specs.LineFiles.{IsFound, TakesAway}
+use Rattle.mot_endpoints.specs.LineFiles.{IsFound, IsOfLines, IsPlain, Leaves, TakesAway}
 use Rattle.mot_endpoints.specs.LineReads.{ReadsLines}
 use Rattle.mot_endpoints.specs.declared.line_file.Found.TheVariants.{Lines}
 use Rattle.mot_endpoints.specs.declared.line_file.LineFile.{LineFile}
+use Rattle.mot_endpoints.specs.declared.said.Stamp.{Stamp}
 
 -- what is opened to be read alone
 abbrev pub is_to_read : How → Bool
@@ -45,12 +48,24 @@ pub data OnlyReads (old : List Call) : (new : List Call) → Type 0 where
   more : {new : List Call} (mid : List Call) (call : Call) → OnlyReads old mid
       → IsTrue (is_reading call.what) → new ≡ mid ++ call ∷ [] → OnlyReads old new
 
--- the next file of lines: what stands at its path was looked for last, and it stayed open
-pub data Finds (found : Option LineFile) (old new : List Call) : Type 0 where
-  nothing : found ≡ None → OnlyReads old new → Finds found old new
-  one : (file : LineFile) (before after : List Call) → found ≡ Some file → OnlyReads old before
+-- the path of a name in a folder
+abbrev pub path_in : (folder name : List ℕ) → List ℕ
+path_in folder name = folder ++ codes "/" ++ name
+
+-- a file stands in the folder, by a plain name of lines
+pub record IsOfFolder (folder : List ℕ) (file : LineFile) : Type 0 where
+  pub plain : IsPlain (string_bytes file.name)
+  pub of_lines : IsOfLines (string_bytes file.name)
+  pub path : string_bytes file.path ≡ path_in folder (string_bytes file.name)
+
+-- the next file of lines in the folder: what stands at its path was looked for last, and it stayed
+-- open
+pub data Finds (folder : List ℕ) (found : Option LineFile) (old new : List Call) : Type 0 where
+  nothing : found ≡ None → OnlyReads old new → Finds folder found old new
+  one : (file : LineFile) (before after : List Call) → found ≡ Some file → IsOfFolder folder file
+      → OnlyReads old before
       → IsFound (string_bytes file.path) (Lines file.handle) before after → OnlyReads after new
-      → Finds found old new
+      → Finds folder found old new
 
 -- what a read of this file comes to: bytes that are handed out, and it stays open; or its end, which
 -- the system's read gave as no bytes, and then it is taken away; or a fault, and it is closed, and
@@ -65,35 +80,49 @@ pub data ServesFile {E : Type 0} (file : LineFile) (after : Option LineFile) (to
       → ReadsLines file.handle file.is_cut is_cut (Ok 0) room old inner
       → TakesAway file.handle (string_bytes file.path) taken inner new → result ≡ Ok 0
       → after ≡ None → ServesFile file after torn result room old new
-  failed : (is_cut : Bool) (inner : List Call) (fault : Fault) (error : E)
+  failed : (is_cut : Bool) (inner : List Call) (fault : Fault) (error : E) (stamp : Option Stamp)
       → ReadsLines file.handle file.is_cut is_cut (Err fault) room old inner
-      → OnlyReads inner new → torn ≡ is_cut → result ≡ Err error → after ≡ None
+      → Leaves file.handle stamp inner new → torn ≡ is_cut → result ≡ Err error → after ≡ None
       → ServesFile file after torn result room old new
 
--- what a read comes to: behind a torn line its end, of which no call is made; nothing; or what a
--- read of the open file comes to, or of the next one that is found
-pub data Serves {E : Type 0} (torn torn_then : Bool) (open_file after : Option LineFile)
-    (result : Result ℕ E) (room : List ℕ) (old new : List Call) : Type 0 where
+-- what a read comes to: behind a torn line its end, of which no call is made; nothing, and no call,
+-- once no more is read; or what a read of the open file comes to, or of the next one in the folder
+pub data Serves {E : Type 0} (folder : List ℕ) (torn torn_then stopped : Bool)
+    (open_file after : Option LineFile) (result : Result ℕ E) (room : List ℕ)
+    (old new : List Call) : Type 0 where
   line_end : (count : ℕ) → torn ≡ true → result ≡ Ok count
       → (count ≡ 0) ⊎ (take count room ≡ 13 ∷ 10 ∷ []) → after ≡ open_file → new ≡ old
-      → Serves torn torn_then open_file after result room old new
-  idle : result ≡ Ok 0 → after ≡ open_file → new ≡ old
-      → Serves torn torn_then open_file after result room old new
-  unfound : open_file ≡ None → (result ≡ Ok 0) ⊎ ((error : E) × (result ≡ Err error))
-      → after ≡ None → OnlyReads old new → Serves torn torn_then open_file after result room old new
-  on : (file : LineFile) → open_file ≡ Some file → ServesFile file after torn_then result room old new
-      → Serves torn torn_then open_file after result room old new
-  next : (file : LineFile) (inner : List Call) → open_file ≡ None → Finds (Some file) old inner
+      → Serves folder torn torn_then stopped open_file after result room old new
+  idle : torn ≡ false → (stopped ≡ true) ⊎ (room ≡ []) → result ≡ Ok 0 → after ≡ open_file
+      → new ≡ old → Serves folder torn torn_then stopped open_file after result room old new
+  unfound : torn ≡ false → stopped ≡ false → open_file ≡ None
+      → (result ≡ Ok 0) ⊎ ((error : E) × (result ≡ Err error)) → after ≡ None → OnlyReads old new
+      → Serves folder torn torn_then stopped open_file after result room old new
+  on : (file : LineFile) → torn ≡ false → stopped ≡ false → open_file ≡ Some file
+      → ServesFile file after torn_then result room old new
+      → Serves folder torn torn_then stopped open_file after result room old new
+  next : (file : LineFile) (inner : List Call) → torn ≡ false → stopped ≡ false
+      → open_file ≡ None → Finds folder (Some file) old inner
       → ServesFile file after torn_then result room inner new
-      → Serves torn torn_then open_file after result room old new
+      → Serves folder torn torn_then stopped open_file after result room old new
+
+-- the same with how many bytes were given: none, where that came to a fault
+abbrev pub ServesCount : (folder : List ℕ) (torn torn_then stopped : Bool)
+    (open_file after : Option LineFile) (count : ℕ) (room : List ℕ) (old new : List Call) → Type 0
+ServesCount folder torn torn_then stopped open_file after count room old new =
+    (got : Result ℕ Error) × (count ≡ result_unwrap_or got 0)
+    × Serves folder torn torn_then stopped open_file after got room old new
 
 -- what becomes of the file that is open once playing has ended: it is taken away if a further read
--- of it gives nothing and its last line has an end; else it stays
+-- of it gives nothing and its last line has an end; else it is closed, and stays
 pub data FinishesFile (file : LineFile) (old new : List Call) : Type 0 where
   ended : (room : List ℕ) (inner : List Call) (taken : Result (Unit {0}) Fault)
       → file.is_cut ≡ false → inner ≡ old ++ read file.handle room (Ok 0) ∷ []
       → TakesAway file.handle (string_bytes file.path) taken inner new → FinishesFile file old new
-  stays : OnlyReads old new → FinishesFile file old new
+  cut : file.is_cut ≡ true → new ≡ old ++ closed file.handle ∷ [] → FinishesFile file old new
+  goes_on : (room : List ℕ) (answer : Result ℕ Fault) → file.is_cut ≡ false → answer ≢ Ok 0
+      → new ≡ old ++ read file.handle room answer ∷ [] ++ closed file.handle ∷ []
+      → FinishesFile file old new
 
 -- if one is open
 pub data Finishes (open_file : Option LineFile) (old new : List Call) : Type 0 where

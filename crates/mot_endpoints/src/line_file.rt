@@ -7,7 +7,6 @@ ghost use Rattle.mot_endpoints.specs.LineReads.{ReadsLines};
 
 use crate::said::Stamp;
 use mot_files::{Fault, Handle, How, Seen, System, is_regular, is_same};
-use mot_numbers::Refusal;
 
 /// A byte more than the longest first word of lines has.
 const LONGEST: usize = 9;
@@ -117,13 +116,24 @@ impl LineFile {
     }
 }
 
+/// Why what stands at a path is left there.
+#[derive(Clone, Copy)]
+pub(crate) enum Reason {
+    /// It does not begin with the first word of a line.
+    NoLine,
+    /// It is not a regular file.
+    NoFile,
+    /// The system refused a call.
+    Refused(Fault),
+}
+
 /// What stands at a path.
 #[derive(Clone, Copy)]
 pub(crate) enum Found {
     /// A file of lines, which is open, or an empty one.
     Lines(Handle),
     /// It is left there, for this reason; what was seen there, if something was.
-    Left(Refusal, Option<Seen>),
+    Left(Reason, Option<Seen>),
     /// Nothing, or something else than a moment before.
     Gone,
 }
@@ -137,7 +147,7 @@ pub(crate) fn find<S: System>(system: &mut S, path: &str) -> Found
         Err(fault) => return refused(fault, None),
     };
     if !is_regular(&named) {
-        return Found::Left(Refusal::ReadFault, Some(named));
+        return Found::Left(Reason::NoFile, Some(named));
     }
     let handle = match system.open(path, How::Read) {
         Ok(handle) => handle,
@@ -157,7 +167,7 @@ fn refused(fault: Fault, named: Option<Seen>) -> Found
 {
     match fault {
         Fault::Absent(_) => Found::Gone,
-        _ => Found::Left(Refusal::ReadFault, named),
+        _ => Found::Left(Reason::Refused(fault), named),
     }
 }
 
@@ -177,7 +187,7 @@ fn look_into<S: System>(system: &mut S, handle: Handle, named: &Seen) -> Found
 {
     let held = match system.look_at(handle) {
         Ok(held) => held,
-        Err(_) => return Found::Left(Refusal::ReadFault, Some(*named)),
+        Err(fault) => return Found::Left(Reason::Refused(fault), Some(*named)),
     };
     if !is_same(&held, named) {
         return Found::Gone;
@@ -185,7 +195,7 @@ fn look_into<S: System>(system: &mut S, handle: Handle, named: &Seen) -> Found
     let mut start = [0u8; LONGEST];
     let count = match system.peek(handle, &mut start) {
         Ok(count) => count,
-        Err(_) => return Found::Left(Refusal::ReadFault, Some(*named)),
+        Err(fault) => return Found::Left(Reason::Refused(fault), Some(*named)),
     };
     if !is_whole_front(count, held.len) {
         return Found::Gone;
@@ -193,7 +203,7 @@ fn look_into<S: System>(system: &mut S, handle: Handle, named: &Seen) -> Found
     if begins(&start[..count]) {
         Found::Lines(handle)
     } else {
-        Found::Left(Refusal::BadLine, Some(*named))
+        Found::Left(Reason::NoLine, Some(*named))
     }
 }
 
@@ -228,7 +238,7 @@ fn word_len(start: &[u8]) -> usize
 }
 
 /// Whether it is the first word of a line.
-pub(crate) fn is_word(word: &[u8]) -> bool
+fn is_word(word: &[u8]) -> bool
     ensures { IsTrue result ↔ IsWord word.now }
 {
     word == b"put".as_slice()

@@ -1,22 +1,23 @@
 //! The folder that lines come from while a disk is played.
-ghost use Rattle.std.specs.Prelude.{◌≡◌, ◌++◌, IfErr, IfOk, IfSome, MatchResult, codes, is_none};
-ghost use Rattle.std.specs.Prelude.{[], option_map, unwrap_or};
+ghost use Rattle.std.specs.Prelude.{◌≡◌, ◌++◌, ◌↔◌, IfErr, IfOk, IfSome, IsTrue, MatchResult, codes};
+ghost use Rattle.std.specs.Prelude.{[], is_none, option_map, unwrap_or};
+ghost use Rattle.mot_endpoints.specs.LinePlaces.{ChecksLines, IsApart, IsApartFrom, IsObjects};
+ghost use Rattle.mot_endpoints.specs.LinePlaces.{IsRefused, IsUnresolved, LeadsInto, PacketsApart};
+ghost use Rattle.mot_endpoints.specs.LinePlaces.{StandsIn, TypesApart};
 ghost use Rattle.mot_endpoints.specs.Lines.{IsUnlined};
 ghost use Rattle.mot_endpoints.specs.Opened.{BeginsTo, named};
 ghost use Rattle.mot_endpoints.specs.declared.lines.LineFolder.{LineFolder};
+ghost use Rattle.mot_files.specs.declared.system.Kind.TheVariants.{Folder};
 
-use crate::asked::Asked;
-use crate::beside::folder_of;
+use crate::beside::{folder_of, leads_to};
 use crate::fault::{Cause, LinesFault, Unbegun};
-use crate::heard::Heard;
 use crate::packets::OUTPUT;
 use crate::spool::Spool;
 use crate::station::Station;
-use mot_files::{Fault, HostSystem, Kind, System};
+use mot_files::{Fault, HostSystem, Kind, Seen, System};
 use mot_lines::Hand;
 use std::alloc::Global;
-use std::cell::RefCell;
-use std::io::{self, ErrorKind, Write};
+use std::io::{self, ErrorKind};
 use std::str::from_utf8;
 
 /// After how many packets lines are read, if no number is given.
@@ -43,17 +44,12 @@ impl<'a, S: System + Drop> LinePlace<'a, S> {
         LinePlace { system, path }
     }
 
-    /// Its files, of which none was read. The lines about them go to `log`.
-    pub fn spool<W: Write + Drop>(
-        self,
-        alloc: Global,
-        log: W,
-        asked: &'a RefCell<Asked>,
-    ) -> Heard<Spool<'a, S, W>>
-        ensures folder { result.reader.finder.folder.now ≡ self.entry.path.now }
+    /// Its files, of which none was read.
+    pub fn spool(self, alloc: Global) -> Spool<'a, S>
+        ensures folder { result.finder.folder.now ≡ self.entry.path.now }
         ensures none { result.lines.notes.all ≡ [] }
     {
-        Heard::new(Spool::new(self.system, alloc, self.path, log, asked))
+        Spool::new(self.system, alloc, self.path)
     }
 }
 
@@ -124,71 +120,139 @@ pub(crate) fn check_folder<S: System>(
     system: &mut S,
     path: &str,
     others: Others<'_>,
-) -> Result<(), LinesFault> {
+) -> Result<(), LinesFault>
+    ensures { ChecksLines path.now others.entry result (S.calls system.old) (S.calls system.new) }
+{
     let found = match system.follow(path) {
         Ok(found) => found,
-        Err(fault) => return Err(LinesFault::System(fault.error())),
+        Err(fault) => return Err(refused(fault)),
     };
-    if found.kind != Kind::Folder {
+    if !is_folder(&found) {
         return Err(LinesFault::NoFolder);
     }
-    let folder = Folder {
-        device: found.device,
-        number: found.number,
-    };
-    let Others {
-        objects,
-        disk,
-        packets,
-        types,
-    } = others;
-    if let Some(objects) = objects
-        && folder.is_at(system, objects)
-    {
+    check_others(system, &found, others)
+}
+
+/// What a call comes to that the system refused.
+fn refused(fault: Fault) -> LinesFault
+    ensures { IsRefused fault result }
+{
+    match fault {
+        Fault::Absent(error) | Fault::System(error) => LinesFault::System(error),
+        Fault::Busy => LinesFault::System(io::Error::from(ErrorKind::WouldBlock)),
+    }
+}
+
+/// Whether it is a folder.
+fn is_folder(found: &Seen) -> bool
+    ensures { IsTrue result ↔ (found.now.kind ≡ Folder) }
+{
+    found.kind == Kind::Folder
+}
+
+/// Refuses the folder if it is that of the objects, or if another file stands in it.
+fn check_others<S: System>(
+    system: &mut S,
+    folder: &Seen,
+    others: Others<'_>,
+) -> Result<(), LinesFault>
+    ensures { IsApartFrom others.entry folder.now result (S.calls system.old)
+        (S.calls system.new) }
+{
+    if is_objects(system, folder, others.objects) {
         return Err(LinesFault::HasObjects);
     }
-    if folder.has(system, disk)? {
-        return Err(LinesFault::HasDisk);
+    if let Err(fault) = check_apart(system, folder, others.disk, LinesFault::HasDisk) {
+        return Err(fault);
     }
-    if packets != OUTPUT && folder.has(system, packets)? {
-        return Err(LinesFault::HasPackets);
+    if let Err(fault) = check_packets(system, folder, others.packets) {
+        return Err(fault);
     }
+    check_types(system, folder, others.types)
+}
+
+/// Whether it is the folder of the objects, if one is given.
+fn is_objects<S: System>(system: &mut S, folder: &Seen, objects: Option<&str>) -> bool
+    ensures { IsObjects folder.now objects.entry result (S.calls system.old) (S.calls system.new) }
+{
+    match objects {
+        Some(objects) => leads_to(system, objects, folder),
+        None => false,
+    }
+}
+
+/// Refuses what takes the packets if it stands in the folder. Standard output stands nowhere.
+fn check_packets<S: System>(system: &mut S, folder: &Seen, packets: &str) -> Result<(), LinesFault>
+    ensures { PacketsApart folder.now packets.now result (S.calls system.old) (S.calls system.new) }
+{
+    if packets == OUTPUT {
+        return Ok(());
+    }
+    check_apart(system, folder, packets, LinesFault::HasPackets)
+}
+
+/// Refuses the file that adds suffixes, if one is given, if it stands in the folder.
+fn check_types<S: System>(
+    system: &mut S,
+    folder: &Seen,
+    types: Option<&str>,
+) -> Result<(), LinesFault>
+    ensures { TypesApart folder.now types.entry result (S.calls system.old) (S.calls system.new) }
+{
     match types {
-        Some(types) if folder.has(system, types)? => Err(LinesFault::HasTypes),
-        _ => Ok(()),
+        Some(types) => check_apart(system, folder, types, LinesFault::HasTypes),
+        None => Ok(()),
     }
 }
 
-/// A folder, by what identifies it.
-#[derive(Clone, Copy)]
-struct Folder {
-    device: u64,
-    number: u64,
+/// Refuses a path if it stands in the folder.
+fn check_apart<S: System>(
+    system: &mut S,
+    folder: &Seen,
+    path: &str,
+    why: LinesFault,
+) -> Result<(), LinesFault>
+    ensures { IsApart folder.now path.now why result (S.calls system.old) (S.calls system.new) }
+{
+    match stands_in(system, folder, path) {
+        Ok(true) => Err(why),
+        Ok(false) => Ok(()),
+        Err(fault) => Err(fault),
+    }
 }
 
-impl Folder {
-    /// Whether the path names it.
-    fn is_at<S: System>(self, system: &mut S, path: &str) -> bool {
-        match system.follow(path) {
-            Ok(found) => found.device == self.device && found.number == self.number,
-            Err(_) => false,
-        }
+/// Whether what this path names stands in the folder, or would; or, of a link, what it leads to.
+fn stands_in<S: System>(system: &mut S, folder: &Seen, path: &str) -> Result<bool, LinesFault>
+    ensures { StandsIn folder.now path.now result (S.calls system.old) (S.calls system.new) }
+{
+    if leads_to(system, folder_of(path), folder) {
+        return Ok(true);
     }
+    leads_into(system, folder, path)
+}
 
-    /// Whether what this path names stands in it, or would; or, of a link, what it leads to.
-    fn has<S: System>(self, system: &mut S, path: &str) -> Result<bool, LinesFault> {
-        if self.is_at(system, folder_of(path)) {
-            return Ok(true);
-        }
-        let mut room = [0u8; PATH];
-        let count = match system.resolve(path, &mut room) {
-            Ok(count) => count,
-            Err(Fault::Absent(_)) => return Ok(false),
-            Err(fault) => return Err(LinesFault::System(fault.error())),
-        };
-        match from_utf8(&room[..count]) {
-            Ok(place) => Ok(self.is_at(system, folder_of(place))),
-            Err(_) => Err(LinesFault::System(io::Error::from(ErrorKind::InvalidData))),
-        }
+/// Whether what the path leads to, without links, stands in the folder.
+fn leads_into<S: System>(system: &mut S, folder: &Seen, path: &str) -> Result<bool, LinesFault>
+    ensures { LeadsInto folder.now path.now result (S.calls system.old) (S.calls system.new) }
+{
+    let mut room = [0u8; PATH];
+    let count = match system.resolve(path, &mut room) {
+        Ok(count) => count,
+        Err(fault) => return unresolved(fault),
+    };
+    match from_utf8(&room[..count]) {
+        Ok(place) => Ok(leads_to(system, folder_of(place), folder)),
+        Err(_) => Err(LinesFault::System(io::Error::from(ErrorKind::InvalidData))),
+    }
+}
+
+/// What is not there leads nowhere; of any other fault it is not known where a path leads.
+fn unresolved(fault: Fault) -> Result<bool, LinesFault>
+    ensures { IsUnresolved fault result }
+{
+    match fault {
+        Fault::Absent(_) => Ok(false),
+        Fault::Busy => Err(LinesFault::System(io::Error::from(ErrorKind::WouldBlock))),
+        Fault::System(error) => Err(LinesFault::System(error)),
     }
 }

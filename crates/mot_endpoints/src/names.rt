@@ -1,7 +1,8 @@
 //! The names of files of lines, in the order in which they are taken.
-ghost use Rattle.std.specs.Prelude.{◌≡◌, ◌≢◌, ◌≤◌, ◌↔◌, ◌-◌, ◌++◌, [], All, IfOk, IsTrue, MatchOption, None, OnOk};
+ghost use Rattle.std.specs.Prelude.{◌≡◌, ◌≢◌, ◌≤◌, ◌↔◌, ◌-◌, ◌++◌, [], All, IfNone, IfOk, IfSome, IsTrue, MatchOption, None, OnOk};
 ghost use Rattle.std.specs.Prelude.{codes, drop, insert, length, option_to_list, true, vec_items};
-ghost use Rattle.mot_endpoints.specs.Inner.LineNames.{ComesBefore, IsOfLines, IsPlaceOf, IsPlain, IsPut, Keeps};
+ghost use Rattle.mot_endpoints.specs.Inner.LineNames.{ComesBefore, GoesOn, IsPlaceOf, IsPut, Keeps};
+ghost use Rattle.mot_endpoints.specs.LineFiles.{IsOfLines, IsPlain};
 
 use std::alloc::Global;
 use std::io;
@@ -41,7 +42,9 @@ impl Names {
     }
 
     /// Whether none is left, so that the folder is to be read.
-    pub(crate) fn is_empty(&self) -> bool {
+    pub(crate) fn is_empty(&self) -> bool
+        ensures { IsTrue result ↔ (self.now.waiting.items ≡ []) }
+    {
         self.waiting.is_empty()
     }
 
@@ -59,6 +62,7 @@ impl Names {
     pub(crate) fn keep(&mut self, name: &[u8]) -> io::Result<()>
         ensures kept { OnOk result (Keeps vec_items self.old.behind name.now
             self.old.waiting.items self.new.waiting.items) }
+        ensures behind { self.new.behind ≡ self.old.behind }
     {
         if let Some(behind) = &self.behind
             && !comes_before(behind.as_slice(), name)
@@ -80,6 +84,7 @@ impl Names {
     fn put(&mut self, name: &[u8]) -> io::Result<()>
         ensures put { OnOk result (IsPut vec_items name.now self.old.waiting.items
             self.new.waiting.items) }
+        ensures behind { self.new.behind ≡ self.old.behind }
     {
         let place = self.place_of(name);
         let name = Vec::from_slice(self.alloc, name)?;
@@ -114,19 +119,34 @@ impl Names {
     pub(crate) fn next(&mut self) -> io::Result<Option<Vec<u8>>>
         ensures next { IfOk result (λ name. self.old.waiting.items
             ≡ self.new.waiting.items ++ option_to_list name) }
+        ensures none { IfOk result (λ name. IfNone name (self.new.waiting.items ≡ [])) }
+        ensures goes_on { IfOk result (λ name. IfSome name (λ name. self.new.waiting.items ≡ []
+            → GoesOn vec_items self.old.has_more (vec_items name) self.new.behind)) }
     {
         let Some(name) = self.waiting.pop() else {
             return Ok(None);
         };
-        if self.waiting.is_empty() {
-            if self.has_more {
-                self.behind = Some(Vec::from_slice(self.alloc, &name)?);
-                self.has_more = false;
-            } else {
-                self.begin_anew();
-            }
+        if !self.is_empty() {
+            return Ok(Some(name));
         }
-        Ok(Some(name))
+        match self.go_on(&name) {
+            Ok(()) => Ok(Some(name)),
+            Err(error) => Err(error),
+        }
+    }
+
+    /// Goes on behind this name, if there are more than were kept; else all were given.
+    fn go_on(&mut self, name: &[u8]) -> io::Result<()>
+        ensures same { self.new.waiting ≡ self.old.waiting }
+        ensures goes_on { OnOk result (GoesOn vec_items self.old.has_more name.now self.new.behind) }
+    {
+        if !self.has_more {
+            self.begin_anew();
+            return Ok(());
+        }
+        self.behind = Some(Vec::from_slice(self.alloc, name)?);
+        self.has_more = false;
+        Ok(())
     }
 
     /// All names were given.

@@ -2,7 +2,7 @@
 ghost use Rattle.std.specs.Prelude.{◌≡◌, ◌≢◌, ◌<◌, ◌≤◌, ◌↔◌, ◌⊎◌, [], All, HoldsAt, IfNone, IfOk, IfSome, IsTrue, MatchOption};
 ghost use Rattle.std.specs.Prelude.{false, length, true};
 ghost use Rattle.mot_endpoints.specs.LineFiles.{IsStampOf};
-ghost use Rattle.mot_endpoints.specs.Inner.Said.{IsDue, IsNew, IsUntold, Remembers};
+ghost use Rattle.mot_endpoints.specs.Inner.Said.{IsDue, IsNew, IsUnread, IsUntold, Remembers};
 
 use mot_files::{Seen, Time};
 use std::alloc::{AllocError, Global};
@@ -120,7 +120,8 @@ impl Said {
 
     /// Whether a read of this file failed, and it is as it was then.
     pub(crate) fn is_unread(&mut self, name: &[u8], stamp: Option<Stamp>) -> bool
-        ensures { IsTrue result → Remembers self.new.names.items name.now stamp true }
+        ensures known { IsUnread self.old.names.items name.now stamp result }
+        ensures met { IsTrue result → Remembers self.new.names.items name.now stamp true }
     {
         let Some(at) = self.place_of(name) else {
             return false;

@@ -1,21 +1,22 @@
 //! Files of lines in a folder, read one after the other.
-ghost use Rattle.std.specs.Prelude.{◌≡◌, ◌≤◌, ◌⊎◌, ◌∷◌, [], IfOk, IsErr, None, Option, Result};
-ghost use Rattle.std.specs.Prelude.{false, length, string_bytes, take, true};
-ghost use Rattle.mot_endpoints.specs.LineFiles.{TakesAway};
+ghost use Rattle.std.specs.Prelude.{◌≡◌, ◌≤◌, ◌⊎◌, ◌∷◌, ◌++◌, [], ℕ, IfOk, IsErr, List, None, Option};
+ghost use Rattle.std.specs.Prelude.{Result, false, length, string_bytes, take, true};
+ghost use Rattle.mot_events.specs.Log.{HasGrown};
+ghost use Rattle.mot_endpoints.specs.LineFiles.{Leaves, TakesAway};
 ghost use Rattle.mot_endpoints.specs.Inner.Said.{Remembers};
 ghost use Rattle.mot_endpoints.specs.declared.said.Stamp.{Stamp};
-ghost use Rattle.mot_endpoints.specs.Spooling.{Finishes, FinishesFile, OnlyReads, Serves, ServesFile};
+ghost use Rattle.mot_endpoints.specs.Spooling.{Finishes, FinishesFile, Serves};
+ghost use Rattle.mot_endpoints.specs.Spooling.{ServesCount, ServesFile};
 ghost use Rattle.mot_files.specs.declared.system.Fault.{Fault};
-ghost use Rattle.std.specs.Io.{ReadsAtMost};
-ghost use Rattle.std.specs.Io.KnownBytes.{ReadConsumes};
 
-use crate::asked::Asked;
 use crate::finder::Finder;
 use crate::line_file::LineFile;
-use mot_files::System;
+use crate::line_notes::LineNotes;
+use mot_events::Tells;
+use mot_files::{Fault, System};
+use mot_shelf::{Inlet, LineCount};
 use std::alloc::Global;
-use std::cell::RefCell;
-use std::io::{self, Read, Write};
+use std::io;
 
 /// The end of a line that was not read to its end: with it no line asks for anything, since a
 /// carriage return belongs to the last word.
@@ -27,47 +28,54 @@ const TORN: [u8; 2] = [b'\r', b'\n'];
 /// is the last. One that can't be removed is the last, too: else its lines would come again and
 /// again.
 #[derive(Drop)]
-pub struct Spool<'a, S: System + Drop, W: Write + Drop> {
+pub struct Spool<'a, S: System + Drop> {
     /// What finds the files.
-    finder: Finder<'a, S, W>,
+    finder: Finder<'a, S>,
     /// The file that is read.
     open: Option<LineFile>,
     /// Whether the reading of a file failed within a line.
     is_torn: bool,
-    /// The lines whose replies come next.
-    asked: &'a RefCell<Asked>,
+    /// Whether that is a file of which nothing was given.
+    is_next: bool,
     /// Whether no more is read.
     pub is_stopped: bool,
+    /// What the reads gave.
+    lines: LineNotes,
 }
 
-impl<'a, S: System + Drop, W: Write + Drop> Spool<'a, S, W> {
+impl<'a, S: System + Drop> Spool<'a, S> {
     /// No file was read.
-    pub fn new(
-        system: S,
-        alloc: Global,
-        folder: &'a str,
-        log: W,
-        asked: &'a RefCell<Asked>,
-    ) -> Spool<'a, S, W>
+    pub fn new(system: S, alloc: Global, folder: &'a str) -> Spool<'a, S>
         ensures folder { result.finder.folder.now ≡ folder.now }
-        ensures log { result.finder.log ≡ log }
         ensures system { result.finder.system ≡ system }
         ensures goes { result.is_stopped ≡ false }
+        ensures none { result.lines.notes.all ≡ [] }
     {
         Spool {
-            finder: Finder::new(system, alloc, folder, log),
+            finder: Finder::new(system, alloc, folder),
             open: None,
             is_torn: false,
-            asked,
+            is_next: false,
             is_stopped: false,
+            lines: LineNotes::new(),
         }
+    }
+
+    /// What its reads gave.
+    pub fn into_lines(self) -> LineNotes
+        ensures { result ≡ self.entry.lines }
+    {
+        self.lines
     }
 
     /// The next bytes of the file that is open, or of the next one.
     fn read_on(&mut self, buf: &mut [u8]) -> io::Result<usize>
         ensures fits { IfOk result (λ count. count ≤ length buf.new) }
-        ensures serves { Serves self.old.is_torn self.new.is_torn self.old.«open» self.new.«open» result
-            buf.new (S.calls self.old.finder.system) (S.calls self.new.finder.system) }
+        ensures serves { Serves self.old.finder.folder.now self.old.is_torn self.new.is_torn
+            self.old.is_stopped self.old.«open» self.new.«open» result buf.new
+            (S.calls self.old.finder.system) (S.calls self.new.finder.system) }
+        ensures folder { self.new.finder.folder ≡ self.old.finder.folder }
+        ensures given { self.new.lines ≡ self.old.lines }
     {
         if self.is_torn {
             return Ok(self.end_torn(buf));
@@ -80,7 +88,7 @@ impl<'a, S: System + Drop, W: Write + Drop> Spool<'a, S, W> {
         }
         match self.finder.open_next() {
             Ok(Some(lines)) => {
-                begin(self.asked, lines.name.as_bytes());
+                self.is_next = true;
                 self.read_file(lines, buf)
             }
             Ok(None) => Ok(0),
@@ -95,6 +103,8 @@ impl<'a, S: System + Drop, W: Write + Drop> Spool<'a, S, W> {
         ensures serves { ServesFile lines self.new.«open» self.new.is_torn result
             buf.new
             (S.calls self.old.finder.system) (S.calls self.new.finder.system) }
+        ensures folder { self.new.finder.folder ≡ self.old.finder.folder }
+        ensures given { self.new.lines ≡ self.old.lines }
     {
         match lines.read(&mut self.finder.system, buf) {
             Ok(0) => {
@@ -103,11 +113,10 @@ impl<'a, S: System + Drop, W: Write + Drop> Spool<'a, S, W> {
             }
             Ok(count) => {
                 self.open = Some(lines);
-                note(self.asked, &buf[..count]);
                 Ok(count)
             }
             Err(fault) => {
-                self.leave_unread(&lines);
+                self.leave_unread(&lines, fault);
                 Err(fault.error())
             }
         }
@@ -120,25 +129,46 @@ impl<'a, S: System + Drop, W: Write + Drop> Spool<'a, S, W> {
             (S.calls self.old.finder.system) (S.calls self.new.finder.system)
             × (IsErr taken → self.new.is_stopped ≡ true) }
         ensures open { self.new.«open» ≡ self.old.«open» }
+        ensures folder { self.new.finder.folder ≡ self.old.finder.folder }
+        ensures given { self.new.lines ≡ self.old.lines }
     {
-        if lines.take_away(&mut self.finder.system).is_err() {
-            self.stop(lines.name.as_str());
+        match lines.take_away(&mut self.finder.system) {
+            Ok(()) => {}
+            Err(fault) => self.stop(lines.name.as_str(), fault),
         }
     }
 
     /// Leaves a file of which a read failed, and reads no more if it would not be known again.
-    fn leave_unread(&mut self, lines: &LineFile)
-        ensures reads { OnlyReads (S.calls self.old.finder.system)
-            (S.calls self.new.finder.system) }
+    fn leave_unread(&mut self, lines: &LineFile, fault: Fault)
+        ensures leaves { (stamp : Option Stamp) × Leaves lines.now.handle stamp
+            (S.calls self.old.finder.system) (S.calls self.new.finder.system) }
+        ensures folder { self.new.finder.folder ≡ self.old.finder.folder }
         ensures torn { self.new.is_torn ≡ lines.now.is_cut }
         ensures open { self.new.«open» ≡ self.old.«open» }
+        ensures given { self.new.lines ≡ self.old.lines }
         ensures known { self.new.is_stopped ≡ false → (stamp : Option Stamp) × Remembers
             self.new.finder.said.names.items (string_bytes lines.now.name) stamp true }
     {
         self.is_torn = lines.is_cut;
         let is_known = self.finder.leave_unread(lines);
         self.is_stopped = !is_known;
-        self.finder.tell_fault(lines.name.as_str());
+        self.finder.tell_fault(lines.name.as_str(), fault);
+    }
+
+    /// Begins the count of lines anew, if the bytes are the first of a file.
+    fn begin_count(&mut self, count: &mut LineCount)
+        ensures finder { self.new.finder ≡ self.old.finder }
+        ensures torn { self.new.is_torn ≡ self.old.is_torn }
+        ensures open { self.new.«open» ≡ self.old.«open» }
+        ensures given { self.new.lines ≡ self.old.lines }
+        ensures next { self.new.is_next ≡ false }
+    {
+        if self.is_next
+            && let Some(lines) = &self.open
+        {
+            count.begin(lines.name.as_bytes());
+        }
+        self.is_next = false;
     }
 
     /// Ends the line within which the reading of a file failed, so that none of its words counts.
@@ -148,6 +178,7 @@ impl<'a, S: System + Drop, W: Write + Drop> Spool<'a, S, W> {
         ensures finder { self.new.finder ≡ self.old.finder }
         ensures open { self.new.«open» ≡ self.old.«open» }
         ensures torn { (result ≡ 0) ⊎ (self.new.is_torn ≡ false) }
+        ensures given { self.new.lines ≡ self.old.lines }
     {
         if buf.len() < TORN.len() {
             return 0;
@@ -155,18 +186,19 @@ impl<'a, S: System + Drop, W: Write + Drop> Spool<'a, S, W> {
         self.is_torn = false;
         buf[0] = TORN[0];
         buf[1] = TORN[1];
-        note(self.asked, &TORN);
         TORN.len()
     }
 
     /// Reads no more, for this file's sake.
-    fn stop(&mut self, name: &str)
+    fn stop(&mut self, name: &str, fault: Fault)
         ensures system { self.new.finder.system ≡ self.old.finder.system }
         ensures open { self.new.«open» ≡ self.old.«open» }
+        ensures folder { self.new.finder.folder ≡ self.old.finder.folder }
+        ensures given { self.new.lines ≡ self.old.lines }
         ensures stops { self.new.is_stopped ≡ true }
     {
         self.is_stopped = true;
-        self.finder.tell_fault(name);
+        self.finder.tell_fault(name, fault);
     }
 
     /// The system of files.
@@ -178,24 +210,41 @@ impl<'a, S: System + Drop, W: Write + Drop> Spool<'a, S, W> {
 
     /// Ends the reading, once playing has ended and every line that was read was answered: a file
     /// that is at its end is taken away, and nothing more is read. One whose last line has no end
-    /// stays, since that line was not answered.
-    pub fn finish(&mut self)
+    /// stays, since that line was not answered. What is wrong is told.
+    pub fn finish<T: Tells>(&mut self, log: &mut T)
+        ensures given { self.new.lines ≡ self.old.lines }
         ensures finishes { Finishes self.old.«open» (S.calls self.old.finder.system)
             (S.calls self.new.finder.system) }
+        ensures folder { self.new.finder.folder ≡ self.old.finder.folder }
         ensures stops { self.new.is_stopped ≡ true }
+        ensures levels { T.log_has_levels log.new ≡ T.log_has_levels log.old }
+        ensures told { HasGrown (T.log_is_whole log.old) (T.log_is_whole log.new)
+            (T.log_has log.old) (T.log_has log.new) }
+    {
+        self.finish_open();
+        self.is_stopped = true;
+        self.finder.notices.tell(log);
+    }
+
+    /// Ends the reading of the file that is open, if one is.
+    fn finish_open(&mut self)
+        ensures folder { self.new.finder.folder ≡ self.old.finder.folder }
+        ensures given { self.new.lines ≡ self.old.lines }
+        ensures finishes { Finishes self.old.«open» (S.calls self.old.finder.system)
+            (S.calls self.new.finder.system) }
     {
         let Some(lines) = self.open.take() else {
-            self.is_stopped = true;
             return;
         };
         self.finish_file(&lines);
-        self.is_stopped = true;
     }
 
     /// Takes the file away if it is at its end, and its last line has one; else closes it.
     fn finish_file(&mut self, lines: &LineFile)
-        ensures { FinishesFile lines.now (S.calls self.old.finder.system)
+        ensures finishes { FinishesFile lines.now (S.calls self.old.finder.system)
             (S.calls self.new.finder.system) }
+        ensures folder { self.new.finder.folder ≡ self.old.finder.folder }
+        ensures given { self.new.lines ≡ self.old.lines }
     {
         if lines.is_cut {
             self.finder.system.close(lines.handle);
@@ -204,32 +253,33 @@ impl<'a, S: System + Drop, W: Write + Drop> Spool<'a, S, W> {
         let mut next = [0u8; 1];
         match self.finder.system.read(lines.handle, &mut next) {
             Ok(0) => self.take_away(lines),
-            _ => self.finder.system.close(lines.handle),
+            Ok(_) => self.finder.system.close(lines.handle),
+            Err(_) => self.finder.system.close(lines.handle),
         }
     }
 }
 
-impl<'a, S: System + Drop, W: Write + Drop> Read for Spool<'a, S, W> {
-    fn read(&mut self, buf: &mut [u8]) -> io::Result<usize>
-        ensures bound { ReadsAtMost result buf.new }
-        ensures bytes { ReadConsumes None None result buf.new }
-        ensures serves { Serves self.old.is_torn self.new.is_torn self.old.«open» self.new.«open» result
-            buf.new (S.calls self.old.finder.system) (S.calls self.new.finder.system) }
+impl<'a, S: System + Drop> Inlet for Spool<'a, S> {
+    ghost gave = { λ spool. spool.lines.notes.all };
+
+    fn read<T: Tells>(&mut self, room: &mut [u8], count: &mut LineCount, log: &mut T) -> usize
+        ensures fits { result ≤ length room.new }
+        ensures gave { self.new.lines.notes.all
+            ≡ self.old.lines.notes.all ++ take result room.new ∷ [] }
+        ensures levels { T.log_has_levels log.new ≡ T.log_has_levels log.old }
+        ensures told { HasGrown (T.log_is_whole log.old) (T.log_is_whole log.new)
+            (T.log_has log.old) (T.log_has log.new) }
+
+        // What is asked of the system for it.
+        ensures serves { ServesCount self.old.finder.folder.now self.old.is_torn
+            self.new.is_torn self.old.is_stopped self.old.«open» self.new.«open» result room.new
+            (S.calls self.old.finder.system) (S.calls self.new.finder.system) }
+        ensures folder { self.new.finder.folder ≡ self.old.finder.folder }
     {
-        self.read_on(buf)
-    }
-}
-
-/// Notes that the lines of the file of this name are read.
-fn begin(asked: &RefCell<Asked>, name: &[u8]) {
-    if let Ok(mut asked) = asked.try_borrow_mut() {
-        asked.begin(name);
-    }
-}
-
-/// Notes that these bytes of it were read.
-fn note(asked: &RefCell<Asked>, bytes: &[u8]) {
-    if let Ok(mut asked) = asked.try_borrow_mut() {
-        asked.read(bytes);
+        let read = self.read_on(room).unwrap_or(0);
+        self.begin_count(count);
+        self.lines.note(&room[..read]);
+        self.finder.notices.tell(log);
+        read
     }
 }

@@ -1,8 +1,9 @@
 //! What a station has of the system to come to its files by: the commands on air open nothing but
 //! through it.
-ghost use Rattle.std.specs.Prelude.{◌≡◌, ◌≢◌, ◌≤◌, ◌∷◌, ◌++◌, [], None, Some, IfOk, MatchResult};
+ghost use Rattle.std.specs.Prelude.{◌≡◌, ◌≢◌, ◌≤◌, ◌∷◌, ◌++◌, [], None, Ok, Some, IfOk, MatchResult};
 ghost use Rattle.std.specs.Prelude.{codes, false, length};
 ghost use Rattle.disk_store.specs.Beginning.{IsFirst};
+ghost use Rattle.mot_endpoints.specs.LinePlaces.{ChecksLines};
 ghost use Rattle.mot_endpoints.specs.Packets.{IsTarget, OpensInto, begun_of, target_of};
 
 use crate::fault::{Cause, LinesFault, TypesFault};
@@ -113,6 +114,8 @@ impl<'a> Station<'a> {
         ensures opened { MatchResult result
             (λ _. self.new.opened.all ≡ self.old.opened.all ++ (codes "lines", path.now) ∷ [])
             (λ _. self.new.opened.all ≡ self.old.opened.all) }
+        ensures checked { IfOk result (λ place. ChecksLines path.now others.entry (Ok tt)
+            [] place.system.calls.all) }
     {
         let mut system = HostSystem::new(self.rt, self.rt.alloc(), self.rt.stdout());
         check_folder(&mut system, path, others)?;

@@ -1,11 +1,12 @@
 //! The file that monitoring reads.
-ghost use Rattle.std.specs.Prelude.{◌≡◌, ◌++◌, IfSome, MatchOption, codes, string_bytes};
+ghost use Rattle.std.specs.Prelude.{◌≡◌, ◌++◌, ◌∷◌, [], IfSome, MatchOption, codes, string_bytes};
+ghost use Rattle.mot_files.specs.Call.{told_time};
 ghost use Rattle.mot_endpoints.specs.Status.{ChecksPlace, WritesStatus};
 
 use crate::beside::{SUFFIX, is_of_disk};
 use crate::fault::PacketsFault;
 use crate::new_file::{clear, find};
-use mot_files::{System, replace};
+use mot_files::{System, Time, replace};
 use std::alloc::{AllocError, Global};
 
 /// A file of which a reader always sees a whole text.
@@ -34,6 +35,16 @@ impl<'a, S: System + Drop> StatusFile<'a, S> {
             disk,
             beside: path_beside(alloc, path),
         }
+    }
+
+    /// The time of day, if the system knows it.
+    pub fn now(&mut self) -> Option<Time>
+        ensures calls { S.calls self.new.system ≡ S.calls self.old.system ++ told_time result ∷ [] }
+        ensures path { self.new.path ≡ self.old.path }
+        ensures disk { self.new.disk ≡ self.old.disk }
+        ensures beside { self.new.beside ≡ self.old.beside }
+    {
+        self.system.now()
     }
 
     /// Writes the text beside the file, and puts it in its place. Neither is synced: after a power

@@ -55,17 +55,17 @@ module _ {D : Type 0} (state : D → State) where
 
   -- lines that were taken tell of their commands
   pub updating_lines : (old new : ServerView D) (s : Standing) (fault : Option Refusal)
-      (hand then_hand : List ℕ) (earlier later : List (List ℕ)) (was_told is_told : Bool)
-      (written now : Option (List ℕ))
+      (hand then_hand : List ℕ) (earlier later : List (List ℕ))
+      (levels was_whole is_whole : Bool) (written now : Option (List ℕ))
       → Holds old.view s (state old.disk) → (state new.disk).IsHonest
       → IsUpdating (λ _ _ _ _. ⊤) old new (state old.disk) (state new.disk) s fault
       → ((input : List ℕ) → hand ≡ bytes_in_hand (rest_of input)
       → (more : List ℕ) × (later ≡ earlier ++ more ∷ [])
-      × TakesMore state old new input more fault then_hand was_told is_told written now)
+      × TakesMore state old new input more fault then_hand levels was_whole is_whole written now)
       → IsUpdating (λ _. TellsLines hand then_hand earlier later) old new (state old.disk)
       (state new.disk) s fault
-  updating_lines old new s fault hand then_hand earlier later was_told is_told written now holds
-      honest anyhow takes =
+  updating_lines old new s fault hand then_hand earlier later levels was_whole is_whole written now
+      holds honest anyhow takes =
       cases (bytes_eq hand (bytes_in_hand (rest_of hand))) (bytes_eq-Decides hand _)
     where
       of_these : IsInHand hand → IsUpdating (λ _. TellsLines hand then_hand earlier later) old new

@@ -2,3 +2,4 @@ pub mod Between
 pub mod Commands
 pub mod Requests
 pub mod Taken
+pub mod Told

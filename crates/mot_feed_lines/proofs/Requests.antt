@@ -2,12 +2,11 @@
 use Rattle.std.proofs.Common.{◌≡◌, inl, inr, ℕ, Bool, true, false, List, [], Option}
 use Rattle.std.proofs.Common.{◌∷◌, None, Result, Ok, Err, refl, sym, ap, subst, ◌∙◌}
 use Rattle.std.specs.Prelude.{if◌then◌else◌}
-use Rattle.std.specs.Io.KnownBytes.{Keeps}
-use Rattle.std.proofs.KnownBytes.{Appends-kept}
 use Rattle.disk_model.specs.Disk.{State, IsHonestDisk}
 use Rattle.disk_model.proofs.Laws.{unchanged_none}
 use Rattle.mot_feed_lines.specs.Answering.{asked_here, is_want_of_memory, run_of}
-use Rattle.mot_feed_lines.specs.Inner.Request.{HasAnswered, TellsThere, done_of}
+use Rattle.mot_feed_lines.specs.Inner.Request.{HasAnswered, done_of}
+use Rattle.mot_feed_lines.specs.Logged.{LogHas}
 use Rattle.mot_feed_lines.proofs.Commands.{out_of_memory_is_told}
 use Rattle.mot_lines.specs.Line.{IsParsed, NeedsMemory}
 use Rattle.mot_lines.specs.Text.{refusal_line}
@@ -22,31 +21,15 @@ use Rattle.mot_server.specs.Server.{ServerView}
 use Rattle.mot_session.specs.Life.{is_done}
 use Rattle.mot_session.specs.OnAnyDisk.{AnswersAnyhow, read_only}
 use Rattle.mot_session.specs.OnAnyDisk as anyhow
-use Rattle.mot_session.specs.Output.{Writes}
-use Rattle.mot_session.specs.Served.{WritesFront}
 use Rattle.mot_session.specs.Session.{NeedsCarousel}
 use Rattle.mot_session.specs.Stored.{command_in}
-use Rattle.mot_session.proofs.Laws.{WritesFront-all, answers-parsed}
+use Rattle.mot_session.proofs.Laws.{answers-parsed}
 use Rattle.mot_update.specs.HasRun.{HasRun}
 use Rattle.mot_update.proofs.Laws.{has_read}
 
 -- false is not true
 pub never : false ≡ true → ⊥
 never e = absurd (cc)
-
--- ---- what was written
-
--- whatever came of writing, some first bytes were written, and stay so
-pub front_of : {T E : Type 0} (r : Result T E) (bytes : List ℕ) (old mid new : Option (List ℕ))
-    → Writes r bytes old mid → Keeps mid new → WritesFront bytes old new
-front_of (Ok done) bytes old mid new whole keeps =
-    WritesFront-all bytes old new (Appends-kept old mid new bytes whole keeps)
-front_of (Err fault) bytes old mid new front keeps = record {
-  written = front.written;
-  unwritten = front.unwritten;
-  split = front.split;
-  appended = Appends-kept old mid new front.written front.appended keeps;
-}
 
 -- ---- a request that is shown
 
@@ -78,15 +61,17 @@ runs_none request text =
 
 -- a request that was answered where the server is only read is answered here, with no fault
 pub shown : {D : Type 0} (state : D → State) (server : ServerView D)
-    (request : Result Line Refusal) (was_told is_told : Bool) (written now : Option (List ℕ))
-    → ((state server.disk).IsHonest → IsHonestDisk (state server.disk))
+    (request : Result Line Refusal) (hand : List ℕ) (levels was_whole is_whole : Bool)
+    (written now : Option (List ℕ)) → ((state server.disk).IsHonest → IsHonestDisk (state server.disk))
     → asked_here request ≡ read_only request
     → ((text : List ℕ) × AnswersAnyhow server.view server.view (state server.disk).failures
     (state server.disk).failures (read_only request) text
-    × TellsThere was_told is_told written now text)
-    → HasAnswered state server server (asked_here request) None was_told is_told written now
-shown state server request was_told is_told written now sound same told =
-    subst (λ r. HasAnswered state server server r None was_told is_told written now) (sym same)
+    × LogHas levels hand text was_whole is_whole written now)
+    → HasAnswered state server server (asked_here request) hand None levels was_whole is_whole
+    written now
+shown state server request hand levels was_whole is_whole written now sound same told =
+    subst (λ r. HasAnswered state server server r hand None levels was_whole is_whole written now)
+    (sym same)
     (record {
       text = told.0;
       reply = told.1;
@@ -160,11 +145,11 @@ same_done old new before now text request asked (inr e) reply =
 
 -- an answer to what was parsed is one to what was asked
 pub parsed : {D : Type 0} (state : D → State) (old new : ServerView D)
-    (request asked : Result Line Refusal) (fault : Option Refusal) (was_told is_told : Bool)
-    (written now : Option (List ℕ)) → IsParsed request asked
-    → HasAnswered state old new (asked_here request) fault was_told is_told written now
-    → HasAnswered state old new (asked_here asked) fault was_told is_told written now
-parsed state old new request asked fault was_told is_told written now is a =
+    (request asked : Result Line Refusal) (hand : List ℕ) (fault : Option Refusal)
+    (levels was_whole is_whole : Bool) (written now : Option (List ℕ)) → IsParsed request asked
+    → HasAnswered state old new (asked_here request) hand fault levels was_whole is_whole written now
+    → HasAnswered state old new (asked_here asked) hand fault levels was_whole is_whole written now
+parsed state old new request asked hand fault levels was_whole is_whole written now is a =
     let here = parsed_here request asked is in
     record {
       text = a.text;

@@ -3,16 +3,16 @@ use Rattle.std.proofs.Common.{◌≡◌, ◌∙◌, ℕ, Bool, List, [], ◌∷�
 use Rattle.std.proofs.Common.{refl, sym, ap, subst, append_assoc, append-nil, arith}
 use Rattle.std.specs.Prelude.{if◌then◌else◌, Result, Ok, Err}
 use Rattle.std.specs.List.{flat_map}
-use Rattle.std.specs.Io.KnownBytes.{Appends}
 use Rattle.std.proofs.KnownBytes.{Appends-nil, Appends-trans}
 use Rattle.std.proofs.lemmas.Grind.{flat_map-append}
 use Rattle.std.proofs.lemmas.List.{map-append}
 use Rattle.std.proofs.lemmas.List.Concat.{flat_map-cons}
 use Rattle.disk_model.specs.Disk.{State, IsHonestDisk}
 use Rattle.disk_model.proofs.Laws.{unchanged_none}
-use Rattle.mot_feed_lines.specs.Answering.{AnswersMore, AreReplies, TakesMore, asked_here}
-use Rattle.mot_feed_lines.specs.Answering.{commands_run, run_in}
+use Rattle.mot_feed_lines.specs.Answering.{AnswersMore, AreLogged, AreReplies, TakesMore}
+use Rattle.mot_feed_lines.specs.Answering.{asked_here, commands_run, run_in}
 use Rattle.mot_feed_lines.specs.Inner.Request.{HasAnswered, done_of}
+use Rattle.mot_feed_lines.specs.Logged.{IsLogged}
 use Rattle.mot_lines.specs.Hand.{bytes_in_hand}
 use Rattle.mot_lines.specs.Line.{line_of}
 use Rattle.mot_lines.specs.Lines.{rest_of, whole_lines}
@@ -25,8 +25,6 @@ use Rattle.mot_server.specs.Runs.{accepted_commands}
 use Rattle.mot_server.specs.Server.{ServerView}
 use Rattle.mot_session.specs.Life.{Told, commands_done, done_in, is_done}
 use Rattle.mot_session.specs.OnAnyDisk.{AnswersAnyhow}
-use Rattle.mot_session.specs.Served.{WritesFront}
-use Rattle.mot_session.proofs.Laws.{WritesFront-after}
 use Rattle.mot_session.specs.Stored.{command_in}
 use Rattle.mot_update.specs.HasRun.{HasRun}
 use Rattle.mot_update.proofs.Laws.{has_read, join}
@@ -89,34 +87,48 @@ done_here : (line text : List ℕ) → done_of (asked_here (line_of line)) text
 done_here line text =
     ap (λ l. if is_done text then l else []) (same_command (line_of line))
 
+-- a log of lines and replies, and that of one more
+logged-push : (levels : Bool) (told : List Told) (t : Told) (bytes more : List ℕ)
+    → AreLogged levels told bytes → IsLogged levels (bytes_in_hand t.line) t.text more
+    → AreLogged levels (told ++ t ∷ []) (bytes ++ more)
+logged-push levels [] t bytes more none one = (
+  more,
+  [],
+  one,
+  refl,
+  ap (λ l. l ++ more) none ∙ sym (append-nil more),
+)
+logged-push levels (first ∷ told) t bytes more is one = (
+  is.0,
+  is.1 ++ more,
+  is.2,
+  logged-push levels told t is.1 more is.3 one,
+  ap (λ l. l ++ more) is.4 ∙ append_assoc is.0 is.1 more,
+)
+
 module _ {D : Type 0} (state : D → State) where
-  replies-push : (old mid new : ServerView D) (written so_far now : Option (List ℕ))
-      (told : List Told) (t : Told) → AreReplies state old written told mid so_far
+  replies-push : (old mid new : ServerView D) (told : List Told) (t : Told)
+      → AreReplies state old told mid
       → AnswersAnyhow mid.view new.view (state mid.disk).failures (state new.disk).failures
-      (asked_here (line_of t.line)) t.text → WritesFront t.text so_far now
-      → AreReplies state old written (told ++ t ∷ []) new now
-  replies-push old mid new written so_far now [] t none reply front = (
+      (asked_here (line_of t.line)) t.text → AreReplies state old (told ++ t ∷ []) new
+  replies-push old mid new [] t none reply = (
     new,
-    now,
     subst (λ (v : ServerView D). AnswersAnyhow v.view new.view (state v.disk).failures
-        (state new.disk).failures (asked_here (line_of t.line)) t.text) none.0 reply,
-    WritesFront-after [] t.text written so_far now none.1 front,
-    (refl, Appends-nil now),
+        (state new.disk).failures (asked_here (line_of t.line)) t.text) none reply,
+    refl,
   )
-  replies-push old mid new written so_far now (first ∷ told) t replies reply front = (
+  replies-push old mid new (first ∷ told) t replies reply = (
     replies.0,
     replies.1,
-    replies.2,
-    replies.3,
-    replies-push replies.0 mid new replies.1 so_far now told t replies.4 reply front,
+    replies-push replies.0 mid new told t replies.2 reply,
   )
 
   -- no line has ended
-  pub more_none : (server : ServerView D) (before after : List ℕ) (is_told : Bool)
+  pub more_none : (server : ServerView D) (before after : List ℕ) (levels is_whole : Bool)
       (known : Option (List ℕ)) → ((state server.disk).IsHonest → IsHonestDisk (state server.disk))
       → whole_lines after ≡ whole_lines before
-      → AnswersMore state server server before after None is_told is_told known known
-  more_none server before after is_told known sound same = record {
+      → AnswersMore state server server before after None levels is_whole is_whole known known
+  more_none server before after levels is_whole known sound same = record {
     told = [];
     ended = record {
       unanswered = [];
@@ -124,22 +136,22 @@ module _ {D : Type 0} (state : D → State) where
           ∙ sym (append-nil (whole_lines before ++ []));
       whole = λ e. refl;
     };
-    replies = (refl, Appends-nil known);
+    replies = refl;
     run = λ s holds honest. (
       [],
       refl,
       (has_read server server (state server.disk) (state server.disk) s None (sound honest) refl
           refl honest (unchanged_none (state server.disk)) holds).0,
     );
-    log = λ e. (e, Appends-nil known);
+    log = λ e. (e, [], refl, Appends-nil known);
   }
 
   -- nor has any behind these
-  pub more_rest : (old new : ServerView D) (before after rest : List ℕ) (was_told is_told : Bool)
-      (written now : Option (List ℕ)) → whole_lines rest ≡ whole_lines after
-      → AnswersMore state old new before after None was_told is_told written now
-      → AnswersMore state old new before rest None was_told is_told written now
-  more_rest old new before after rest was_told is_told written now same more = record {
+  pub more_rest : (old new : ServerView D) (before after rest : List ℕ)
+      (levels was_whole is_whole : Bool) (written now : Option (List ℕ)) → whole_lines rest ≡ whole_lines after
+      → AnswersMore state old new before after None levels was_whole is_whole written now
+      → AnswersMore state old new before rest None levels was_whole is_whole written now
+  more_rest old new before after rest levels was_whole is_whole written now same more = record {
     told = more.told;
     ended = record {
       unanswered = more.ended.unanswered;
@@ -153,17 +165,17 @@ module _ {D : Type 0} (state : D → State) where
 
   -- one line more
   pub more_one : (old mid new : ServerView D) (before until after line : List ℕ)
-      (extra : List (List ℕ)) (fault : Option Refusal) (was_told told_so is_told : Bool)
-      (written between now : Option (List ℕ))
+      (extra : List (List ℕ)) (fault : Option Refusal)
+      (levels was_whole whole_so is_whole : Bool) (written between now : Option (List ℕ))
       → ((state new.disk).IsHonest → (state mid.disk).IsHonest)
       → whole_lines after ≡ whole_lines until ++ line ∷ extra → (fault ≡ None → extra ≡ [])
-      → AnswersMore state old mid before until None was_told told_so written between
-      → HasAnswered state mid new (asked_here (line_of line)) fault told_so is_told between now
-      → AnswersMore state old new before after fault was_told is_told written now
-  more_one old mid new before until after line extra fault was_told told_so is_told written between
-      now was same none more one =
+      → AnswersMore state old mid before until None levels was_whole whole_so written between
+      → HasAnswered state mid new (asked_here (line_of line)) (bytes_in_hand line) fault levels
+      whole_so is_whole between now
+      → AnswersMore state old new before after fault levels was_whole is_whole written now
+  more_one old mid new before until after line extra fault levels was_whole whole_so is_whole
+      written between now was same none more one =
       let t : Told = record { line = line; text = one.text } in
-      let text : Told → List ℕ = λ (u : Told). u.text in
       let lines : List (List ℕ) =
       whole_lines before ++ map (λ (u : Told). u.line) more.told in
       let so_far : whole_lines until ≡ lines =
@@ -176,8 +188,7 @@ module _ {D : Type 0} (state : D → State) where
               ∙ lines-push (whole_lines before) extra more.told t;
           whole = none;
         };
-        replies = replies-push old mid new written between now more.told t more.replies one.reply
-            one.log.0;
+        replies = replies-push old mid new more.told t more.replies one.reply;
         run = λ s holds honest.
             let first = more.run s holds (was honest) in
             let second = one.run first.2.leaves.last (first.2.leaves.going refl) honest in (
@@ -195,24 +206,27 @@ module _ {D : Type 0} (state : D → State) where
                   (commands_run more.told) (run_in t) first.0 second.0 fault first.2 second.2),
             );
         log = λ e.
-            let last = one.log.1 e in
+            let last = one.log e in
             let first = more.log last.0 in (
               first.0,
-              subst (Appends written now) (sym (flat_map-push text more.told t))
-                  (Appends-trans written between now (flat_map text more.told) one.text first.1
-                  last.1),
+              first.1 ++ last.1,
+              logged-push levels more.told t first.1 last.1 first.2 last.2,
+              Appends-trans written between now first.1 last.1 first.3 last.3,
             );
       }
 
   -- nothing was taken
-  pub takes_none : (server : ServerView D) (before hand : List ℕ) (is_told : Bool)
+  pub takes_none : (server : ServerView D) (before hand : List ℕ) (levels is_whole : Bool)
       (known : Option (List ℕ))
       → ((state server.disk).IsHonest → IsHonestDisk (state server.disk))
       → hand ≡ bytes_in_hand (rest_of before)
-      → TakesMore state server server before [] None hand is_told is_told known known
-  takes_none server before hand is_told known sound is = record {
+      → TakesMore state server server before [] None hand levels is_whole is_whole known known
+  takes_none server before hand levels is_whole known sound is = record {
     short = omega arith;
-    answers = more_none server before (before ++ []) is_told known sound
+    whole_so = is_whole;
+    so_far = known;
+    read = λ e. (e, [], Appends-nil known);
+    answers = more_none server before (before ++ []) levels is_whole known sound
         (ap whole_lines (append-nil before));
     in_hand = λ e. is ∙ ap (λ l. bytes_in_hand (rest_of l)) (sym (append-nil before));
   }

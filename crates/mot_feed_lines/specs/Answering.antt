@@ -5,6 +5,8 @@ use Rattle.std.specs.Prelude.{length, map, Option, None, Result, Ok, zero, suc}
 use Rattle.std.specs.List.{flat_map}
 use Rattle.std.specs.Io.KnownBytes.{Appends}
 use Rattle.disk_model.specs.Disk.{State}
+use Rattle.mot_events.specs.Log.{HasGrown}
+use Rattle.mot_feed_lines.specs.Logged.{IsLogged}
 use Rattle.mot_journal.specs.Image.{Standing}
 use Rattle.mot_lines.specs.Hand.{bytes_in_hand}
 use Rattle.mot_lines.specs.Line.{line_of}
@@ -21,7 +23,6 @@ use Rattle.mot_server.specs.Runs.{accepted_commands}
 use Rattle.mot_server.specs.Server.{ServerView}
 use Rattle.mot_session.specs.Life.{Told, commands_done}
 use Rattle.mot_session.specs.OnAnyDisk.{AnswersAnyhow, read_only}
-use Rattle.mot_session.specs.Served.{WritesFront}
 use Rattle.mot_session.specs.Stored.{command_in}
 use Rattle.mot_session.specs.declared.serving.TheConstants.{READ_SIZE}
 use Rattle.mot_update.specs.Between.{IsUpdating, Telling}
@@ -115,45 +116,55 @@ TellsOnTime between then_between left then_left hand then_hand earlier later oth
     (then_between ≡ between)
     × TellsInTurn between left then_left hand then_hand earlier later other c commands marks fault
 
+-- what a log has of these lines and replies, one after the other
+abbrev pub AreLogged : (levels : Bool) → List Told → (bytes : List ℕ) → Type 0
+AreLogged levels [] bytes = bytes ≡ []
+AreLogged levels (t ∷ told) bytes =
+    (first rest : List ℕ) × IsLogged levels (bytes_in_hand t.line) t.text first
+    × AreLogged levels told rest × (bytes ≡ first ++ rest)
+
 module _ {D : Type 0} (state : D → State) where
-  -- one after the other each reply is, on every disk, right for what the server kept in memory, and
-  -- it was written, or some first bytes of it
-  abbrev pub AreReplies : (old : ServerView D) (written : Option (List ℕ)) → List Told
-      → (new : ServerView D) (now : Option (List ℕ)) → Type 0
-  AreReplies old written [] new now = (new ≡ old) × Appends written now []
-  AreReplies old written (t ∷ told) new now =
-      (mid : ServerView D) × (so_far : Option (List ℕ))
+  -- one after the other each reply is, on every disk, right for what the server kept in memory
+  abbrev pub AreReplies : (old : ServerView D) → List Told → (new : ServerView D) → Type 0
+  AreReplies old [] new = new ≡ old
+  AreReplies old (t ∷ told) new =
+      (mid : ServerView D)
       × AnswersAnyhow old.view mid.view (state old.disk).failures (state mid.disk).failures
       (asked_here (line_of t.line)) t.text
-      × WritesFront t.text written so_far × AreReplies mid so_far told new now
+      × AreReplies mid told new
 
   -- Of an input that was taken before, each line that has ended since was answered, up to a fault;
-  -- their commands were run, of which those were accepted whose replies say so; and, where each
-  -- reply was told, the log has them whole.
+  -- their commands were run, of which those were accepted whose replies say so; and, where the log
+  -- is whole, it has each of them with its reply, and nothing else.
   pub record AnswersMore (old new : ServerView D) (before after : List ℕ) (fault : Option Refusal)
-      (was_told is_told : Bool) (written now : Option (List ℕ)) : Type 0 where
+      (levels was_whole is_whole : Bool) (written now : Option (List ℕ)) : Type 0 where
     pub told : List Told
     pub ended : HaveEnded before after told fault
-    pub replies : AreReplies old written told new now
+    pub replies : AreReplies old told new
     pub run : (s : Standing) → Holds old.view s (state old.disk) → (state new.disk).IsHonest
         → (marks : List Bool)
         × (accepted_commands (commands_run told) marks ≡ commands_done told)
         × HasRun old new (state old.disk) (state new.disk) s (commands_run told) marks fault
-    pub log : is_told ≡ true → (was_told ≡ true)
-        × Appends written now (flat_map (λ (t : Told). t.text) told)
+    pub log : is_whole ≡ true → (was_whole ≡ true) × (bytes : List ℕ)
+        × AreLogged levels told bytes × Appends written now bytes
 
-  -- A read gave so much more of an input, of which the rest behind its last line end was in hand;
-  -- its lines were answered; and then the new rest is in hand.
+  -- A read gave so much more of an input, of which the rest behind its last line end was in hand,
+  -- and told what is wrong with files; its lines were answered; and then the new rest is in hand.
   pub record TakesMore (old new : ServerView D) (before more : List ℕ) (fault : Option Refusal)
-      (hand : List ℕ) (was_told is_told : Bool) (written now : Option (List ℕ)) : Type 0 where
+      (hand : List ℕ) (levels was_whole is_whole : Bool) (written now : Option (List ℕ)) :
+      Type 0 where
     pub short : length more ≤ READ_SIZE
-    pub answers : AnswersMore old new before (before ++ more) fault was_told is_told written now
+    pub whole_so : Bool
+    pub so_far : Option (List ℕ)
+    pub read : HasGrown was_whole whole_so written so_far
+    pub answers : AnswersMore old new before (before ++ more) fault levels whole_so is_whole so_far
+        now
     pub in_hand : fault ≡ None → hand ≡ bytes_in_hand (rest_of (before ++ more))
 
   -- Another update was called, and then more was taken of one read, or nothing was read.
   pub record TakesBetween (other : Telling) (old new : ServerView D) (before : List ℕ)
-      (earlier later : List (List ℕ)) (hand : List ℕ) (was_told is_told : Bool)
-      (written now : Option (List ℕ)) : Type 0 where
+      (earlier later : List (List ℕ)) (hand : List ℕ) (is_whole : Bool) (now : Option (List ℕ)) :
+      Type 0 where
     pub mid : ServerView D
     pub stopped : Option Refusal
     pub updated : (s : Standing) → Holds old.view s (state old.disk) → (state mid.disk).IsHonest
@@ -161,4 +172,7 @@ module _ {D : Type 0} (state : D → State) where
     pub more : List ℕ
     pub given : (later ≡ earlier ++ more ∷ []) ⊎ ((later ≡ earlier) × (more ≡ []))
     pub fault : Option Refusal
-    pub takes : TakesMore mid new before more fault hand was_told is_told written now
+    pub levels : Bool
+    pub was_whole : Bool
+    pub written : Option (List ℕ)
+    pub takes : TakesMore mid new before more fault hand levels was_whole is_whole written now

@@ -1,2 +1,3 @@
 pub mod Answering
 pub mod Inner
+pub mod Logged

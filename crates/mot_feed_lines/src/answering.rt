@@ -2,7 +2,7 @@
 ghost use Rattle.std.specs.Prelude.{◌≡◌, ◌++◌, ◌∷◌, ℕ, List, [], Ok, Err, None, IfNone, IfSome, ⊤};
 ghost use Rattle.disk_model.specs.Disk.{KeepsLength};
 ghost use Rattle.mot_feed_lines.specs.Answering.{AnswersMore, TakesMore, TellsLines, asked_here};
-ghost use Rattle.mot_feed_lines.specs.Inner.Request.{HasAnswered, end_of, reply_of};
+ghost use Rattle.mot_feed_lines.specs.Inner.Request.{HasAnswered, end_of};
 ghost use Rattle.mot_update.specs.Between.{IsUpdating};
 ghost use Rattle.mot_server.specs.Attempts.{fault_of};
 ghost use Rattle.mot_journal.specs.Image.{Standing};
@@ -14,27 +14,28 @@ ghost use Rattle.mot_repository.specs.Repository.{Holds};
 ghost use Rattle.mot_session.specs.OnAnyDisk.{read_only};
 ghost use Rattle.mot_update.specs.Faults.{TellsFaults};
 
-use crate::Log;
+use crate::intake::Intake;
+use crate::telling::{show, tell_attempt, tell_refused};
 use disk_model::Disk;
-use mot_lines::{Hand, Line, TextLine, cut_at_line_end, done_text, parse_line, refusal_text};
+use mot_events::{Tells, Why};
+use mot_lines::{Line, cut_at_line_end, parse_line};
 use mot_numbers::Refusal;
 use mot_objects::Command;
 use mot_server::{Attempt, Server};
 use mot_session::READ_SIZE;
 use mot_shelf::Inlet;
 use std::alloc::Global;
-use std::io::Write;
 
 /// Answers what there is of an inlet now, in one read of at most 4,096 bytes: each line that ends
 /// in it as `serve_line` does, except that a `next` and a `turn` line are refused `BadLine`. The
 /// bytes after the last line end stay in hand. An inlet that gives nothing ends nothing, nor does a
 /// command for which memory runs out. The errors are `DeviceFault` and `Halted`, those of the last
 /// line that was answered; the rest of what was read is lost.
-pub fn answer_there<R: Inlet, W: Write + Drop, D: Disk>(
+pub fn answer_there<R: Inlet, T: Tells, D: Disk>(
     alloc: Global,
     reader: &mut R,
-    hand: &mut Hand,
-    log: &mut Log<W>,
+    intake: &mut Intake,
+    log: &mut T,
     server: &mut Server<D>,
 ) -> Result<(), Refusal>
     ensures keeps { KeepsLength (D.state server.old.disk) (D.state server.new.disk) }
@@ -42,26 +43,27 @@ pub fn answer_there<R: Inlet, W: Write + Drop, D: Disk>(
         (D.state server.old.disk) (D.state server.new.disk) result }
     ensures run { (s : Standing) → Holds server.old.view s (D.state server.old.disk)
         → (D.state server.new.disk).IsHonest
-        → IsUpdating (λ _. TellsLines hand.old hand.new
+        → IsUpdating (λ _. TellsLines intake.old.hand intake.new.hand
         (R.gave reader.old) (R.gave reader.new)) server.old server.new
         (D.state server.old.disk) (D.state server.new.disk) s (fault_of result) }
-    ensures answered { (input : List ℕ) → hand.old ≡ bytes_in_hand (rest_of input)
+    ensures answered { (input : List ℕ) → intake.old.hand ≡ bytes_in_hand (rest_of input)
         → (more : List ℕ) × (R.gave reader.new ≡ R.gave reader.old ++ more ∷ [])
-        × TakesMore D.state server.old server.new input more (fault_of result) hand.new
-        log.old.is_told log.new.is_told
-        (W.contents log.old.writer) (W.contents log.new.writer) }
+        × TakesMore D.state server.old server.new input more (fault_of result) intake.new.hand
+        (T.log_has_levels log.old) (T.log_is_whole log.old)
+        (T.log_is_whole log.new) (T.log_has log.old) (T.log_has log.new) }
+    ensures levels { T.log_has_levels log.new ≡ T.log_has_levels log.old }
 {
     let mut chunk = [0u8; READ_SIZE];
-    let count = reader.read(&mut chunk);
-    answer_chunk(alloc, &chunk[..count], hand, log, server)
+    let count = reader.read(&mut chunk, &mut intake.count, log);
+    answer_chunk(alloc, &chunk[..count], intake, log, server)
 }
 
 /// Answers each line that ends in the chunk, and keeps the rest in hand.
-fn answer_chunk<W: Write + Drop, D: Disk>(
+fn answer_chunk<T: Tells, D: Disk>(
     alloc: Global,
     chunk: &[u8],
-    hand: &mut Hand,
-    log: &mut Log<W>,
+    intake: &mut Intake,
+    log: &mut T,
     server: &mut Server<D>,
 ) -> Result<(), Refusal>
     ensures keeps { KeepsLength (D.state server.old.disk) (D.state server.new.disk) }
@@ -71,30 +73,31 @@ fn answer_chunk<W: Write + Drop, D: Disk>(
         → (D.state server.new.disk).IsHonest
         → IsUpdating (λ _ _ _ _. ⊤) server.old server.new
         (D.state server.old.disk) (D.state server.new.disk) s (fault_of result) }
-    ensures answered { (input : List ℕ) → hand.old ≡ bytes_in_hand (rest_of input)
+    ensures answered { (input : List ℕ) → intake.old.hand ≡ bytes_in_hand (rest_of input)
         → AnswersMore D.state server.old server.new input (input ++ chunk.now) (fault_of result)
-        log.old.is_told log.new.is_told
-        (W.contents log.old.writer) (W.contents log.new.writer) }
+        (T.log_has_levels log.old) (T.log_is_whole log.old)
+        (T.log_is_whole log.new) (T.log_has log.old) (T.log_has log.new) }
+    ensures levels { T.log_has_levels log.new ≡ T.log_has_levels log.old }
     ensures in_hand { fault_of result ≡ None
-        → (input : List ℕ) → hand.old ≡ bytes_in_hand (rest_of input)
-        → hand.new ≡ bytes_in_hand (rest_of (input ++ chunk.now)) }
+        → (input : List ℕ) → intake.old.hand ≡ bytes_in_hand (rest_of input)
+        → intake.new.hand ≡ bytes_in_hand (rest_of (input ++ chunk.now)) }
 {
     let mut rest = chunk;
     while let Some((line, next)) = cut_at_line_end(rest) {
-        hand.add(line);
-        answer_line(alloc, hand, log, server)?;
-        hand.clear();
+        intake.hand.add(line);
+        answer_line(alloc, intake, log, server)?;
+        intake.hand.clear();
         rest = next;
     }
-    hand.add(rest);
+    intake.hand.add(rest);
     Ok(())
 }
 
 /// Answers the line in hand.
-fn answer_line<W: Write + Drop, D: Disk>(
+fn answer_line<T: Tells, D: Disk>(
     alloc: Global,
-    hand: &Hand,
-    log: &mut Log<W>,
+    intake: &mut Intake,
+    log: &mut T,
     server: &mut Server<D>,
 ) -> Result<(), Refusal>
     ensures keeps { KeepsLength (D.state server.old.disk) (D.state server.new.disk) }
@@ -104,33 +107,39 @@ fn answer_line<W: Write + Drop, D: Disk>(
         → (D.state server.new.disk).IsHonest
         → IsUpdating (λ _ _ _ _. ⊤) server.old server.new
         (D.state server.old.disk) (D.state server.new.disk) s (fault_of result) }
-    ensures answered { (line : List ℕ) → hand.now ≡ bytes_in_hand line
-        → HasAnswered D.state server.old server.new (asked_here (line_of line)) (fault_of result)
-        log.old.is_told log.new.is_told
-        (W.contents log.old.writer) (W.contents log.new.writer) }
+    ensures answered { (line : List ℕ) → intake.old.hand ≡ bytes_in_hand line
+        → HasAnswered D.state server.old server.new (asked_here (line_of line))
+        (bytes_in_hand line) (fault_of result)
+        (T.log_has_levels log.old) (T.log_is_whole log.old)
+        (T.log_is_whole log.new) (T.log_has log.old) (T.log_has log.new) }
+    ensures levels { T.log_has_levels log.new ≡ T.log_has_levels log.old }
+    ensures hand { intake.new.hand ≡ intake.old.hand }
 {
-    let request = parse_line(alloc, hand.as_slice());
-    answer_request(alloc, &request, log, server)
+    intake.count.add();
+    let request = parse_line(alloc, intake.hand.as_slice());
+    answer_request(alloc, &request, intake, log, server)
 }
 
 /// Answers what a line was parsed to ask for.
-fn answer_request<W: Write + Drop, D: Disk>(
+fn answer_request<T: Tells, D: Disk>(
     alloc: Global,
     request: &Result<Line, Refusal>,
-    log: &mut Log<W>,
+    intake: &Intake,
+    log: &mut T,
     server: &mut Server<D>,
 ) -> Result<(), Refusal>
     ensures keeps { KeepsLength (D.state server.old.disk) (D.state server.new.disk) }
     ensures faults { TellsFaults server.old server.new
         (D.state server.old.disk) (D.state server.new.disk) result }
     ensures answered { HasAnswered D.state server.old server.new (asked_here request.now)
-        (fault_of result) log.old.is_told log.new.is_told
-        (W.contents log.old.writer) (W.contents log.new.writer) }
+        intake.now.hand (fault_of result) (T.log_has_levels log.old) (T.log_is_whole log.old)
+        (T.log_is_whole log.new) (T.log_has log.old) (T.log_has log.new) }
+    ensures levels { T.log_has_levels log.new ≡ T.log_has_levels log.old }
 {
     match command_of(request) {
-        Some(command) => answer_command(alloc, command, log, server),
+        Some(command) => answer_command(alloc, command, intake, log, server),
         None => {
-            log.show(alloc, request, server);
+            show(alloc, request, intake, log, server);
             Ok(())
         }
     }
@@ -162,37 +171,28 @@ fn command_in(line: &Line) -> Option<&Command>
 }
 
 /// Does a command, and then answers what became of it.
-fn answer_command<W: Write + Drop, D: Disk>(
+fn answer_command<T: Tells, D: Disk>(
     alloc: Global,
     command: &Command,
-    log: &mut Log<W>,
+    intake: &Intake,
+    log: &mut T,
     server: &mut Server<D>,
 ) -> Result<(), Refusal>
     ensures keeps { KeepsLength (D.state server.old.disk) (D.state server.new.disk) }
     ensures faults { TellsFaults server.old server.new
         (D.state server.old.disk) (D.state server.new.disk) result }
     ensures answered { HasAnswered D.state server.old server.new (Ok (asks.Command command.now))
-        (fault_of result) log.old.is_told log.new.is_told
-        (W.contents log.old.writer) (W.contents log.new.writer) }
+        intake.now.hand (fault_of result) (T.log_has_levels log.old) (T.log_is_whole log.old)
+        (T.log_is_whole log.new) (T.log_has log.old) (T.log_has log.new) }
+    ensures levels { T.log_has_levels log.new ≡ T.log_has_levels log.old }
 {
     if server.halted() {
-        log.tell(refusal_text(Refusal::Halted).as_slice());
+        tell_refused(intake, log, Refusal::Halted, &Why::Unsaid);
         return Err(Refusal::Halted);
     }
     let attempt = server.attempt(alloc, command);
-    log.tell(reply_text(&attempt).as_slice());
+    tell_attempt(intake, log, &attempt);
     ended(attempt)
-}
-
-/// The reply to a command.
-fn reply_text(attempt: &Result<Attempt, Refusal>) -> TextLine
-    ensures { result.items ≡ reply_of attempt.now }
-{
-    match attempt {
-        Ok(Attempt::Accepted(done)) => done_text(*done),
-        Ok(Attempt::Refused(refusal)) => refusal_text(*refusal),
-        Err(refusal) => refusal_text(*refusal),
-    }
 }
 
 /// What a command ends. Running out of memory ends nothing.

@@ -10,71 +10,82 @@ ghost use Rattle.mot_lines.specs.Lines.{rest_of};
 ghost use Rattle.mot_repository.specs.Repository.{Holds};
 ghost use Rattle.mot_update.specs.Faults.{TellsFaults};
 
-use crate::{Log, answer_there};
+use crate::answering::answer_there;
+use crate::intake::Intake;
+use crate::reported::Reported;
 use disk_model::Disk;
 use mot_lines::Hand;
 use mot_numbers::Refusal;
 use mot_server::Server;
-use mot_shelf::Inlet;
-use mot_update::{Moment, Update};
+use mot_shelf::{Inlet, LineCount};
+use mot_update::{Facts, Moment, Update, Watch};
 use std::alloc::Global;
-use std::io::Write;
 
 /// Answers lines between packets: at its first call, before the first packet, and then at one call
 /// of every so many it answers what there is of the inlet, in one read, as `answer_there` does. At
-/// each call another update is called first.
+/// each call another update is called first, which is watched; what watches it is told of lines, too.
 #[derive(Drop)]
-pub struct Lines<R: Inlet + Drop, W: Write + Drop, U: Update + Drop> {
+pub struct Lines<R: Inlet + Drop, U: Update + Facts + Drop, T: Watch + Drop> {
     /// What gives the lines.
     pub reader: R,
-    /// What has come of the next line.
-    pub hand: Hand,
-    /// The log of replies.
-    pub log: Log<W>,
+    /// What has come of them.
+    pub intake: Intake,
     /// The other update.
-    pub update: U,
+    pub reported: Reported<U, T>,
     /// How many updates come between two that read.
     pub between: u32,
     /// How many updates come before the next that reads.
     pub left: u32,
 }
 
-impl<R: Inlet + Drop, W: Write + Drop, U: Update + Drop> Lines<R, W, U> {
+impl<R: Inlet + Drop, U: Update + Facts + Drop, T: Watch + Drop> Lines<R, U, T> {
     /// Nothing was read but what is in hand. 0 packets count as 1.
-    pub fn new(reader: R, hand: Hand, writer: W, every: u32, update: U) -> Lines<R, W, U>
-        ensures given { (result.reader ≡ reader) × (result.hand ≡ hand)
-            × (result.log.writer ≡ writer) × (result.update ≡ update) }
-        ensures told { result.log.is_told ≡ true }
+    pub fn new(
+        alloc: Global,
+        reader: R,
+        hand: Hand,
+        every: u32,
+        reported: Reported<U, T>,
+    ) -> Lines<R, U, T>
+        ensures given { (result.reader ≡ reader) × (result.intake.hand ≡ hand)
+            × (result.reported ≡ reported) }
         ensures due { result.left ≡ 0 }
         ensures every { result.between ≡ every - 1 }
     {
         Lines {
             reader,
-            hand,
-            log: Log {
-                writer,
-                is_told: true,
+            intake: Intake {
+                hand,
+                count: LineCount::new(alloc),
             },
-            update,
+            reported,
             between: every.saturating_sub(1),
             left: 0,
         }
     }
 
+    /// What gives the lines, and the other update.
+    pub fn into_parts(self) -> (R, U)
+        ensures reader { result.0 ≡ self.reader }
+        ensures update { result.1 ≡ self.reported.update }
+    {
+        (self.reader, self.reported.into_update())
+    }
+
     /// Whether each line of which something was read was read to its end, and so was answered.
     pub fn is_answered(&self) -> bool
-        ensures { (line : List ℕ) → self.now.hand ≡ bytes_in_hand line
+        ensures { (line : List ℕ) → self.now.intake.hand ≡ bytes_in_hand line
             → (IsTrue result ↔ (line ≡ [])) }
     {
-        self.hand.is_empty()
+        self.intake.hand.is_empty()
     }
 }
 
-impl<R: Inlet + Drop, W: Write + Drop, U: Update + Drop> Update for Lines<R, W, U> {
+impl<R: Inlet + Drop, U: Update + Facts + Drop, T: Watch + Drop> Update for Lines<R, U, T> {
     // What the other update tells; and, where a read was due, what the lines do behind it.
     ghost tells = { λ old new moment. TellsOnTime old.between new.between old.left new.left
-        old.hand new.hand (R.gave old.reader) (R.gave new.reader)
-        (U.tells old.update new.update moment) };
+        old.intake.hand new.intake.hand (R.gave old.reader) (R.gave new.reader)
+        (U.tells old.reported.update new.reported.update moment) };
 
     fn update<D: Disk>(
         &mut self,
@@ -88,26 +99,26 @@ impl<R: Inlet + Drop, W: Write + Drop, U: Update + Drop> Update for Lines<R, W, 
         ensures run { (s : Standing) → Holds server.old.view s (D.state server.old.disk)
             → (D.state server.new.disk).IsHonest
             → IsUpdating (TellsOnTime self.old.between self.new.between self.old.left self.new.left
-            self.old.hand self.new.hand (R.gave self.old.reader) (R.gave self.new.reader)
-            (U.tells self.old.update self.new.update moment))
+            self.old.intake.hand self.new.intake.hand (R.gave self.old.reader)
+            (R.gave self.new.reader)
+            (U.tells self.old.reported.update self.new.reported.update moment))
             server.old server.new (D.state server.old.disk) (D.state server.new.disk) s
             (fault_of result) }
 
         // It reads if a read is due, and else it only counts.
         ensures counts { 0 < self.old.left → (self.new.reader ≡ self.old.reader)
-            × (self.new.hand ≡ self.old.hand) × (self.new.log ≡ self.old.log)
+            × (self.new.intake ≡ self.old.intake)
             × OnOk result (self.new.left ≡ self.old.left - 1) }
         ensures reads { self.old.left ≡ 0 → OnOk result (self.new.left ≡ self.old.between) }
 
         // What the inlet gave was answered, and nothing else was.
-        ensures lines { (input : List ℕ) → self.old.hand ≡ bytes_in_hand (rest_of input)
-            → TakesBetween D.state (U.tells self.old.update self.new.update moment)
+        ensures lines { (input : List ℕ) → self.old.intake.hand ≡ bytes_in_hand (rest_of input)
+            → TakesBetween D.state (U.tells self.old.reported.update self.new.reported.update moment)
             server.old server.new input
-            (R.gave self.old.reader) (R.gave self.new.reader) self.new.hand
-            self.old.log.is_told self.new.log.is_told
-            (W.contents self.old.log.writer) (W.contents self.new.log.writer) }
+            (R.gave self.old.reader) (R.gave self.new.reader) self.new.intake.hand
+            (T.log_is_whole self.new.reported.watch) (T.log_has self.new.reported.watch) }
     {
-        self.update.update(server, alloc, moment)?;
+        self.reported.update(server, alloc, moment)?;
         if self.left > 0 {
             self.left -= 1;
             return Ok(());
@@ -116,8 +127,8 @@ impl<R: Inlet + Drop, W: Write + Drop, U: Update + Drop> Update for Lines<R, W, 
         answer_there(
             alloc,
             &mut self.reader,
-            &mut self.hand,
-            &mut self.log,
+            &mut self.intake,
+            &mut self.reported.watch,
             server,
         )
     }

@@ -7,3 +7,4 @@ pub mod Rows
 pub mod Seen
 pub mod Taken
 pub mod Unlisted
+pub mod Waiting

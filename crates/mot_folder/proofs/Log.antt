@@ -1,22 +1,24 @@
 -- What is told of a look, one thing after the other.
-use Rattle.std.proofs.Common.{◌≡◌, ◌∙◌, ◌++◌, ℕ, List, [], ◌∷◌, None, ap, append-nil, codes, map}
-use Rattle.std.proofs.Common.{refl, subst, sym}
+use Rattle.std.proofs.Common.{◌≡◌, ◌∙◌, ◌++◌, ◌||◌, Bool, true, false, not, ℕ, List, [], ◌∷◌, ap}
+use Rattle.std.proofs.Common.{append-nil, cond, map, refl, subst, sym}
 use Rattle.std.specs.Prelude.{filter}
 use Rattle.std.proofs.lemmas.List.{map-append}
 use Rattle.std.proofs.lemmas.List.Elements.{filter-append}
-use Rattle.mot_folder.specs.Log.{LogEntry, ReportTells, TellsAnswers, TellsOne, entry_with}
-use Rattle.mot_folder.specs.Log.{is_of_look, of_look, with_reason}
+use Rattle.mot_events.specs.Text.{event_of}
+use Rattle.mot_events.specs.declared.event.LookEvent.{LookEvent}
+use Rattle.mot_events.specs.declared.event.Met.{Met}
+use Rattle.mot_events.specs.declared.event.Met.TheVariants as met
+use Rattle.mot_folder.specs.Log.{ReportTells, TellsAnswers, TellsOne, is_note, is_of_file}
+use Rattle.mot_folder.specs.Log.{is_of_look, names_read, of_look, unreasoned}
 use Rattle.mot_folder.specs.declared.report.Report.{Report}
 use Rattle.mot_update.specs.Told.{TellsMore}
 
 -- of more entries those that are told of the look
-pub look-more : (entries more : List LogEntry)
+pub look-more : (entries more : List LookEvent)
     → of_look (entries ++ more) ≡ of_look entries ++ of_look more
 look-more entries more =
-    ap (λ (l : List LogEntry). map (λ (e : LogEntry). with_reason e None) l)
-    (filter-append is_of_look entries more)
-    ∙ map-append (λ (e : LogEntry). with_reason e None) (filter is_of_look entries)
-    (filter is_of_look more)
+    ap (λ (l : List LookEvent). map unreasoned l) (filter-append is_of_look entries more)
+    ∙ map-append unreasoned (filter is_of_look entries) (filter is_of_look more)
 
 -- a look that begins tells nothing
 pub tells_none : (report : Report) → ReportTells report [] → TellsAnswers report []
@@ -27,7 +29,7 @@ pub tells_same : (report : Report) → TellsMore (TellsAnswers report) (TellsAns
 tells_same report = λ answers told. subst (TellsAnswers report) (sym (append-nil answers)) told
 
 -- what is told beside the answers to commands is none
-tells_beside : (old new : Report) (last : LogEntry) → of_look (last ∷ []) ≡ []
+pub tells_beside : (old new : Report) (last : LookEvent) → of_look (last ∷ []) ≡ []
     → TellsOne old new last → TellsMore (TellsAnswers old) (TellsAnswers new) []
 tells_beside old new last none one = λ answers told.
     subst (TellsAnswers new) (sym (append-nil answers)) (record {
@@ -38,23 +40,52 @@ tells_beside old new last none one = λ answers told.
           ∙ append-nil (of_look told.entries) ∙ told.are;
     })
 
--- a file that was not taken is told
-pub tells_unread : (old new : Report) (name rest : List ℕ)
-    → TellsOne old new (entry_with (codes "read") name rest)
-    → TellsMore (TellsAnswers old) (TellsAnswers new) []
-tells_unread old new name rest one =
-    tells_beside old new (entry_with (codes "read") name rest) refl one
+module _ (name : List ℕ) (m : Met) where
+  -- what is told of a file is told of no command, and of its name
+  pub file_beside : is_of_file m ≡ true → of_look (event_of name m ∷ []) ≡ []
+  file_beside is =
+      ap (λ (b : Bool). map unreasoned (cond (not (b || is_note m)) (event_of name m ∷ []) [])) is
+
+  pub file_named : is_of_file m ≡ true → names_read (event_of name m ∷ []) ≡ name ∷ []
+  file_named is =
+      ap (λ (b : Bool). map (λ (e : LookEvent). e.name) (cond b (event_of name m ∷ []) [])) is
+
+  -- a file that was not taken is told
+  pub tells_unread : (old new : Report) → is_of_file m ≡ true
+      → TellsOne old new (event_of name m) → TellsMore (TellsAnswers old) (TellsAnswers new) []
+  tells_unread old new is one = tells_beside old new (event_of name m) (file_beside is) one
+
+-- a note is told of no file
+note_cases : (m : Met) → is_note m ≡ true → is_of_file m ≡ false
+note_cases (met.Done what done) is = refl
+note_cases (met.Refused what refusal why) is = absurd (cc (is))
+note_cases met.Young is = absurd (cc (is))
+note_cases met.Changed is = absurd (cc (is))
+note_cases (met.Skipped skip) is = refl
+note_cases (met.Going unknown all) is = refl
+note_cases (met.Gap gap) is = refl
+note_cases (met.Waiting most files) is = refl
+note_cases met.Kept is = refl
+note_cases met.Listed is = refl
+
+module _ (name : List ℕ) (m : Met) (is : is_note m ≡ true) where
+  pub note_unread : is_of_file m ≡ false
+  note_unread = note_cases m is
+
+  -- and of no command
+  pub note_beside : of_look (event_of name m ∷ []) ≡ []
+  note_beside =
+      ap (λ (b : Bool). map unreasoned
+      (cond (not (b || is_note m)) (event_of name m ∷ []) [])) note_unread
+      ∙ ap (λ (b : Bool). map unreasoned (cond (not b) (event_of name m ∷ []) [])) is
+
+  pub note_unnamed : names_read (event_of name m ∷ []) ≡ []
+  note_unnamed =
+      ap (λ (b : Bool). map (λ (e : LookEvent). e.name) (cond b (event_of name m ∷ []) []))
+      note_unread
 
 -- a note is told
-pub tells_note : (old new : Report) (name rest : List ℕ)
-    → TellsOne old new (entry_with (codes "note") name rest)
-    → TellsMore (TellsAnswers old) (TellsAnswers new) []
-tells_note old new name rest one =
-    tells_beside old new (entry_with (codes "note") name rest) refl one
-
--- and that a name is left out
-pub tells_skipped : (old new : Report) (name rest : List ℕ)
-    → TellsOne old new (entry_with (codes "skip") name rest)
-    → TellsMore (TellsAnswers old) (TellsAnswers new) []
-tells_skipped old new name rest one =
-    tells_beside old new (entry_with (codes "skip") name rest) refl one
+pub tells_note : (old new : Report) (name : List ℕ) (m : Met) → is_note m ≡ true
+    → TellsOne old new (event_of name m) → TellsMore (TellsAnswers old) (TellsAnswers new) []
+tells_note old new name m is one =
+    tells_beside old new (event_of name m) (note_beside name m is) one

@@ -1,87 +1,105 @@
 -- The definitions, computed on worked rows.
-use Rattle.std.proofs.Common.{◌≡◌, [], ◌∷◌, ◌++◌, Some, None, true, false, refl}
+use Rattle.std.proofs.Common.{List, ℕ, ◌≡◌, [], ◌∷◌, ◌++◌, Some, None, true, false, refl}
 use Rattle.std.specs.Prelude.{codes}
 use Rattle.std.specs.Fmt.{digits}
 use Rattle.std.specs.Str.{chars, is_utf8}
 use lib.Utf8.{encode}
 use Rattle.mot_folder.specs.Listed.{and_in_order, names_in, object_names, with_type}
-use Rattle.mot_folder.specs.Log.{entry, entry_with, kept_entry, log_entry_of, log_line}
-use Rattle.mot_folder.specs.Log.{of_look, with_reason}
+use Rattle.mot_events.specs.Text.{event_of, met_line}
+use Rattle.mot_events.specs.declared.event.Deed.TheVariants as deed
+use Rattle.mot_events.specs.declared.event.Met.TheVariants as met
+use Rattle.mot_events.specs.declared.event.Skip.TheVariants as skip
+use Rattle.mot_events.specs.declared.event.Why.TheVariants.{Bytes, Control, NotUtf8, Space, Unsaid}
+use Rattle.mot_events.specs.declared.event.Why.TheVariants.{Words}
+use Rattle.mot_folder.specs.Inner.Reading.{unread_for}
+use Rattle.mot_folder.specs.Inner.Reasons.{why_nameless, why_not_stored}
+use Rattle.mot_folder.specs.Log.{event_of_answer, met_for, names_read, of_look, told_of}
+use Rattle.mot_folder.specs.Log.{unlisted_for, waiting_in}
 use Rattle.mot_folder.specs.Looked.{is_look_due, is_kept, packets_left_behind, packets_left}
 use Rattle.mot_folder.specs.declared.listing.TheConstants.{MAX_NAMES}
 use Rattle.mot_folder.specs.declared.looking.TheConstants.{PACKETS, SOON}
-use Rattle.mot_numbers.specs.declared.refusal.Refusal.TheVariants.{EmptyBody, NoRoom}
-use Rattle.mot_numbers.specs.declared.refusal.Refusal.TheVariants.{ReadFault}
+use Rattle.mot_numbers.specs.declared.refusal.Refusal.{Refusal}
+use Rattle.mot_numbers.specs.declared.refusal.Refusal.TheVariants.{EmptyBody, Halted, NoRoom}
+use Rattle.mot_numbers.specs.declared.refusal.Refusal.TheVariants.{ReadFault, TooManyObjects}
 use Rattle.mot_server.specs.declared.running.Attempt.TheVariants.{Accepted, Refused}
 use Rattle.mot_suffixes.specs.Types.{known_types}
-use Rattle.mot_update.specs.Told.{Put, Replaced, Withdrew}
+use Rattle.mot_update.specs.Told.{Answer, Put, Replaced, Withdrew}
 
-put_line : log_line (log_entry_of
+put_line : met_line (event_of_answer
     (Put (codes "a.png") (Accepted (record { object = Some 2; directory = 3 }))))
     ≡ codes "put a.png done object 2 directory 3\n"
-unfolding digits
+unfolding digits is_utf8 chars encode
 put_line = refl
 
-withdrawn_line : log_line
-    (log_entry_of (Withdrew (codes "a") (Accepted (record { object = None; directory = 4 }))))
+withdrawn_line : met_line
+    (event_of_answer (Withdrew (codes "a") (Accepted (record { object = None; directory = 4 }))))
     ≡ codes "withdraw a done directory 4\n"
-unfolding digits
+unfolding digits is_utf8 chars encode
 withdrawn_line = refl
 
-refused_line : log_line (log_entry_of (Replaced (codes "a") (Refused NoRoom)))
+refused_line : met_line (event_of_answer (Replaced (codes "a") (Refused NoRoom)))
     ≡ codes "replace a refused 12 NoRoom\n"
-unfolding digits
+unfolding digits is_utf8 chars encode
 refused_line = refl
 
--- a reason stands in front of the end, and has none; behind a command that was done none stands
-reason_of_line : log_line
-    (with_reason (log_entry_of (Put (codes "a") (Refused NoRoom))) (Some (codes "20 bytes")))
-    ≡ codes "put a refused 12 NoRoom: 20 bytes\n"
-unfolding digits
-reason_of_line = refl
+-- for want of room the reason is how many bytes an object has, and else how many there may be
+refused_put : Refusal → List ℕ
+refused_put refusal = met_line (event_of (codes "a") (met_for deed.Put (Refused refusal)
+    (why_not_stored (record { length = 20; most = 40; waiting = 0 }) (Refused refusal))))
 
-unlisted_for_line : log_line
-    (with_reason (entry (codes "look") (codes "d") (Refused ReadFault)) (Some (codes "a\nb")))
+no_room_line : refused_put NoRoom ≡ codes "put a refused 12 NoRoom: 20 bytes\n"
+unfolding digits is_utf8 chars encode refused_put
+no_room_line = refl
+
+too_many_line : refused_put TooManyObjects ≡ codes "put a refused 11 TooManyObjects: 40 at most\n"
+unfolding digits is_utf8 chars encode refused_put
+too_many_line = refl
+
+halted_line : refused_put Halted ≡ codes "put a refused 16 Halted\n"
+unfolding digits is_utf8 chars encode refused_put
+halted_line = refl
+
+unlisted_for_line : met_line (unlisted_for (codes "d") ReadFault (Words (codes "a\nb")))
     ≡ codes "look d refused 22 ReadFault: a?b\n"
-unfolding digits
+unfolding digits is_utf8 chars encode
 unlisted_for_line = refl
 
-no_reason_behind_done : log_line (with_reason (log_entry_of
-    (Withdrew (codes "a") (Accepted (record { object = None; directory = 4 })))) (Some (codes "b")))
-    ≡ codes "withdraw a done directory 4\n"
-unfolding digits
-no_reason_behind_done = refl
-
 -- what is told of the look is the same with a reason and without
-reason_beside : of_look (with_reason (log_entry_of (Put (codes "a") (Refused NoRoom)))
-    (Some (codes "20 bytes")) ∷ []) ≡ log_entry_of (Put (codes "a") (Refused NoRoom)) ∷ []
+reason_beside : of_look (event_of (codes "a") (met_for deed.Put (Refused NoRoom) (Bytes 20)) ∷ [])
+    ≡ event_of_answer (Put (codes "a") (Refused NoRoom)) ∷ []
 reason_beside = refl
 
-unread_line : log_line (entry (codes "read") (codes "b.xml") (Refused EmptyBody))
+unread_line : met_line (unread_for (codes "b.xml") EmptyBody Unsaid)
     ≡ codes "read b.xml refused 6 EmptyBody\n"
-unfolding digits
+unfolding digits is_utf8 chars encode
 unread_line = refl
 
-young_line : log_line (entry_with (codes "read") (codes "b.xml") (codes "too young, next look\n"))
-    ≡ codes "read b.xml too young, next look\n"
-young_line = refl
+-- why the name of a file is no object's
+of_a_space : why_nameless (codes "a b.png") ≡ Space
+unfolding is_utf8 chars encode
+of_a_space = refl
 
-line_ends_in_a_name : log_line (entry (codes "read") (codes "a\nb\tc") (Refused EmptyBody))
-    ≡ codes "read a?b?c refused 6 EmptyBody\n"
-unfolding digits
-line_ends_in_a_name = refl
+of_a_tab : why_nameless (codes "a\tb.png") ≡ Control
+unfolding is_utf8 chars encode
+of_a_tab = refl
 
--- U+0085 in a name
-control_in_a_name : log_line (kept_entry (codes "d" ++ 194 ∷ 133 ∷ []))
-    ≡ codes "look d? empty, kept\n"
-control_in_a_name = refl
+-- a byte above 0x7F alone
+of_no_text : why_nameless (codes "a b" ++ 252 ∷ []) ≡ NotUtf8
+unfolding is_utf8 chars encode
+of_no_text = refl
 
-unlisted_line : log_line (entry (codes "look") (codes "d") (Refused ReadFault))
-    ≡ codes "look d refused 22 ReadFault\n"
-unfolding digits
-unlisted_line = refl
+-- a name that is not UTF-8 is left out, with `?` for each byte that is no printed one of ASCII
+skipped_line : met_line (event_of (codes "caf" ++ 233 ∷ codes ".png") (met.Skipped skip.NotUtf8))
+    ≡ codes "skip caf?.png not UTF-8\n"
+unfolding digits is_utf8 chars encode
+skipped_line = refl
 
-kept_line : log_line (kept_entry (codes "d")) ≡ codes "look d empty, kept\n"
+listed_line : met_line (event_of (codes "d") met.Listed) ≡ codes "look d listed\n"
+unfolding digits is_utf8 chars encode
+listed_line = refl
+
+kept_line : met_line (event_of (codes "d") met.Kept) ≡ codes "look d empty, kept\n"
+unfolding digits is_utf8 chars encode
 kept_line = refl
 
 -- an empty folder leaves two objects where they are, but for who allows it
@@ -97,15 +115,36 @@ some_stay = refl
 none_there : is_kept false [] 0 ≡ false
 none_there = refl
 
--- a note is told of no command
-note_beside : of_look (entry_with (codes "note") (codes "d") (codes "2 of 3 objects go\n") ∷ []) ≡ []
-note_beside = refl
-
--- a file that was not taken is told of no command
-beside : of_look (entry (codes "read") (codes "b") (Refused EmptyBody)
-    ∷ log_entry_of (Put (codes "a") (Refused NoRoom)) ∷ [])
-    ≡ log_entry_of (Put (codes "a") (Refused NoRoom)) ∷ []
+-- a note is told of no command, nor is a file that was not taken
+beside : of_look (event_of (codes "d") (met.Going 2 3) ∷ unread_for (codes "b") EmptyBody Unsaid
+    ∷ event_of (codes "c") met.Young ∷ event_of_answer (Put (codes "a") (Refused NoRoom)) ∷ [])
+    ≡ event_of_answer (Put (codes "a") (Refused NoRoom)) ∷ []
 beside = refl
+
+-- of three objects that wait the first is told, and the three are counted
+three_wait : List Answer
+three_wait = Put (codes "a") (Refused TooManyObjects) ∷ Put (codes "b") (Refused NoRoom)
+    ∷ Put (codes "c") (Refused TooManyObjects) ∷ Put (codes "d") (Refused TooManyObjects) ∷ []
+
+first_told : told_of three_wait ≡ Put (codes "a") (Refused TooManyObjects)
+    ∷ Put (codes "b") (Refused NoRoom) ∷ []
+unfolding three_wait
+first_told = refl
+
+three_counted : waiting_in three_wait ≡ 3
+unfolding three_wait
+three_counted = refl
+
+waiting_line : met_line (event_of (codes "d") (met.Waiting 40 3))
+    ≡ codes "note d 40 objects at most, 3 files wait\n"
+unfolding digits is_utf8 chars encode
+waiting_line = refl
+
+-- only of a file that was not taken the name is one of these
+read_names : names_read (event_of (codes "d") (met.Gap 2) ∷ unread_for (codes "b") EmptyBody Unsaid
+    ∷ event_of (codes "c") met.Young ∷ event_of_answer (Put (codes "a") (Refused NoRoom)) ∷ [])
+    ≡ codes "b" ∷ codes "c" ∷ []
+read_names = refl
 
 -- before the first packet, behind the thousandth where it ends a turn, and behind a later one
 due_first : is_look_due 0 true ≡ true

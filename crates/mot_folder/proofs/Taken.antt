@@ -1,24 +1,32 @@
 -- Names that were gone over, each of an object that was given or of a file that is told.
 use Rattle.std.proofs.Common.{◌≡◌, ◌∙◌, ℕ, ◌+◌, ◌<◌, length, zero, suc, List, [], ◌∷◌, ◌++◌, ap}
 use Rattle.std.proofs.Common.{append_assoc}
-use Rattle.std.proofs.Common.{append-nil, codes, map, refl, subst, sym, take, arith}
+use Rattle.std.proofs.Common.{append-nil, map, refl, subst, sym, take, arith}
 use Rattle.std.proofs.Common.{Some, Option, Bool, true, false, not, ◌||◌, cond, inl, inr}
 use Rattle.std.specs.List.{list_any}
-use Rattle.std.specs.Prelude.{◌⊎◌, ◌↔◌, slice_get, filter}
+use Rattle.std.specs.Prelude.{◌&&◌, ◌⊎◌, ◌↔◌, slice_get, filter, nat_lt}
 use Rattle.std.proofs.lemmas.Bool.{or_parts}
 use Rattle.std.proofs.lemmas.List.Folds.{list_any-append}
 use Rattle.std.proofs.lemmas.List.{length-map, map-append}
 use Rattle.std.proofs.lemmas.List.Elements.{filter-append}
+use Rattle.mot_events.specs.Text.{event_of}
+use Rattle.mot_events.specs.declared.event.Deed.TheVariants as deed
+use Rattle.mot_events.specs.declared.event.LookEvent.{LookEvent}
+use Rattle.mot_events.specs.declared.event.Met.{Met}
+use Rattle.mot_events.specs.declared.event.Why.{Why}
 use Rattle.mot_folder.specs.Inner.Names.{name_or_none}
 use Rattle.mot_folder.specs.Inner.Reading.{Misses, Takes, TellsFile, TellsLook, as_wanted}
 use Rattle.mot_folder.specs.Inner.Reading.{heading}
 use Rattle.mot_folder.specs.Inner.Reading.Misses.{was_refused, was_unread}
 use Rattle.mot_folder.specs.Inner.Listing.{TellsNameless}
+use Rattle.mot_folder.specs.Inner.Reasons.{TellsNoMore, TellsUnless, and_waiting}
+use Rattle.mot_folder.proofs.Waiting.{told_more, told_same, waiting_more}
 use Rattle.mot_folder.specs.Listed.{IsListing, nameless}
 use Rattle.mot_folder.specs.Looked.{EachIsTold}
-use Rattle.mot_folder.proofs.Log.{look-more}
-use Rattle.mot_folder.specs.Log.{LogEntry, TellsOf, TellsOne, entry_with, is_read, log_entry_of}
-use Rattle.mot_folder.specs.Log.{names_read, not_accepted, of_look, with_reason}
+use Rattle.mot_folder.proofs.Log.{file_beside, file_named, look-more, note_beside}
+use Rattle.mot_folder.proofs.Log.{note_unnamed, note_unread}
+use Rattle.mot_folder.specs.Log.{TellsOf, TellsOne, event_of_answer, is_note, is_read, is_waiting, met_for}
+use Rattle.mot_folder.specs.Log.{names_read, not_accepted, of_look, told_of}
 use Rattle.mot_folder.specs.Taken.{AreTaken}
 use Rattle.mot_numbers.specs.declared.refusal.Refusal.{Refusal}
 use Rattle.mot_folder.specs.Taken.AreTaken.{no_file, one_refused, one_unread, one_wanted}
@@ -35,12 +43,12 @@ use Rattle.mot_update.specs.Told.{came_of, was_accepted}
 use Rattle.mot_update.specs.declared.wanted.Wanted.{Wanted}
 
 -- those that were read, of more entries
-pub read-more : (entries more : List LogEntry)
+pub read-more : (entries more : List LookEvent)
     → names_read (entries ++ more) ≡ names_read entries ++ names_read more
 read-more entries more =
-    ap (λ (l : List LogEntry). map (λ (e : LogEntry). e.name) l)
+    ap (λ (l : List LookEvent). map (λ (e : LookEvent). e.name) l)
     (filter-append is_read entries more)
-    ∙ map-append (λ (e : LogEntry). e.name) (filter is_read entries) (filter is_read more)
+    ∙ map-append (λ (e : LookEvent). e.name) (filter is_read entries) (filter is_read more)
 
 -- ---- whether anything was refused
 
@@ -50,6 +58,13 @@ or_answer false true true = refl
 or_answer false true false = refl
 or_answer false false true = refl
 or_answer false false false = refl
+
+or_counted : (a b r : Bool) → ((a || b) || r) ≡ ((a || (r || false)) || b)
+or_counted true b r = refl
+or_counted false true true = refl
+or_counted false true false = refl
+or_counted false false true = refl
+or_counted false false false = refl
 
 or_read : (a b : Bool) → true ≡ (a || (b || (true || false)))
 or_read true b = refl
@@ -61,7 +76,19 @@ or_note true b = refl
 or_note false true = refl
 or_note false false = refl
 
-module _ (answers : List Answer) (entries : List LogEntry) (last : LogEntry) (old new : Bool) where
+-- behind a further answer that is only counted
+any_counted : (answers : List Answer) (entries : List LookEvent) (old new : Bool) (answer : Answer)
+    → new ≡ (old || not_accepted answer)
+    → old ≡ (list_any not_accepted answers || list_any is_read entries)
+    → new ≡ (list_any not_accepted (answers ++ answer ∷ []) || list_any is_read entries)
+any_counted answers entries old new answer one was =
+    let a = list_any not_accepted answers in
+    let b = list_any is_read entries in
+    let r = not_accepted answer in
+    one ∙ ap (λ (x : Bool). x || r) was ∙ or_counted a b r
+    ∙ ap (λ (x : Bool). x || b) (sym (list_any-append not_accepted answers (answer ∷ [])))
+
+module _ (answers : List Answer) (entries : List LookEvent) (last : LookEvent) (old new : Bool) where
   -- behind a further answer
   any_answered : (answer : Answer) → is_read last ≡ false → new ≡ (old || not_accepted answer)
       → old ≡ (list_any not_accepted answers || list_any is_read entries)
@@ -99,25 +126,25 @@ module _ (answers : List Answer) (entries : List LogEntry) (last : LogEntry) (ol
       ∙ ap (λ (x : Bool). a || (b || (x || false))) (sym none)
       ∙ ap (λ (x : Bool). a || x) (sym (list_any-append is_read entries (last ∷ [])))
 
-read-cases : (b : Bool) (e : LogEntry) (entries : List LogEntry) → is_read e ≡ b
+read-cases : (b : Bool) (e : LookEvent) (entries : List LookEvent) → is_read e ≡ b
     → (list_any is_read entries ≡ false → names_read entries ≡ [])
     → (b || list_any is_read entries) ≡ false
-    → map (λ (x : LogEntry). x.name) (cond b (e ∷ filter is_read entries) (filter is_read entries)) ≡ []
+    → map (λ (x : LookEvent). x.name) (cond b (e ∷ filter is_read entries) (filter is_read entries)) ≡ []
 read-cases true e entries is rest any = absurd (cc (any))
 read-cases false e entries is rest any = rest any
 
-none_read : (entries : List LogEntry) → list_any is_read entries ≡ false → names_read entries ≡ []
+none_read : (entries : List LookEvent) → list_any is_read entries ≡ false → names_read entries ≡ []
 none_read [] any = refl
 none_read (e ∷ entries) any = read-cases (is_read e) e entries refl (none_read entries) any
 
-unread-cases : (b : Bool) (e : LogEntry) (entries : List LogEntry) → is_read e ≡ b
+unread-cases : (b : Bool) (e : LookEvent) (entries : List LookEvent) → is_read e ≡ b
     → (names_read entries ≡ [] → list_any is_read entries ≡ false)
-    → map (λ (x : LogEntry). x.name) (cond b (e ∷ filter is_read entries) (filter is_read entries)) ≡ []
+    → map (λ (x : LookEvent). x.name) (cond b (e ∷ filter is_read entries) (filter is_read entries)) ≡ []
     → (b || list_any is_read entries) ≡ false
 unread-cases true e entries is rest none = absurd (cc (none))
 unread-cases false e entries is rest none = rest none
 
-read_none : (entries : List LogEntry) → names_read entries ≡ [] → list_any is_read entries ≡ false
+read_none : (entries : List LookEvent) → names_read entries ≡ [] → list_any is_read entries ≡ false
 read_none [] none = refl
 read_none (e ∷ entries) none = unread-cases (is_read e) e entries refl (read_none entries) none
 
@@ -150,7 +177,7 @@ not_any true e = absurd (cc (e))
 not_any false e = refl
 
 -- a look is fine exactly where no file is told and each command was accepted
-pub fine_is : (entries : List LogEntry) (answers : List Answer) (commands : List Command)
+pub fine_is : (entries : List LookEvent) (answers : List Answer) (commands : List Command)
     (marks : List Bool) (any : Bool) → AreAnswers answers commands marks
     → any ≡ (list_any not_accepted answers || list_any is_read entries)
     → (not any ≡ true) ↔ ((names_read entries ≡ []) × AreAccepted marks)
@@ -164,6 +191,23 @@ fine_is entries answers commands marks any are is = (
       (refused_none answers commands marks are all.1)
       ∙ read_none entries all.0),
 )
+
+-- what is told of a command, with this reason of a refusal
+abbrev pub event_for : Answer → Why → LookEvent
+event_for (Withdrew name came) why = event_of name (met_for deed.Withdraw came why)
+event_for (Put name came) why = event_of name (met_for deed.Put came why)
+event_for (Replaced name came) why = event_of name (met_for deed.Replace came why)
+
+-- of the look, and of no file
+answer_told : (answer : Answer) (why : Why) → (names_read (event_for answer why ∷ []) ≡ [])
+    × (is_read (event_for answer why) ≡ false)
+    × (of_look (event_for answer why ∷ []) ≡ event_of_answer answer ∷ [])
+answer_told (Withdrew name (Accepted done)) why = (refl, refl, refl)
+answer_told (Withdrew name (WasRefused refusal)) why = (refl, refl, refl)
+answer_told (Put name (Accepted done)) why = (refl, refl, refl)
+answer_told (Put name (WasRefused refusal)) why = (refl, refl, refl)
+answer_told (Replaced name (Accepted done)) why = (refl, refl, refl)
+answer_told (Replaced name (WasRefused refusal)) why = (refl, refl, refl)
 
 -- ---- names that were gone over
 
@@ -204,30 +248,36 @@ module _ (types : List SuffixType) where
   misses_so on (was_refused bytes is why) = was_refused bytes is (why_so on why)
 
   -- nothing happens
-  pub of_same : (g : Given) (report : Report) (names : List (List ℕ))
-      → TellsBoth (TellsOf types g report names) (TellsOf types g report names) [] []
-  of_same g report names = λ given answers was.
-      subst (λ (l : List Wanted). TellsOf types g report names (answers ++ []) l)
+  pub of_same : (g : Given) (report : Report) (waiting : ℕ) (names : List (List ℕ))
+      → TellsBoth (TellsOf types g report waiting names) (TellsOf types g report waiting names) [] []
+  of_same g report waiting names = λ given answers was.
+      subst (λ (l : List Wanted). TellsOf types g report waiting names (answers ++ []) l)
       (sym (append-nil given))
-      (subst (λ (l : List Answer). TellsOf types g report names l given)
+      (subst (λ (l : List Answer). TellsOf types g report waiting names l given)
       (sym (append-nil answers)) was)
 
   -- an answer to a command is told
-  told_one : (g : Given) (old new : Report) (names : List (List ℕ)) (answer : Answer)
-      (last : LogEntry) → names_read (last ∷ []) ≡ [] → is_read last ≡ false
-      → of_look (last ∷ []) ≡ log_entry_of answer ∷ []
+  told_one : (g : Given) (old new : Report) (waiting : ℕ) (names : List (List ℕ)) (answer : Answer)
+      (last : LookEvent) → names_read (last ∷ []) ≡ [] → is_read last ≡ false
+      → of_look (last ∷ []) ≡ event_of_answer answer ∷ []
       → new.any_refused ≡ (old.any_refused || not_accepted answer)
-      → (old.any_without_memory ≡ true → new.any_without_memory ≡ true) → TellsOne old new last
-      → TellsBoth (TellsOf types g old names) (TellsOf types g new names) (answer ∷ []) []
-  told_one g old new names answer last none_read unread is any stays one = λ given answers was.
-      subst (λ (l : List Wanted). TellsOf types g new names (answers ++ answer ∷ []) l)
+      → (old.any_without_memory ≡ true → new.any_without_memory ≡ true)
+      → (is_waiting answer && nat_lt 0 waiting) ≡ false → TellsOne old new last
+      → TellsBoth (TellsOf types g old waiting names)
+      (TellsOf types g new (and_waiting waiting (is_waiting answer)) names) (answer ∷ []) []
+  told_one g old new waiting names answer last none_read unread is any stays told one =
+      let after = and_waiting waiting (is_waiting answer) in
+      λ given answers was.
+      subst (λ (l : List Wanted). TellsOf types g new after names (answers ++ answer ∷ []) l)
       (sym (append-nil given)) (record {
         entries = was.entries ++ last ∷ [];
         told = one was.entries was.told;
         are = look-more was.entries (last ∷ [])
             ∙ ap (λ l. l ++ of_look (last ∷ [])) was.are
-            ∙ ap (λ l. map log_entry_of answers ++ l) is
-            ∙ sym (map-append log_entry_of answers (answer ∷ []));
+            ∙ ap (λ l. map event_of_answer (told_of answers) ++ l) is
+            ∙ sym (map-append event_of_answer (told_of answers) (answer ∷ []))
+            ∙ ap (map event_of_answer) (sym (told_more answers answer waiting was.waits told));
+        waits = waiting_more answers answer waiting was.waits;
         any = any_answered answers was.entries last old.any_refused new.any_refused answer unread
             any was.any;
         missed = was.missed;
@@ -237,17 +287,53 @@ module _ (types : List SuffixType) where
         taken = taken_so stays was.taken;
       })
 
-  pub of_answer : (g : Given) (old new : Report) (names : List (List ℕ)) (answer : Answer)
-      (why : Option (List ℕ)) → new.any_refused ≡ (old.any_refused || not_accepted answer)
+  -- or is only counted
+  counted_one : (g : Given) (old new : Report) (waiting : ℕ) (names : List (List ℕ))
+      (answer : Answer) → new.any_refused ≡ (old.any_refused || not_accepted answer)
       → (old.any_without_memory ≡ true → new.any_without_memory ≡ true)
-      → TellsOne old new (with_reason (log_entry_of answer) why)
-      → TellsBoth (TellsOf types g old names) (TellsOf types g new names) (answer ∷ []) []
-  of_answer g old new names (Withdrew name came) why any stays one =
-      told_one g old new names (Withdrew name came) _ refl refl refl any stays one
-  of_answer g old new names (Put name came) why any stays one =
-      told_one g old new names (Put name came) _ refl refl refl any stays one
-  of_answer g old new names (Replaced name came) why any stays one =
-      told_one g old new names (Replaced name came) _ refl refl refl any stays one
+      → (is_waiting answer && nat_lt 0 waiting) ≡ true → TellsNoMore old new
+      → TellsBoth (TellsOf types g old waiting names)
+      (TellsOf types g new (and_waiting waiting (is_waiting answer)) names) (answer ∷ []) []
+  counted_one g old new waiting names answer any stays counted one =
+      let after = and_waiting waiting (is_waiting answer) in
+      λ given answers was.
+      subst (λ (l : List Wanted). TellsOf types g new after names (answers ++ answer ∷ []) l)
+      (sym (append-nil given)) (record {
+        entries = was.entries;
+        told = one was.entries was.told;
+        are = was.are
+            ∙ ap (map event_of_answer) (sym (told_same answers answer waiting was.waits counted));
+        waits = waiting_more answers answer waiting was.waits;
+        any = any_counted answers was.entries old.any_refused new.any_refused answer any was.any;
+        missed = was.missed;
+        read = was.read;
+        taken = taken_so stays was.taken;
+      })
+
+  told_or_counted : (g : Given) (old new : Report) (waiting : ℕ) (names : List (List ℕ))
+      (answer : Answer) (last : LookEvent) (b : Bool) → names_read (last ∷ []) ≡ []
+      → is_read last ≡ false → of_look (last ∷ []) ≡ event_of_answer answer ∷ []
+      → new.any_refused ≡ (old.any_refused || not_accepted answer)
+      → (old.any_without_memory ≡ true → new.any_without_memory ≡ true)
+      → (is_waiting answer && nat_lt 0 waiting) ≡ b → TellsUnless b old new last
+      → TellsBoth (TellsOf types g old waiting names)
+      (TellsOf types g new (and_waiting waiting (is_waiting answer)) names) (answer ∷ []) []
+  told_or_counted g old new waiting names answer last true none_read unread is any stays e one =
+      counted_one g old new waiting names answer any stays e one
+  told_or_counted g old new waiting names answer last false none_read unread is any stays e one =
+      told_one g old new waiting names answer last none_read unread is any stays e one
+
+  -- whatever the reason of a refusal
+  pub of_answer : (g : Given) (old new : Report) (waiting : ℕ) (names : List (List ℕ))
+      (answer : Answer) (why : Why) → new.any_refused ≡ (old.any_refused || not_accepted answer)
+      → (old.any_without_memory ≡ true → new.any_without_memory ≡ true)
+      → TellsUnless (is_waiting answer && nat_lt 0 waiting) old new (event_for answer why)
+      → TellsBoth (TellsOf types g old waiting names)
+      (TellsOf types g new (and_waiting waiting (is_waiting answer)) names) (answer ∷ []) []
+  of_answer g old new waiting names answer why any stays one =
+      let is = answer_told answer why in
+      told_or_counted g old new waiting names answer (event_for answer why) _ is.0 is.1 is.2 any
+      stays refl one
 
   -- a file of this name is gone over that is not taken
   more_missed : {E : Type 0} (old new : Given) (names missed : List (List ℕ)) (given : List Wanted)
@@ -283,40 +369,46 @@ module _ (types : List SuffixType) where
       (one_wanted names old.missed missed old.read given name is.bytes is.type is.typed was))
 
   -- a file that could not be taken is told
-  pub of_missed : (g h : Given) (old new : Report) (names : List (List ℕ)) (name : List ℕ)
+  pub of_missed : (g h : Given) (old new : Report) (waiting : ℕ) (names : List (List ℕ)) (name : List ℕ)
       → Misses types name g h (new.any_without_memory ≡ true) → new.any_refused ≡ true
       → (old.any_without_memory ≡ true → new.any_without_memory ≡ true) → TellsFile old new name
-      → TellsBoth (TellsOf types g old names) (TellsOf types h new (names ++ name ∷ [])) [] []
-  of_missed g h old new names name is any stays one = λ given answers was.
-      let last = entry_with (codes "read") name one.0 in
-      subst (λ (l : List Wanted). TellsOf types h new (names ++ name ∷ []) (answers ++ []) l)
+      → TellsBoth (TellsOf types g old waiting names)
+      (TellsOf types h new waiting (names ++ name ∷ [])) [] []
+  of_missed g h old new waiting names name is any stays one = λ given answers was.
+      let last = event_of name one.0 in
+      subst (λ (l : List Wanted). TellsOf types h new waiting (names ++ name ∷ []) (answers ++ []) l)
       (sym (append-nil given))
-      (subst (λ (l : List Answer). TellsOf types h new (names ++ name ∷ []) l given)
+      (subst (λ (l : List Answer). TellsOf types h new waiting (names ++ name ∷ []) l given)
       (sym (append-nil answers)) (record {
         entries = was.entries ++ last ∷ [];
-        told = one.1 was.entries was.told;
+        told = one.2 was.entries was.told;
         are = look-more was.entries (last ∷ [])
+            ∙ ap (λ l. of_look was.entries ++ l) (file_beside name one.0 one.1)
             ∙ append-nil (of_look was.entries) ∙ was.are;
-        any = any_read answers was.entries last old.any_refused new.any_refused refl any;
+        waits = was.waits;
+        any = any_read answers was.entries last old.any_refused new.any_refused one.1 any;
         missed = was.missed ++ name ∷ [];
-        read = read-more was.entries (last ∷ []) ∙ ap (λ l. l ++ name ∷ []) was.read
+        read = read-more was.entries (last ∷ [])
+            ∙ ap (λ l. names_read was.entries ++ l) (file_named name one.0 one.1)
+            ∙ ap (λ l. l ++ name ∷ []) was.read
             ∙ append_assoc (nameless g.files) was.missed (name ∷ [])
             ∙ ap (λ l. nameless l ++ (was.missed ++ name ∷ [])) (sym (files_missed g h name is));
         taken = more_missed g h names was.missed given name is (taken_so stays was.taken);
       }))
 
   -- an object is given
-  pub of_given : (g h : Given) (report : Report) (names : List (List ℕ)) (name : List ℕ)
+  pub of_given : (g h : Given) (report : Report) (waiting : ℕ) (names : List (List ℕ)) (name : List ℕ)
       (w : Wanted) → Takes types name g h w
-      → TellsBoth (TellsOf types g report names) (TellsOf types h report (names ++ name ∷ [])) []
-      (w ∷ [])
-  of_given g h report names name w is = λ given answers was.
+      → TellsBoth (TellsOf types g report waiting names)
+      (TellsOf types h report waiting (names ++ name ∷ [])) [] (w ∷ [])
+  of_given g h report waiting names name w is = λ given answers was.
       subst (λ (l : List Answer).
-      TellsOf types h report (names ++ name ∷ []) l (given ++ w ∷ []))
+      TellsOf types h report waiting (names ++ name ∷ []) l (given ++ w ∷ []))
       (sym (append-nil answers)) (record {
         entries = was.entries;
         told = was.told;
         are = was.are;
+        waits = was.waits;
         any = was.any;
         missed = was.missed;
         read = was.read ∙ ap (λ (n : Given). nameless n.files ++ was.missed) (sym is.read);
@@ -324,33 +416,42 @@ module _ (types : List SuffixType) where
       })
 
   -- a note is told
-  pub of_note : (g : Given) (old new : Report) (names : List (List ℕ)) (name rest : List ℕ)
-      (answers : List Answer) (given : List Wanted) → new.any_refused ≡ old.any_refused
+  pub of_note : (g : Given) (old new : Report) (waiting : ℕ) (names : List (List ℕ)) (name : List ℕ)
+      (met : Met)
+      (answers : List Answer) (given : List Wanted) → is_note met ≡ true
+      → new.any_refused ≡ old.any_refused
       → (old.any_without_memory ≡ true → new.any_without_memory ≡ true)
-      → TellsOne old new (entry_with (codes "note") name rest)
-      → TellsOf types g old names answers given → TellsOf types g new names answers given
-  of_note g old new names name rest answers given same stays one was =
-      let last = entry_with (codes "note") name rest in
+      → TellsOne old new (event_of name met)
+      → TellsOf types g old waiting names answers given
+      → TellsOf types g new waiting names answers given
+  of_note g old new waiting names name met answers given is same stays one was =
+      let last = event_of name met in
       record {
         entries = was.entries ++ last ∷ [];
         told = one was.entries was.told;
         are = look-more was.entries (last ∷ [])
+            ∙ ap (λ l. of_look was.entries ++ l) (note_beside name met is)
             ∙ append-nil (of_look was.entries) ∙ was.are;
-        any = any_noted answers was.entries last old.any_refused new.any_refused refl same was.any;
+        waits = was.waits;
+        any = any_noted answers was.entries last old.any_refused new.any_refused
+            (note_unread name met is) same was.any;
         missed = was.missed;
-        read = read-more was.entries (last ∷ []) ∙ append-nil (names_read was.entries) ∙ was.read;
+        read = read-more was.entries (last ∷ [])
+            ∙ ap (λ l. names_read was.entries ++ l) (note_unnamed name met is)
+            ∙ append-nil (names_read was.entries) ∙ was.read;
         taken = taken_so stays was.taken;
       }
 
   -- no name was gone over
   pub of_none : (g : Given) (report : Report) → g.read ≡ [] → g.missed ≡ []
-      → TellsNameless g.files report → TellsOf types g report [] [] []
+      → TellsNameless g.files report → TellsOf types g report 0 [] [] []
   of_none g report no_read none_missed told =
       let E = report.any_without_memory ≡ true in
       record {
         entries = told.entries;
         told = told.told;
         are = told.are;
+        waits = refl;
         any = told.any;
         missed = [];
         read = told.read ∙ sym (append-nil (nameless g.files));
@@ -376,7 +477,7 @@ module _ (types : List SuffixType) where
 
   -- so an object was given of each
   pub every_named : (given : Given) (names : List (List ℕ)) (wanted : List Wanted)
-      (fault : Option Refusal) (entries : List LogEntry)
+      (fault : Option Refusal) (entries : List LookEvent)
       → EachIsTold types given names wanted fault entries → names_read entries ≡ []
       → names_of wanted ≡ names
   every_named given names wanted fault entries each none =
@@ -403,13 +504,13 @@ take-named names i name lt at =
 
 module _ (types : List SuffixType) (path : List ℕ) (names : List (List ℕ)) where
   -- what was given and told in a look goes on
-  pub look_on : (g h : Given) (place after : ℕ) (old new : Report) (answers : List Answer)
+  pub look_on : (g h : Given) (place after : ℕ) (old new : Report) (waiting waits : ℕ) (answers : List Answer)
       (more : List Wanted) → (IsListing types path g names → IsListing types path h names)
-      → TellsBoth (TellsOf types g old (take place names)) (TellsOf types h new (take after names))
-      answers more
-      → TellsBoth (TellsLook types path g names place old) (TellsLook types path h names after new)
-      answers more
-  look_on g h place after old new answers more still step = λ given told was. record {
+      → TellsBoth (TellsOf types g old waiting (take place names))
+      (TellsOf types h new waits (take after names)) answers more
+      → TellsBoth (TellsLook types path g names place old waiting)
+      (TellsLook types path h names after new waits) answers more
+  look_on g h place after old new waiting waits answers more still step = λ given told was. record {
     answers = was.answers ++ answers;
     wanted = was.wanted ++ more;
     headed = ap (λ l. l ++ answers) was.headed;
@@ -447,35 +548,36 @@ module _ (types : List SuffixType) (path : List ℕ) (names : List (List ℕ)) w
 
   -- and an object of the next name is given
   pub then_given : (P : List Answer → List Wanted → Type 0) (g h : Given) (place : ℕ)
-      (report : Report) (name : List ℕ) (w : Wanted)
-      → TellsBoth P (TellsLook types path g names place report) [] []
+      (report : Report) (waiting : ℕ) (name : List ℕ) (w : Wanted)
+      → TellsBoth P (TellsLook types path g names place report waiting) [] []
       → place < length names → slice_get names place ≡ Some name → Takes types name g h w
-      → TellsBoth P (TellsLook types path h names (place + 1) report) [] (w ∷ [])
-  then_given P g h place report name w told lt at is =
-      behind P (TellsLook types path g names place report)
-      (TellsLook types path h names (place + 1) report) (w ∷ []) told
-      (look_on g h place (place + 1) report report [] (w ∷ [])
+      → TellsBoth P (TellsLook types path h names (place + 1) report waiting) [] (w ∷ [])
+  then_given P g h place report waiting name w told lt at is =
+      behind P (TellsLook types path g names place report waiting)
+      (TellsLook types path h names (place + 1) report waiting) (w ∷ []) told
+      (look_on g h place (place + 1) report report waiting waiting [] (w ∷ [])
       (λ was. subst (λ (n : Given). IsListing types path n names) (sym is.read)
       (still_read g name is.bytes was))
-      (subst (λ l. TellsBoth (TellsOf types g report (take place names)) (TellsOf types h report l)
-      [] (w ∷ [])) (sym (take-named names place name lt at))
-      (of_given types g h report (take place names) name w is)))
+      (subst (λ l. TellsBoth (TellsOf types g report waiting (take place names))
+      (TellsOf types h report waiting l) [] (w ∷ [])) (sym (take-named names place name lt at))
+      (of_given types g h report waiting (take place names) name w is)))
 
   -- or it is told as that of a file that could not be taken
   pub then_missed : {E : Type 0} (P : List Answer → List Wanted → Type 0) (g h : Given) (place : ℕ)
-      (old new : Report) (name : List ℕ)
-      → TellsBoth P (TellsLook types path g names place old) [] []
+      (old new : Report) (waiting : ℕ) (name : List ℕ)
+      → TellsBoth P (TellsLook types path g names place old waiting) [] []
       → place < length names → slice_get names place ≡ Some name → Misses types name g h E
       → (E → new.any_without_memory ≡ true) → new.any_refused ≡ true
       → (old.any_without_memory ≡ true → new.any_without_memory ≡ true) → TellsFile old new name
-      → TellsBoth P (TellsLook types path h names (place + 1) new) [] []
-  then_missed P g h place old new name told lt at is memory any stays one =
-      behind P (TellsLook types path g names place old)
-      (TellsLook types path h names (place + 1) new) [] told
-      (look_on g h place (place + 1) old new [] [] (listing_misses g h name is)
-      (subst (λ l. TellsBoth (TellsOf types g old (take place names)) (TellsOf types h new l) [] [])
+      → TellsBoth P (TellsLook types path h names (place + 1) new waiting) [] []
+  then_missed P g h place old new waiting name told lt at is memory any stays one =
+      behind P (TellsLook types path g names place old waiting)
+      (TellsLook types path h names (place + 1) new waiting) [] told
+      (look_on g h place (place + 1) old new waiting waiting [] [] (listing_misses g h name is)
+      (subst (λ l. TellsBoth (TellsOf types g old waiting (take place names))
+      (TellsOf types h new waiting l) [] [])
       (sym (take-named names place name lt at))
-      (of_missed types g h old new (take place names) name (misses_so types memory is) any stays
+      (of_missed types g h old new waiting (take place names) name (misses_so types memory is) any stays
       one)))
 
 -- ---- what a look is of
@@ -518,15 +620,16 @@ same_types (t ∷ types) (o ∷ others) e =
 
 -- a look that began with these goes on with these, and with what was given and told in it
 pub record IsLook (types : List SuffixType) (path : List ℕ) (g : Given) (names : List (List ℕ))
-    (place : ℕ) (report : Report) (answers : List Answer) (wanted : List Wanted) : Type 0 where
+    (place : ℕ) (report : Report) (waiting : ℕ) (answers : List Answer) (wanted : List Wanted) :
+    Type 0 where
   pub listing : IsListing types path g names
-  pub tells : TellsOf types g report (take place names) answers wanted
+  pub tells : TellsOf types g report waiting (take place names) answers wanted
 
 -- before the first of the names is gone over
 pub look_begins : (types : List SuffixType) (path : List ℕ) (g : Given) (names : List (List ℕ))
     (report : Report) → IsListing types path g names → g.read ≡ [] → g.missed ≡ []
     → TellsNameless g.files report
-    → TellsLook types path g names 0 report (heading path types ∷ []) (map as_wanted types ++ [])
+    → TellsLook types path g names 0 report 0 (heading path types ∷ []) (map as_wanted types ++ [])
 look_begins types path g names report listing no_read none_missed told = record {
   answers = [];
   wanted = [];
@@ -553,12 +656,12 @@ head_types path other types others e = ap number_in e
 
 -- and behind it
 pub look_is : (types others : List SuffixType) (path other : List ℕ) (g : Given)
-    (names : List (List ℕ)) (place : ℕ) (report : Report) (answers : List Answer)
+    (names : List (List ℕ)) (place : ℕ) (report : Report) (waiting : ℕ) (answers : List Answer)
     (wanted : List Wanted)
-    → TellsLook others other g names place report (heading path types ∷ answers)
+    → TellsLook others other g names place report waiting (heading path types ∷ answers)
     ((map as_wanted types ++ []) ++ wanted)
-    → IsLook types path g names place report answers wanted
-look_is types others path other g names place report answers wanted was =
+    → IsLook types path g names place report waiting answers wanted
+look_is types others path other g names place report waiting answers wanted was =
     let head : heading path types ≡ heading other others = cc (was.headed) in
     let told : answers ≡ was.answers = cc (was.headed) in
     let front = cut_front (map as_wanted types) (map as_wanted others) wanted was.wanted
@@ -566,19 +669,19 @@ look_is types others path other g names place report answers wanted was =
     ∙ sym (length-map others as_wanted))
     (ap (λ l. l ++ wanted) (sym (append-nil (map as_wanted types))) ∙ was.typed) in
     let same = same_types types others front.0 in
-    subst (λ (t : List SuffixType). IsLook t path g names place report answers wanted) (sym same)
-    (subst (λ p. IsLook others p g names place report answers wanted)
+    subst (λ (t : List SuffixType). IsLook t path g names place report waiting answers wanted) (sym same)
+    (subst (λ p. IsLook others p g names place report waiting answers wanted)
     (sym (head_path path other types others head))
-    (subst (λ (a : List Answer). IsLook others other g names place report a wanted) (sym told)
-    (subst (λ (w : List Wanted). IsLook others other g names place report was.answers w)
+    (subst (λ (a : List Answer). IsLook others other g names place report waiting a wanted) (sym told)
+    (subst (λ (w : List Wanted). IsLook others other g names place report waiting was.answers w)
     (sym front.1) (record { listing = was.listing; tells = was.tells }))))
 
 -- and it is of the same path
 pub same_path : (types others : List SuffixType) (path other : List ℕ) (g : Given)
-    (names : List (List ℕ)) (place : ℕ) (report : Report) (answers : List Answer)
+    (names : List (List ℕ)) (place : ℕ) (report : Report) (waiting : ℕ) (answers : List Answer)
     (gave : List Wanted)
-    → TellsLook others other g names place report (heading path types ∷ answers) gave
+    → TellsLook others other g names place report waiting (heading path types ∷ answers) gave
     → other ≡ path
-same_path types others path other g names place report answers gave was =
+same_path types others path other g names place report waiting answers gave was =
     let head : heading path types ≡ heading other others = cc (was.headed) in
     sym (head_path path other types others head)

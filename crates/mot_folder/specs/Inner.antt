@@ -2,3 +2,4 @@ pub mod Listing
 pub mod Names
 pub mod Notes
 pub mod Reading
+pub mod Reasons

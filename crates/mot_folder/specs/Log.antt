@@ -1,90 +1,88 @@
--- The log of a look at a folder: a line for each command, and each file that was not taken.
-use Rattle.std.specs.Prelude.{◌≡◌, ◌-◌, ◌||◌, ℕ, Bool, true, false, not, if◌then◌else◌, bytes_eq}
-use Rattle.std.specs.Prelude.{List, [], ◌∷◌, ◌++◌, map, filter, codes, length, take}
-use Rattle.std.specs.Prelude.{Option, Some, None}
-use Rattle.std.specs.List.{flat_map, list_any}
+-- What is told of a look at a folder: an event for each command, and each file that was not taken.
+use Rattle.std.specs.Prelude.{◌≡◌, ◌&&◌, ◌||◌, ℕ, Bool, true, false, not, List, [], ◌∷◌, ◌++◌, map}
+use Rattle.std.specs.Prelude.{filter, if◌then◌else◌, length, min}
+use Rattle.std.specs.List.{list_any}
+use Rattle.mot_events.specs.Text.{event_of}
+use Rattle.mot_events.specs.declared.event.Deed.{Deed}
+use Rattle.mot_events.specs.declared.event.Deed.TheVariants as deed
+use Rattle.mot_events.specs.declared.event.LookEvent.{LookEvent}
+use Rattle.mot_events.specs.declared.event.Met.{Met}
+use Rattle.mot_events.specs.declared.event.Met.TheVariants as met
+use Rattle.mot_events.specs.declared.event.Why.{Why}
+use Rattle.mot_events.specs.declared.event.Why.TheVariants.{Unsaid}
 use Rattle.mot_folder.specs.Listed.{nameless}
 use Rattle.mot_folder.specs.declared.report.Report.{Report}
 use Rattle.mot_folder.specs.Taken.{AreTaken}
-use Rattle.mot_lines.specs.Text.{done_line, refusal_line}
+use Rattle.mot_numbers.specs.declared.refusal.Refusal.{Refusal}
+use Rattle.mot_numbers.specs.declared.refusal.Refusal.TheVariants.{TooManyObjects}
 use Rattle.mot_server.specs.declared.running.Attempt.{Attempt}
 use Rattle.mot_server.specs.declared.running.Attempt.TheVariants.{Accepted, Refused}
 use Rattle.mot_shelf.specs.Given.{Given}
-use Rattle.mot_suffixes.specs.Shown.{shown}
 use Rattle.mot_suffixes.specs.Types.{SuffixType}
 use Rattle.mot_update.specs.Told.{Answer, Put, Replaced, Withdrew, came_of, was_accepted}
 use Rattle.mot_update.specs.declared.wanted.Wanted.{Wanted}
 
--- one thing that is told: what was done to which name, the rest of its line, with the end, and the
--- reason of a refusal, where it is told
-pub record LogEntry : Type 0 where
-  pub what : List ℕ
-  pub name : List ℕ
-  pub rest : List ℕ
-  pub why : Option (List ℕ)
+-- what came of a command, with the reason of a refusal
+abbrev pub met_for : Deed → Attempt → Why → Met
+met_for what (Accepted done) why = met.Done what done
+met_for what (Refused refusal) why = met.Refused what refusal why
 
--- the same with a reason, or without
-abbrev pub with_reason : LogEntry → Option (List ℕ) → LogEntry
-with_reason e why = record { what = e.what; name = e.name; rest = e.rest; why = why }
+-- the same of the object of this name, with no reason
+abbrev pub answered : Deed → List ℕ → Attempt → LookEvent
+answered what name came = event_of name (met_for what came Unsaid)
 
-abbrev pub entry_with : List ℕ → List ℕ → List ℕ → LogEntry
-entry_with what name rest = record { what = what; name = name; rest = rest; why = None }
+-- the folder of this path is not listed
+abbrev pub unlisted_for : List ℕ → Refusal → Why → LookEvent
+unlisted_for path refusal why = event_of path (met.Refused deed.Look refusal why)
 
-abbrev pub reply_line : Attempt → List ℕ
-reply_line (Accepted done) = done_line done
-reply_line (Refused refusal) = refusal_line refusal
+-- the same, whatever the reason of a refusal
+abbrev pub without_why : Met → Met
+without_why (met.Refused what refusal why) = met.Refused what refusal Unsaid
+without_why other = other
 
--- what came of it
-abbrev pub entry : List ℕ → List ℕ → Attempt → LogEntry
-entry what name came = entry_with what name (reply_line came)
-
--- a look at the folder of this path took no object off the air, since no file in it is one
-abbrev pub kept_entry : List ℕ → LogEntry
-kept_entry path = entry_with (codes "look") path (codes "empty, kept\n")
-
--- what follows a name tells of a refusal
-abbrev pub is_refusal : List ℕ → Bool
-is_refusal rest = bytes_eq (take 8 rest) (codes "refused ")
-
--- the rest of a line, with a reason in front of its end: only a refusal has one, and as a name is
--- shown, none of its bytes is an end
-abbrev pub reasoned : List ℕ → Option (List ℕ) → List ℕ
-reasoned rest None = rest
-reasoned rest (Some why) =
-    if is_refusal rest then take (length rest - 1) rest ++ codes ": " ++ shown why ++ codes "\n"
-    else rest
-
--- its line, with the end
-abbrev pub log_line : LogEntry → List ℕ
-log_line e =
-    e.what ++ codes " " ++ shown e.name ++ codes " " ++ reasoned e.rest e.why
+abbrev pub unreasoned : LookEvent → LookEvent
+unreasoned e = event_of e.name (without_why e.met)
 
 -- what is told of a command
-abbrev pub log_entry_of : Answer → LogEntry
-log_entry_of (Withdrew name came) = entry (codes "withdraw") name came
-log_entry_of (Put name came) = entry (codes "put") name came
-log_entry_of (Replaced name came) = entry (codes "replace") name came
+abbrev pub event_of_answer : Answer → LookEvent
+event_of_answer (Withdrew name came) = answered deed.Withdraw name came
+event_of_answer (Put name came) = answered deed.Put name came
+event_of_answer (Replaced name came) = answered deed.Replace name came
+
+abbrev pub is_reading : Deed → Bool
+is_reading deed.Read = true
+is_reading other = false
 
 -- it is told of a file that was not taken
-abbrev pub is_read : LogEntry → Bool
-is_read e = bytes_eq e.what (codes "read")
+abbrev pub is_of_file : Met → Bool
+is_of_file (met.Refused what refusal why) = is_reading what
+is_of_file met.Young = true
+is_of_file met.Changed = true
+is_of_file other = false
 
 -- it is a note beside, or of a name that is left out: nothing was done
-abbrev pub is_note : LogEntry → Bool
-is_note e = bytes_eq e.what (codes "note") || bytes_eq e.what (codes "skip")
+abbrev pub is_note : Met → Bool
+is_note (met.Skipped skip) = true
+is_note (met.Going unknown all) = true
+is_note (met.Gap gap) = true
+is_note (met.Waiting most files) = true
+is_note met.Listed = true
+is_note other = false
+
+abbrev pub is_read : LookEvent → Bool
+is_read e = is_of_file e.met
 
 -- it is told of a command, or of the whole look
-abbrev pub is_of_look : LogEntry → Bool
-is_of_look e = not (is_read e || is_note e)
+abbrev pub is_of_look : LookEvent → Bool
+is_of_look e = not (is_of_file e.met || is_note e.met)
 
 -- these of them, whatever the reasons of refusals
-abbrev pub of_look : List LogEntry → List LogEntry
-of_look entries = map (λ (e : LogEntry). with_reason e None) (filter is_of_look entries)
+abbrev pub of_look : List LookEvent → List LookEvent
+of_look entries = map unreasoned (filter is_of_look entries)
 
--- the report tells these, in order, each in a line of its own, where there was memory for all lines
-abbrev pub ReportTells : Report → List LogEntry → Type 0
-ReportTells report entries =
-    report.any_left_out ≡ false → report.lines.items ≡ flat_map log_line entries
+-- the report tells exactly these, in order, where there was memory for all of them
+abbrev pub ReportTells : Report → List LookEvent → Type 0
+ReportTells report entries = report.any_left_out ≡ false → report.events.items ≡ entries
 
 -- nothing of an earlier look is kept
 pub record BeginsAnew (report : Report) : Type 0 where
@@ -94,26 +92,55 @@ pub record BeginsAnew (report : Report) : Type 0 where
   pub skipped : report.skipped ≡ 0
 
 -- what was told goes on by one
-abbrev pub TellsOne : Report → Report → LogEntry → Type 0
-TellsOne old new e = (entries : List LogEntry) → ReportTells old entries
+abbrev pub TellsOne : Report → Report → LookEvent → Type 0
+TellsOne old new e = (entries : List LookEvent) → ReportTells old entries
     → ReportTells new (entries ++ e ∷ [])
 
 -- the names of the files that were not taken, as they are told
-abbrev pub names_read : List LogEntry → List (List ℕ)
-names_read entries = map (λ (e : LogEntry). e.name) (filter is_read entries)
+abbrev pub names_read : List LookEvent → List (List ℕ)
+names_read entries = map (λ (e : LookEvent). e.name) (filter is_read entries)
+
+-- the object of a command has to wait, since there are as many as there may be
+abbrev pub is_too_many : Refusal → Bool
+is_too_many TooManyObjects = true
+is_too_many other = false
+
+abbrev pub has_to_wait : Attempt → Bool
+has_to_wait (Accepted done) = false
+has_to_wait (Refused refusal) = is_too_many refusal
+
+abbrev pub is_waiting : Answer → Bool
+is_waiting (Withdrew name came) = false
+is_waiting (Put name came) = has_to_wait came
+is_waiting (Replaced name came) = has_to_wait came
+
+-- of the answers those that are told: of the objects that wait only the first is
+abbrev pub told_behind : (waits : Bool) → List Answer → List Answer
+told_behind waits [] = []
+told_behind waits (answer ∷ answers) =
+    if waits && is_waiting answer then told_behind waits answers
+    else answer ∷ told_behind (waits || is_waiting answer) answers
+
+abbrev pub told_of : List Answer → List Answer
+told_of answers = told_behind false answers
+
+-- how many objects wait, as they are counted
+abbrev pub waiting_in : List Answer → ℕ
+waiting_in answers = min (length (filter is_waiting answers)) 4294967295
 
 -- the command was refused
 abbrev pub not_accepted : Answer → Bool
 not_accepted answer = not (was_accepted (came_of answer))
 
--- It tells these answers, and beside them only files that were not taken, and notes. Of these names
--- each is that of an object that was given, with the bytes that the folder gave, or of one of these
+-- It tells these answers, and beside them only files that were not taken, and notes; and so many
+-- objects wait, of which only the first is told. Of these names each is that of an object that was given, with the bytes that the folder gave, or of one of these
 -- files; before that the files are told that have no name of an object.
-pub record TellsOf (types : List SuffixType) (given : Given) (report : Report)
+pub record TellsOf (types : List SuffixType) (given : Given) (report : Report) (waiting : ℕ)
     (names : List (List ℕ)) (answers : List Answer) (wanted : List Wanted) : Type 0 where
-  pub entries : List LogEntry
+  pub entries : List LookEvent
   pub told : ReportTells report entries
-  pub are : of_look entries ≡ map log_entry_of answers
+  pub are : of_look entries ≡ map event_of_answer (told_of answers)
+  pub waits : waiting ≡ waiting_in answers
   -- something was refused exactly if a command was, or a file is told
   pub any : report.any_refused ≡ (list_any not_accepted answers || list_any is_read entries)
   pub missed : List (List ℕ)
@@ -123,6 +150,6 @@ pub record TellsOf (types : List SuffixType) (given : Given) (report : Report)
 
 -- it tells these answers, and beside them only files that were not taken, and notes
 pub record TellsAnswers (report : Report) (answers : List Answer) : Type 0 where
-  pub entries : List LogEntry
+  pub entries : List LookEvent
   pub told : ReportTells report entries
-  pub are : of_look entries ≡ map log_entry_of answers
+  pub are : of_look entries ≡ map event_of_answer answers

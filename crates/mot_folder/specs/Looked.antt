@@ -1,12 +1,16 @@
 -- What a look at a folder does, and its log.
 use Rattle.std.specs.Prelude.{ℕ, ◌≡◌, ◌≢◌, ◌<◌, ◌≤◌, ◌⊎◌, ◌&&◌, ◌||◌, ◌-◌, nat_eq, nat_le, nat_lt}
 use Rattle.std.specs.Prelude.{Bool, true, false, ◌↔◌, not, if◌then◌else◌, List, [], ◌∷◌, ◌++◌}
-use Rattle.std.specs.Prelude.{length, map, Option, None, Some, codes}
+use Rattle.std.specs.Prelude.{length, map, Option, None, Some}
 use Rattle.std.specs.List.{flat_map}
 use Rattle.disk_model.specs.Disk.{State}
+use Rattle.mot_events.specs.Text.{event_of}
+use Rattle.mot_events.specs.declared.event.LookEvent.{LookEvent}
+use Rattle.mot_events.specs.declared.event.Met.TheVariants.{Kept}
+use Rattle.mot_events.specs.declared.event.Why.TheVariants.{Unsaid}
 use Rattle.mot_folder.specs.Listed.{IsListing, nameless, names_in, with_type}
-use Rattle.mot_folder.specs.Log.{LogEntry, ReportTells, entry, kept_entry, log_entry_of}
-use Rattle.mot_folder.specs.Log.{names_read, of_look}
+use Rattle.mot_folder.specs.Log.{ReportTells, event_of_answer, names_read, of_look, told_of}
+use Rattle.mot_folder.specs.Log.{unlisted_for}
 use Rattle.mot_folder.specs.Taken.{AreTaken}
 use Rattle.mot_folder.specs.declared.listing.TheConstants.{MAX_NAMES}
 use Rattle.mot_folder.specs.declared.looking.TheConstants.{SOON}
@@ -19,7 +23,6 @@ use Rattle.mot_numbers.specs.declared.refusal.Refusal.TheVariants.{TooManyObject
 use Rattle.mot_objects.specs.Carousel.{Carousel}
 use Rattle.mot_objects.specs.declared.command.Command.{Command}
 use Rattle.mot_server.specs.Server.{ServerView}
-use Rattle.mot_server.specs.declared.running.Attempt.TheVariants.{Refused}
 use Rattle.mot_shelf.specs.Given.{Given}
 use Rattle.mot_suffixes.specs.Types.{AreShown, SuffixType}
 use Rattle.mot_update.specs.Between.{may_look}
@@ -53,7 +56,7 @@ is_kept allows names objects = not allows && (nat_eq (length names) 0 && nat_lt 
 -- told that have no name of an object. A file for which memory was wanted is told so only in a look
 -- that a fault ended.
 pub record EachIsTold (types : List SuffixType) (given : Given) (names : List (List ℕ))
-    (wanted : List Wanted) (fault : Option Refusal) (entries : List LogEntry) : Type 0 where
+    (wanted : List Wanted) (fault : Option Refusal) (entries : List LookEvent) : Type 0 where
   pub missed : List (List ℕ)
   pub read : names_read entries ≡ nameless given.files ++ missed
   pub taken : AreTaken types (fault ≢ None) names given.read given.missed wanted missed
@@ -63,17 +66,17 @@ pub record EachIsTold (types : List SuffixType) (given : Given) (names : List (L
 -- a fault. This is told of it; it is fine exactly where nothing was refused.
 pub data IsLook (types : List SuffixType) (allows : Bool) (path : List ℕ) (given : Given)
     (c : Carousel) (commands : List Command) (marks : List Bool) (fault : Option Refusal)
-    (names : List (List ℕ)) (wanted : List Wanted) (fine : Bool) (entries : List LogEntry) :
+    (names : List (List ℕ)) (wanted : List Wanted) (fine : Bool) (entries : List LookEvent) :
     Type 0 where
   -- the folder was not listed, which is told, and no command was run
   unlisted : (refusal : Refusal) → IsUnlisted types path given refusal → fine ≡ false
       → ((fault ≡ None) × (refusal ≢ OutOfMemory)) ⊎ (fault ≡ Some OutOfMemory) → commands ≡ []
-      → of_look entries ≡ entry (codes "look") path (Refused refusal) ∷ []
+      → of_look entries ≡ unlisted_for path refusal Unsaid ∷ []
       → IsLook types allows path given c commands marks fault names wanted fine entries
   -- it was listed and has no object, which is told, and no command was run
   kept : IsListing types path given [] → is_kept allows [] (length c.objects) ≡ true
       → fine ≡ false → (fault ≡ None) ⊎ (fault ≡ Some OutOfMemory) → commands ≡ []
-      → of_look entries ≡ kept_entry path ∷ []
+      → of_look entries ≡ event_of path Kept ∷ []
       → IsLook types allows path given c commands marks fault names wanted fine entries
   -- It was listed once; none of the names begins with a dot. The commands are those of the update
   -- to the objects that were taken, all of them where no fault came, and what came of each is told.
@@ -85,16 +88,16 @@ pub data IsLook (types : List SuffixType) (allows : Bool) (path : List ℕ) (giv
       → (fault ≡ None → others ≡ [])
       → (fine ≡ true ↔ (names_read entries ≡ []) × AreAccepted marks)
       → (answers : List Answer) → AreAnswers answers commands marks
-      → of_look entries ≡ map log_entry_of answers
+      → of_look entries ≡ map event_of_answer (told_of answers)
       → (seen : List (List ℕ)) → (fault ≡ None → seen ≡ names)
       → EachIsTold types given seen wanted fault entries
       → IsLook types allows path given c commands marks fault names wanted fine entries
 
 -- Where commands were run, what is told of each of them is what came of it: the ids that it took,
 -- or why it was refused.
-abbrev pub TellsRightly : Layout → Standing → List Command → List LogEntry → Type 0
+abbrev pub TellsRightly : Layout → Standing → List Command → List LookEvent → Type 0
 TellsRightly layout s commands entries = (commands ≡ [])
-    ⊎ ((answers : List Answer) × (of_look entries ≡ map log_entry_of answers)
+    ⊎ ((answers : List Answer) × (of_look entries ≡ map event_of_answer (told_of answers))
     × AreAttemptsOf layout s commands answers)
 
 -- a look ran its commands, and what is told of it stands in the report
@@ -106,7 +109,7 @@ pub record HasLookedAtFolder {D : Type 0} (old new : ServerView D) (start now : 
   pub run : HasRun old new start now s commands marks fault
   pub names : List (List ℕ)
   pub wanted : List Wanted
-  pub entries : List LogEntry
+  pub entries : List LookEvent
   pub look : IsLook types allows path given s.carousel commands marks fault names wanted
       (not report.any_refused) entries
   pub right : TellsRightly old.view.journal.layout s commands entries
@@ -159,7 +162,7 @@ pub data TellsLooks (w : Watch) (moment : Moment) (old new : LooksSoFar) (c : Ca
       → commands ≡ [] → TellsLooks w moment old new c commands marks fault
   one_look : is_look_due old.left (may_look moment) ≡ true
       → (any_left : Bool) (given : Given) (names : List (List ℕ)) (wanted : List Wanted)
-      (fine : Bool) (entries : List LogEntry)
+      (fine : Bool) (entries : List LookEvent)
       → new ≡ so_far (packets_left any_left w.every) (old.given ++ given ∷ [])
       (old.refused || not fine)
       → IsLook w.types w.allows w.path given c commands marks fault names wanted fine entries

@@ -1,26 +1,26 @@
 //! A folder of files, as a source of wanted objects.
 ghost use Rattle.std.specs.Prelude.{◌≡◌, ◌⊎◌, ◌||◌, ◌-◌, ◌<◌, ℕ, List, [], true, false, not, IfErr};
-ghost use Rattle.std.specs.Prelude.{IfOk, MatchResult, codes, slice_get};
+ghost use Rattle.std.specs.Prelude.{IfOk, MatchResult, slice_get};
 ghost use Rattle.mot_folder.specs.Inner.Names.{name_or_none};
-ghost use Rattle.mot_folder.specs.Inner.Reading.{Misses, Takes, TellsFile, TellsLook, is_for_next};
-ghost use Rattle.mot_folder.specs.Log.{TellsOf, TellsOne, entry};
+ghost use Rattle.mot_folder.specs.Inner.Reading.{Misses, Takes, TellsFile, TellsLook, TellsUntaken};
+ghost use Rattle.mot_folder.specs.Inner.Reading.{TellsFault, is_for_next};
+ghost use Rattle.mot_folder.specs.Inner.Reasons.{TellsSettled, and_settled};
+ghost use Rattle.mot_folder.specs.Log.{TellsOf, has_to_wait};
 ghost use Rattle.mot_folder.specs.declared.folder.Untaken.TheVariants.{Refused as NotTaken};
 ghost use Rattle.mot_folder.specs.declared.folder.Untaken.TheVariants.{Unread as NotRead};
 ghost use Rattle.mot_numbers.specs.declared.refusal.Refusal.{Refusal};
 ghost use Rattle.mot_numbers.specs.declared.refusal.Refusal.TheVariants.{OutOfMemory};
-ghost use Rattle.mot_server.specs.declared.running.Attempt.TheVariants.{Refused};
 ghost use Rattle.mot_files.specs.declared.reading.Unread.TheVariants.{TooLong};
-ghost use Rattle.mot_shelf.specs.Given.{Given, nothing};
+ghost use Rattle.mot_shelf.specs.Given.{Given};
 ghost use Rattle.mot_suffixes.specs.Types.{SuffixType, type_of_name};
 ghost use Rattle.mot_update.specs.Looking.{was_settled};
 ghost use Rattle.mot_folder.specs.Taken.{IsUntakable, wanted_file};
 ghost use Rattle.mot_update.specs.Told.{TellsBoth, answers_of};
 
 use crate::listing::{FileNames, read_refusal};
-use crate::report::Report;
-use disk_store::OpenFault;
+use crate::report::{Report, Sizes};
+use mot_events::{Deed, Why};
 use mot_files::Unread;
-use mot_lines::TextLine;
 use mot_numbers::Refusal;
 use mot_objects::{Body, MAX_BODY, Name};
 use mot_server::Attempt;
@@ -28,7 +28,7 @@ use mot_shelf::Shelf;
 use mot_suffixes::{FileType, FileTypes};
 use mot_update::{Settled, Source, Wanted};
 use std::alloc::{AllocError, Global};
-use std::io::{self, Write};
+use std::io;
 
 /// A folder that a carousel is made equal to, look by look. In a look its files are listed, and each
 /// is read when its turn comes; one that can't be taken is logged, and its object stays as it is.
@@ -40,13 +40,15 @@ pub struct Folder<'a, S: Shelf + Drop> {
     pub types: &'a FileTypes,
     /// Whether all objects go where none of its files is one.
     pub allows_empty: bool,
+    /// Whether the look before went by the folder's list. Else one that does tells so.
+    pub was_listed: bool,
     /// The names of the last look.
     pub(crate) names: FileNames,
     /// How many of them were gone over.
     pub(crate) place: usize,
-    /// How many bytes the file had that was read last.
-    length: u32,
-    /// The lines of the last look.
+    /// How many bytes the file had that was read last, and how many objects there may be.
+    pub(crate) sizes: Sizes,
+    /// What is told of the last look.
     pub report: Report,
 }
 
@@ -56,14 +58,20 @@ impl<'a, S: Shelf + Drop> Folder<'a, S> {
         ensures shelf { result.shelf ≡ shelf }
         ensures types { result.types.now ≡ types.now }
         ensures allows { result.allows_empty ≡ allows_empty }
+        ensures listed { result.was_listed ≡ true }
     {
         Folder {
             shelf,
             types,
             allows_empty,
+            was_listed: true,
             names: FileNames::new(alloc),
             place: 0,
-            length: 0,
+            sizes: Sizes {
+                length: 0,
+                most: 0,
+                waiting: 0,
+            },
             report: Report::new(alloc),
         }
     }
@@ -77,7 +85,8 @@ impl<'a, S: Shelf + Drop> Source for Folder<'a, S> {
     ghost is_fine = { λ folder. not folder.report.any_refused };
 
     ghost was_told = { λ folder. TellsLook folder.types.now (S.path folder.shelf)
-        (S.gave folder.shelf) folder.names.names.items folder.place folder.report };
+        (S.gave folder.shelf) folder.names.names.items folder.place folder.report
+        folder.sizes.waiting };
 
     ghost last = { λ folder. name_or_none (slice_get folder.names.names.items (folder.place - 1)) };
 
@@ -93,7 +102,7 @@ impl<'a, S: Shelf + Drop> Source for Folder<'a, S> {
             let name = &names.names[place];
             match read(&mut self.shelf, alloc, self.types, name) {
                 Ok(wanted) => {
-                    self.length = wanted.body.length().get();
+                    self.sizes.length = wanted.body.length().get();
                     return Some(wanted);
                 }
                 Err(untaken) => tell_untaken(&mut self.report, name.as_bytes(), untaken),
@@ -103,17 +112,20 @@ impl<'a, S: Shelf + Drop> Source for Folder<'a, S> {
     }
 
     fn withdrew(&mut self, name: &Name, attempt: Attempt) {
-        self.report.answered("withdraw", name.as_bytes(), attempt);
+        self.report
+            .answered(Deed::Withdraw, name.as_bytes(), attempt);
     }
 
     fn settled(&mut self, settled: Settled) {
+        let waiting = and_settled(self.sizes.waiting, &settled);
         tell_settled(
             &mut self.report,
             &self.names,
             self.place,
-            self.length,
+            self.sizes,
             settled,
         );
+        self.sizes.waiting = waiting;
     }
 }
 
@@ -134,20 +146,21 @@ fn tell_untaken(report: &mut Report, name: &[u8], untaken: Untaken)
     ensures memory { untaken ≡ NotTaken OutOfMemory → report.new.any_without_memory ≡ true }
     ensures told { TellsFile report.old report.new name.now }
 
-    // What was read of it is told as it was refused; what may be read next time brings a look soon.
-    ensures refused { (refusal : Refusal) → untaken ≡ NotTaken refusal
-        → TellsOne report.old report.new (entry (codes "read") name.now (Refused refusal)) }
+    // Why is told as it is known; what may be read next time brings a look soon.
+    ensures why { TellsUntaken untaken report.old report.new name.now }
     ensures left { report.new.any_left ≡ (report.old.any_left || is_for_next untaken) }
 {
     match untaken {
-        Untaken::Refused(refusal) => report.refused("read", name, refusal),
-        Untaken::Unread(Unread::Young) => report.left(name, b"too young, next look\n"),
-        Untaken::Unread(Unread::Changed) => report.left(name, b"changed, next look\n"),
+        Untaken::Refused(refusal) => report.refused(Deed::Read, name, refusal),
+        Untaken::Unread(Unread::Young) => report.young(name),
+        Untaken::Unread(Unread::Changed) => report.changed(name),
         Untaken::Unread(Unread::TooLong(length)) => {
-            report.missed(name, long_text(length).as_slice());
+            report.missed(name, Refusal::BodyTooLong, Why::TooLong(length));
         }
         Untaken::Unread(Unread::System(fault)) => tell_fault(report, name, fault.error()),
-        Untaken::Unread(Unread::NoMemory) => report.refused("read", name, Refusal::OutOfMemory),
+        Untaken::Unread(Unread::NoMemory) => {
+            report.refused(Deed::Read, name, Refusal::OutOfMemory);
+        }
     }
 }
 
@@ -157,32 +170,15 @@ fn tell_fault(report: &mut Report, name: &[u8], error: io::Error)
     ensures stays { report.old.any_without_memory ≡ true
         → report.new.any_without_memory ≡ true }
     ensures left { report.new.any_left ≡ report.old.any_left }
-    ensures told { TellsFile report.old report.new name.now }
+    ensures told { TellsFault report.old report.new name.now }
 {
     match read_refusal(error) {
-        Refusal::ReadFault => report.missed(name, fault_text(error).as_slice()),
-        refusal => report.refused("read", name, refusal),
+        Refusal::ReadFault => {
+            let why = report.words_of(error);
+            report.missed(name, Refusal::ReadFault, why);
+        }
+        refusal => report.refused(Deed::Read, name, refusal),
     }
-}
-
-/// What is told of a file of so many bytes.
-fn long_text(length: u64) -> TextLine {
-    let mut text = TextLine::new();
-    let refusal = Refusal::BodyTooLong;
-    let _ = writeln!(
-        text,
-        "refused {refusal}: {length} bytes, at most {MAX_BODY}"
-    );
-    text
-}
-
-/// What is told of a file that the system did not read, for this reason.
-fn fault_text(error: io::Error) -> TextLine {
-    let mut text = TextLine::new();
-    let refusal = Refusal::ReadFault;
-    let fault = OpenFault::System(error);
-    let _ = writeln!(text, "refused {refusal}: {fault}");
-    text
 }
 
 /// The bytes of the name at this place; `None` if there is no such place.
@@ -195,20 +191,56 @@ fn name_at(names: &FileNames, place: usize) -> &[u8]
     }
 }
 
-/// Tells what became of the object of the name before this place, of so many bytes.
-fn tell_settled(report: &mut Report, names: &FileNames, place: usize, length: u32, settled: Settled)
+/// Tells what became of the object of the name before this place, of these sizes.
+fn tell_settled(
+    report: &mut Report,
+    names: &FileNames,
+    place: usize,
+    sizes: Sizes,
+    settled: Settled,
+)
     ensures fine { report.new.any_refused ≡ false
         → (report.old.any_refused ≡ false) × (was_settled settled ≡ true) }
     ensures told { (types : List SuffixType) (given : Given) (names_before : List (List ℕ))
-        → TellsBoth (TellsOf types given report.old names_before)
-        (TellsOf types given report.new names_before)
+        → TellsBoth (TellsOf types given report.old sizes.waiting names_before)
+        (TellsOf types given report.new (and_settled sizes.waiting settled) names_before)
         (answers_of (name_or_none (slice_get names.now.names.items (place - 1))) settled) [] }
+
+    // Why it was not stored is told as it is known, or it is only counted.
+    ensures why { TellsSettled sizes settled report.old report.new
+        (name_or_none (slice_get names.now.names.items (place - 1))) }
 {
     let name = name_at(names, place.saturating_sub(1));
     match settled {
         Settled::Right => {}
-        Settled::Put(attempt) => report.stored("put", name, attempt, length),
-        Settled::Replaced(attempt) => report.stored("replace", name, attempt, length),
+        Settled::Put(attempt) => report.stored(Deed::Put, name, attempt, sizes),
+        Settled::Replaced(attempt) => report.stored(Deed::Replace, name, attempt, sizes),
+    }
+}
+
+/// How many objects wait, where so many did before one was settled so.
+fn and_settled(waiting: u32, settled: &Settled) -> u32
+    ensures { result ≡ and_settled waiting settled.now }
+{
+    let waits = match settled {
+        Settled::Right => false,
+        Settled::Put(attempt) => has_to_wait(attempt),
+        Settled::Replaced(attempt) => has_to_wait(attempt),
+    };
+    if waits {
+        waiting.saturating_add(1)
+    } else {
+        waiting
+    }
+}
+
+/// Whether an object has to wait, since there are as many as there may be.
+fn has_to_wait(attempt: &Attempt) -> bool
+    ensures { result ≡ has_to_wait attempt.now }
+{
+    match attempt {
+        Attempt::Accepted(_) => false,
+        Attempt::Refused(refusal) => *refusal == Refusal::TooManyObjects,
     }
 }
 

@@ -1,38 +1,44 @@
 //! The files of a folder that are objects.
-ghost use Rattle.std.specs.List.{insert};
+ghost use Rattle.std.specs.List.{insert, list_any};
+ghost use Rattle.std.specs.Str.{is_utf8};
 ghost use Rattle.std.specs.Prelude.{◌≡◌, ◌↔◌, ◌+◌, ◌<◌, ◌≤◌, ◌∷◌, ◌++◌, [], true, false, length};
 ghost use Rattle.std.specs.Prelude.{if◌then◌else◌, IfErr, IfOk, IfNone, IfSome, IsOk, IsTrue};
-ghost use Rattle.std.specs.Prelude.{List, OnErr, OnOk, Option, codes, ℕ};
+ghost use Rattle.std.specs.Prelude.{◌==◌, List, OnErr, OnOk, Some, nat_le, ℕ};
+ghost use Rattle.mot_events.specs.Text.{event_of};
+ghost use Rattle.mot_events.specs.declared.event.Met.TheVariants.{Skipped};
+ghost use Rattle.mot_events.specs.declared.event.Skip.TheVariants.{NotUtf8};
+ghost use Rattle.mot_events.specs.declared.event.Why.{Why};
 ghost use Rattle.mot_folder.specs.Inner.Listing.{GivesAll, GivesNoMore, GoesOn, IsCallRefusal};
-ghost use Rattle.mot_folder.specs.Inner.Listing.{IsUnread, Skips, StopsAt, TellsNameless};
+ghost use Rattle.mot_folder.specs.Inner.Listing.{IsLeftOutFor, IsUnread, Skips, StopsAt, TellsNameless};
 ghost use Rattle.mot_folder.specs.Inner.Listing.{WereAsked};
-ghost use Rattle.mot_folder.specs.Inner.Reading.{TellsFile};
+ghost use Rattle.mot_folder.specs.Inner.Reading.{unread_for};
+ghost use Rattle.mot_folder.specs.Inner.Reasons.{TellsNoMore, why_nameless};
 ghost use Rattle.mot_objects.specs.Name.{is_name};
 ghost use Rattle.mot_objects.specs.declared.name.TheConstants.{MAX_NAME};
 ghost use Rattle.mot_folder.specs.Listed.{IsListing, and_in_order, and_object, has_type};
 ghost use Rattle.mot_folder.specs.Listed.{names_in};
-ghost use Rattle.mot_folder.specs.Log.{TellsAnswers, TellsOne, entry, with_reason};
+ghost use Rattle.mot_folder.specs.Log.{TellsAnswers, TellsOne, unlisted_for};
 ghost use Rattle.mot_folder.specs.Looked.{IsUnlisted};
-ghost use Rattle.mot_numbers.specs.declared.refusal.Refusal.TheVariants.{OutOfMemory};
+ghost use Rattle.mot_numbers.specs.declared.refusal.Refusal.TheVariants.{BadName, OutOfMemory};
 ghost use Rattle.mot_numbers.specs.declared.refusal.Refusal.TheVariants.{TooManyObjects};
 ghost use Rattle.mot_objects.specs.Carousel.{are_names_distinct};
-ghost use Rattle.mot_server.specs.declared.running.Attempt.TheVariants.{Refused};
 ghost use Rattle.mot_shelf.specs.Given.{nothing};
 ghost use Rattle.mot_suffixes.specs.Types.{AreShown, is_hidden};
 ghost use Rattle.mot_update.specs.Told.{TellsMore};
 ghost use Rattle.mot_update.specs.Updating.{is_known};
+ghost use Rattle.mot_folder.specs.declared.report.TheConstants.{MAX_SKIPPED};
 
-use crate::report::{Reason, Report};
-use disk_store::OpenFault;
+use crate::report::Report;
 use memchr::memchr;
+use mot_events::{Deed, Skip, Why};
 use mot_files::Kind;
-use mot_lines::TextLine;
 use mot_numbers::Refusal;
 use mot_objects::Name;
 use mot_shelf::Shelf;
 use mot_suffixes::FileTypes;
 use std::alloc::{AllocError, Global};
-use std::io::{self, ErrorKind, Write};
+use std::io::{self, ErrorKind};
+use std::str::from_utf8;
 
 /// Room for the names that one read of a folder gives.
 const ROOM: usize = 16_384;
@@ -309,16 +315,48 @@ fn tell_skipped<S: Shelf + Drop>(
 
     // It is told once at most.
     ensures skips { Skips report.old report.new name.now has_suffix }
+
+    // What is not UTF-8 is told as that, whatever it names.
+    ensures text { is_hidden name.now ≡ false → nat_le MAX_SKIPPED report.old.skipped ≡ false
+        → is_utf8 name.now ≡ false
+        → TellsOne report.old report.new (event_of name.now (Skipped NotUtf8)) }
 {
-    if name.first() == Some(&b'.') || report.is_full() {
+    if is_hidden(name) || report.is_full() {
         return;
     }
-    match shelf.kind(alloc, name) {
-        Some(Kind::Folder) => report.skipped(name, b"folder\n"),
-        Some(Kind::Link) => report.skipped(name, b"link\n"),
-        Some(Kind::Pipe | Kind::Special) => report.skipped(name, b"special\n"),
-        Some(Kind::File) if !has_suffix => report.skipped(name, b"suffix\n"),
-        _ => {}
+    if let Some(skip) = why_skipped(shelf, alloc, name, has_suffix) {
+        report.skipped(name, skip);
+    }
+}
+
+/// Whether the name begins with a dot.
+fn is_hidden(name: &[u8]) -> bool
+    ensures { result ≡ is_hidden name.now }
+{
+    !name.is_empty() && name[0] == b'.'
+}
+
+/// Why this name is left out, which has one of the suffixes or none, if the system says it.
+fn why_skipped<S: Shelf + Drop>(
+    shelf: &mut S,
+    alloc: Global,
+    name: &[u8],
+    has_suffix: bool,
+) -> Option<Skip>
+    ensures same { S.path shelf.new ≡ S.path shelf.old }
+    ensures gave { S.gave shelf.new ≡ S.gave shelf.old }
+    ensures why { IfSome result (λ skip. IsLeftOutFor has_suffix name.now skip) }
+    ensures text { is_utf8 name.now ≡ false → result ≡ Some NotUtf8 }
+{
+    if !is_text(name) {
+        return Some(Skip::NotUtf8);
+    }
+    match shelf.kind(alloc, name)? {
+        Kind::Folder => Some(Skip::Folder),
+        Kind::Link => Some(Skip::Link),
+        Kind::Pipe | Kind::Special => Some(Skip::Special),
+        Kind::File if !has_suffix => Some(Skip::Suffix),
+        Kind::File => None,
     }
 }
 
@@ -345,57 +383,67 @@ fn add_file(
     ensures kept { OnErr result (names.new.names.items ≡ names.old.names.items) }
     ensures counted { names.new.counted ≡ names.old.counted }
 
-    // A file whose name can't be an object's is told.
+    // A file whose name can't be an object's is told, and why it can't.
     ensures nameless { OnOk result (is_name MAX_NAME name.now ≡ false
-        → TellsFile report.old report.new name.now) }
+        → TellsOne report.old report.new (unread_for name.now BadName (why_nameless name.now))) }
 {
     match Name::new(Vec::from_slice(alloc, name)?) {
         Ok(name) => names.add(name)?,
-        Err(_) => report.missed(name, name_text(name).as_slice()),
+        Err(_) => report.missed(name, Refusal::BadName, why_nameless(name)),
     }
     Ok(())
 }
 
-/// What is told of a file whose name can't be an object's.
-fn name_text(name: &[u8]) -> TextLine {
-    let mut text = TextLine::new();
-    let refusal = Refusal::BadName;
-    let why = if name.contains(&b' ') {
-        "a space"
+/// Why the name of a file can't be an object's.
+fn why_nameless(name: &[u8]) -> Why
+    ensures { result ≡ why_nameless name.now }
+{
+    if !is_text(name) {
+        Why::NotUtf8
+    } else if has_space(name) {
+        Why::Space
     } else {
-        "a control character"
-    };
-    let _ = writeln!(text, "refused {refusal}: {why}");
-    text
+        Why::Control
+    }
+}
+
+/// Whether the name is UTF-8.
+fn is_text(name: &[u8]) -> bool
+    ensures { result ≡ is_utf8 name.now }
+{
+    match from_utf8(name) {
+        Ok(_) => true,
+        Err(_) => false,
+    }
+}
+
+/// Whether the name has a space.
+fn has_space(name: &[u8]) -> bool
+    ensures { result ≡ list_any (λ byte. byte == 32) name.now }
+{
+    name.iter().any(|byte| *byte == b' ')
 }
 
 /// Tells that the folder of this path is not listed, and why.
 pub(crate) fn tell_unlisted(report: &mut Report, path: &[u8], unlisted: Unlisted)
     ensures any { report.new.any_refused ≡ true }
     ensures memory { unlisted.refusal ≡ OutOfMemory → report.new.any_without_memory ≡ true }
-    ensures told { (why : Option (List ℕ)) × TellsOne report.old report.new
-        (with_reason (entry (codes "look") path.now (Refused unlisted.refusal)) why) }
+    ensures told { (why : Why) × TellsOne report.old report.new
+        (unlisted_for path.now unlisted.refusal why) }
 {
-    match reason_of(unlisted) {
-        Some(why) => report.refused_for("look", path, unlisted.refusal, why.as_slice()),
-        None => report.refused("look", path, unlisted.refusal),
-    }
+    let why = why_unlisted(report, unlisted);
+    report.refused_for(Deed::Look, path, unlisted.refusal, why);
 }
 
 /// Why a folder is not listed, if more is known than the refusal.
-fn reason_of(unlisted: Unlisted) -> Option<Reason> {
-    let mut why = Reason::new();
+fn why_unlisted(report: &mut Report, unlisted: Unlisted) -> Why
+    ensures told { TellsNoMore report.old report.new }
+{
     match (unlisted.refusal, unlisted.error) {
-        (_, Some(error)) => {
-            let fault = OpenFault::System(error);
-            let _ = write!(why, "{fault}");
-        }
-        (Refusal::TooManyObjects, None) => {
-            let _ = write!(why, "more than {MAX_NAMES} names have a suffix");
-        }
-        _ => return None,
+        (_, Some(error)) => report.words_of(error),
+        (Refusal::TooManyObjects, None) => Why::Names(u64::from(MAX_NAMES)),
+        _ => Why::Unsaid,
     }
-    Some(why)
 }
 
 /// Why something could not be read.

@@ -1,10 +1,13 @@
 //! A look at a folder, and looks between the packets of a feed.
-ghost use Rattle.std.specs.Prelude.{◌≡◌, ◌⊎◌, ◌&&◌, ◌||◌, ◌+◌, ◌/◌, ◌≤◌, ◌∷◌, ◌++◌, [], OnOk, true};
-ghost use Rattle.std.specs.Prelude.{false, ℕ, List, codes, if◌then◌else◌, length, min};
+ghost use Rattle.std.specs.Prelude.{◌≡◌, ◌&&◌, ◌||◌, ◌+◌, ◌/◌, ◌≤◌, ◌∷◌, ◌++◌, [], OnOk, true};
+ghost use Rattle.std.specs.Prelude.{◌<◌, false, ℕ, List, if◌then◌else◌, length, min};
 ghost use Rattle.disk_model.specs.Disk.{KeepsLength};
 ghost use Rattle.mot_update.specs.Between.{IsUpdating, may_look};
-ghost use Rattle.mot_folder.specs.Log.{TellsAnswers, TellsOf, TellsOne, entry_with};
-ghost use Rattle.mot_folder.specs.Inner.Notes.{gap_text, most_text, unknown_objects};
+ghost use Rattle.mot_events.specs.Status.{is_listed};
+ghost use Rattle.mot_events.specs.Text.{event_of};
+ghost use Rattle.mot_events.specs.declared.event.Met.TheVariants.{Gap, Going, Listed, Waiting};
+ghost use Rattle.mot_folder.specs.Log.{TellsAnswers, TellsOf, TellsOne};
+ghost use Rattle.mot_folder.specs.Inner.Notes.{unknown_objects};
 ghost use Rattle.mot_folder.specs.Inner.Listing.{TellsNameless};
 ghost use Rattle.mot_folder.specs.Looked.{HasLookedAtFolder, TellsWatch, is_kept, is_look_due};
 ghost use Rattle.mot_folder.specs.Looked.{packets_left, packets_left_behind, so_far, watch};
@@ -19,18 +22,16 @@ ghost use Rattle.mot_server.specs.Attempts.{fault_of};
 
 use crate::folder::Folder;
 use crate::listing::{FileNames, list, tell_unlisted};
-use crate::report::Report;
-use arrayvec::ArrayVec;
+use crate::report::{Report, Sizes};
 use disk_model::Disk;
-use mot_lines::cut_at_line_end;
+use mot_events::{LookEvent, is_listed};
 use mot_numbers::Refusal;
 use mot_objects::Carousel;
 use mot_server::Server;
 use mot_shelf::{LookNotes, Shelf};
 use mot_suffixes::FileTypes;
-use mot_update::{Moment, Update, look};
+use mot_update::{Facts, Moment, Update, look};
 use std::alloc::Global;
-use std::io::Write;
 use std::mem::swap;
 
 /// How many packets come between two looks, and then those up to where one may come, if no other
@@ -40,13 +41,10 @@ const PACKETS: u64 = 1_000;
 /// How many packets come before a look that may take what the one before it left.
 const SOON: u64 = 100;
 
-/// Room for what is noted of a folder.
-const REST: usize = 64;
-
 /// Makes the carousel equal to the files of the folder that have one of the suffixes. A folder that
 /// can't be listed, has too many of them, or has no object and may not be empty while the carousel
-/// has some, is logged, and changes nothing. The errors are those
-/// of `look`, and `OutOfMemory` if memory ran out for a line, or for the subject of a line.
+/// has some, is told, and changes nothing. The errors are those of `look`, and `OutOfMemory` if
+/// memory ran out for an event, or for the subject of one.
 pub fn look_at_folder<S: Shelf + Drop, D: Disk>(
     alloc: Global,
     server: &mut Server<D>,
@@ -65,7 +63,7 @@ pub fn look_at_folder<S: Shelf + Drop, D: Disk>(
         → (D.state server.new.disk).IsHonest
         → S.path folder.new.shelf ≡ S.path folder.old.shelf }
 
-    // If it came to its end, a line was written for everything that is logged.
+    // If it came to its end, nothing is left out of what is told.
     ensures whole { OnOk result (folder.new.report.any_left_out ≡ false) }
 {
     folder.shelf.begin();
@@ -83,6 +81,7 @@ pub fn look_at_folder<S: Shelf + Drop, D: Disk>(
         folder.report.kept(path);
         return folder.report.end();
     }
+    note_listed(&mut folder.report, folder.shelf.shown(), folder.was_listed);
     note_most(
         &mut folder.report,
         folder.shelf.shown(),
@@ -90,7 +89,13 @@ pub fn look_at_folder<S: Shelf + Drop, D: Disk>(
         server.carousel(),
     );
     folder.place = 0;
+    folder.sizes = Sizes {
+        length: 0,
+        most: server.geometry().objects,
+        waiting: 0,
+    };
     look(server, alloc, folder)?;
+    note_waiting(&mut folder.report, folder.shelf.shown(), folder.sizes);
     note_gap(
         &mut folder.report,
         folder.shelf.shown(),
@@ -107,6 +112,20 @@ fn is_kept(allows_empty: bool, names: &FileNames, carousel: &Carousel) -> bool
     !allows_empty && names.names.is_empty() && !carousel.objects.is_empty()
 }
 
+/// Tells that the folder is listed, if the look before did not go by its list.
+fn note_listed(report: &mut Report, path: &str, was_listed: bool)
+    ensures told { TellsMore (TellsAnswers report.old) (TellsAnswers report.new) [] }
+    ensures further { (files : List (List ℕ)) → TellsNameless files report.old
+        → TellsNameless files report.new }
+    ensures none { was_listed ≡ true → report.new ≡ report.old }
+    ensures notes { was_listed ≡ false
+        → TellsOne report.old report.new (event_of path.now Listed) }
+{
+    if !was_listed {
+        report.listed(path.as_bytes());
+    }
+}
+
 /// Notes how many objects are not known, if they are more than half of them.
 fn note_most(report: &mut Report, path: &str, names: &FileNames, carousel: &Carousel)
     ensures told { TellsMore (TellsAnswers report.old) (TellsAnswers report.new) [] }
@@ -114,8 +133,9 @@ fn note_most(report: &mut Report, path: &str, names: &FileNames, carousel: &Caro
         → TellsNameless files report.new }
     ensures none { length (unknown_objects names.now.names.items carousel.now.objects.items)
         ≤ length carousel.now.objects.items / 2 → report.new ≡ report.old }
-    ensures notes { (report.new ≡ report.old) ⊎ TellsOne report.old report.new
-        (entry_with (codes "note") path.now (most_text
+    ensures notes { length carousel.now.objects.items / 2
+        < length (unknown_objects names.now.names.items carousel.now.objects.items)
+        → TellsOne report.old report.new (event_of path.now (Going
         (length (unknown_objects names.now.names.items carousel.now.objects.items))
         (length carousel.now.objects.items))) }
 {
@@ -131,13 +151,9 @@ fn tell_most(report: &mut Report, path: &str, unknown: usize, all: usize)
     ensures told { TellsMore (TellsAnswers report.old) (TellsAnswers report.new) [] }
     ensures further { (files : List (List ℕ)) → TellsNameless files report.old
         → TellsNameless files report.new }
-    ensures notes { (report.new ≡ report.old) ⊎ TellsOne report.old report.new
-        (entry_with (codes "note") path.now (most_text unknown all)) }
+    ensures notes { TellsOne report.old report.new (event_of path.now (Going unknown all)) }
 {
-    let mut rest = ArrayVec::<u8, REST>::new();
-    if writeln!(rest, "{unknown} of {all} objects go").is_ok() {
-        report.noted(path.as_bytes(), rest.as_slice());
-    }
+    report.going(path.as_bytes(), unknown as u64, all as u64);
 }
 
 /// How many objects are not known.
@@ -149,36 +165,51 @@ fn count_unknown(names: &FileNames, carousel: &Carousel) -> usize
     objects.filter(|object| !names.has(&object.name)).count()
 }
 
+/// Notes how many files wait, and how many objects there may be, if more than one waits.
+fn note_waiting(report: &mut Report, path: &str, sizes: Sizes)
+    ensures told { (types : List SuffixType) (given : Given) (waiting : ℕ) (names : List (List ℕ))
+        (answers : List Answer) (wanted : List Wanted)
+        → TellsOf types given report.old waiting names answers wanted
+        → TellsOf types given report.new waiting names answers wanted }
+    ensures same { report.new.any_refused ≡ report.old.any_refused }
+    ensures room { report.new.any_without_room ≡ report.old.any_without_room }
+    ensures none { sizes.waiting ≤ 1 → report.new ≡ report.old }
+    ensures notes { 1 < sizes.waiting → TellsOne report.old report.new
+        (event_of path.now (Waiting sizes.most sizes.waiting)) }
+{
+    if sizes.waiting > 1 {
+        report.waiting(
+            path.as_bytes(),
+            u64::from(sizes.most),
+            u64::from(sizes.waiting),
+        );
+    }
+}
+
 /// Notes how many bytes an object may have now, if there was no room for one.
 fn note_gap(report: &mut Report, path: &str, gap: u32)
-    ensures told { (types : List SuffixType) (given : Given) (names : List (List ℕ))
+    ensures told { (types : List SuffixType) (given : Given) (waiting : ℕ) (names : List (List ℕ))
         (answers : List Answer) (wanted : List Wanted)
-        → TellsOf types given report.old names answers wanted
-        → TellsOf types given report.new names answers wanted }
+        → TellsOf types given report.old waiting names answers wanted
+        → TellsOf types given report.new waiting names answers wanted }
     ensures same { report.new.any_refused ≡ report.old.any_refused }
     ensures none { report.old.any_without_room ≡ false → report.new ≡ report.old }
-    ensures notes { (report.new ≡ report.old) ⊎ TellsOne report.old report.new
-        (entry_with (codes "note") path.now (gap_text gap)) }
+    ensures notes { report.old.any_without_room ≡ true
+        → TellsOne report.old report.new (event_of path.now (Gap gap)) }
 {
     if report.any_without_room {
-        let mut rest = ArrayVec::<u8, REST>::new();
-        if writeln!(rest, "{gap} bytes in the longest gap").is_ok() {
-            report.noted(path.as_bytes(), rest.as_slice());
-        }
+        report.gap(path.as_bytes(), gap);
     }
 }
 
 /// Looks at a folder before the first packet, and then where one may come, after 1,000 packets, or
-/// after as many as `every` is set to; or after 100, if a file is left that may be taken then. The
-/// lines of a look are written to the log and flushed after it, except those that the
-/// look before had, too. If that fails, the look counts all the same.
+/// after as many as `every` is set to; or after 100, if a file is left that may be taken then.
 #[derive(Drop)]
-pub struct Looks<'a, S: Shelf + Drop, W: Write + Drop> {
-    /// The folder, with the lines of the last look.
+pub struct Looks<'a, S: Shelf + Drop> {
+    /// The folder, with what is told of the last look.
     pub folder: Folder<'a, S>,
-    log: W,
-    /// The lines of the look before it.
-    before: Vec<u8>,
+    /// What was told of the look before it.
+    pub before: Vec<LookEvent>,
     /// How many packets come between two looks, and then those up to where one may come.
     pub every: u64,
     /// Whether looks come within turns: then only the packets count in front of which one may come.
@@ -193,20 +224,20 @@ pub struct Looks<'a, S: Shelf + Drop, W: Write + Drop> {
     pub looks: LookNotes,
 }
 
-impl<'a, S: Shelf + Drop, W: Write + Drop> Looks<'a, S, W> {
+impl<'a, S: Shelf + Drop> Looks<'a, S> {
     /// No look yet.
-    pub fn new(alloc: Global, folder: Folder<'a, S>, log: W) -> Looks<'a, S, W>
+    pub fn new(alloc: Global, folder: Folder<'a, S>) -> Looks<'a, S>
         ensures due { result.left ≡ 0 }
         ensures every { result.every ≡ PACKETS }
         ensures within { result.within ≡ false }
         ensures folder { result.folder ≡ folder.entry }
         ensures none { result.looks.all ≡ [] }
+        ensures before { result.before.items ≡ [] }
         ensures uncounted { result.count ≡ 0 }
         ensures fine { result.any_refused ≡ false }
     {
         Looks {
             folder,
-            log,
             before: Vec::new(alloc),
             every: PACKETS,
             within: false,
@@ -218,7 +249,7 @@ impl<'a, S: Shelf + Drop, W: Write + Drop> Looks<'a, S, W> {
     }
 }
 
-impl<'a, S: Shelf + Drop, W: Write + Drop> Update for Looks<'a, S, W> {
+impl<'a, S: Shelf + Drop> Update for Looks<'a, S> {
     ghost tells = { λ old new moment. TellsWatch
         (watch (S.path old.folder.shelf) old.folder.types.now old.folder.allows_empty old.every
         old.within)
@@ -256,6 +287,15 @@ impl<'a, S: Shelf + Drop, W: Write + Drop> Update for Looks<'a, S, W> {
             → (self.new.left ≡ packets_left self.new.folder.report.any_left self.old.every)
             × (self.new.looks.all ≡ self.old.looks.all ++ S.gave self.new.folder.shelf ∷ []) }
 
+        // It knows whether the look before went by the folder's list.
+        ensures listed { is_look_due self.old.left (may_look moment) ≡ true
+            → self.new.folder.was_listed ≡ is_listed self.old.folder.report.events.items }
+
+        // What the last look told is what the one before told, once there is a further one.
+        ensures before { self.new.before.items
+            ≡ (if is_look_due self.old.left (may_look moment)
+            then self.old.folder.report.events.items else self.old.before.items) }
+
         // It counts its looks, and keeps whether something was refused in any of them.
         ensures counted { self.new.count ≡ (if is_look_due self.old.left (may_look moment)
             then min (self.old.count + 1) 18446744073709551615 else self.old.count) }
@@ -272,21 +312,18 @@ impl<'a, S: Shelf + Drop, W: Write + Drop> Update for Looks<'a, S, W> {
         if !look_is_due(&mut self.left, self.within, moment.may_look()) {
             return Ok(());
         }
-        swap(&mut self.before, &mut self.folder.report.lines);
+        let was_listed = turn_over(&mut self.folder.report, &mut self.before);
+        self.folder.was_listed = was_listed;
         let (types, allows_empty) = (self.folder.types, self.folder.allows_empty);
         let result = look_at_folder(alloc, server, &mut self.folder);
         // A look leaves them as they are. (The lines are there for the proof.)
         self.folder.types = types;
         self.folder.allows_empty = allows_empty;
+        self.folder.was_listed = was_listed;
         self.folder.shelf.note(&mut self.looks);
         self.count = self.count.saturating_add(1);
         self.any_refused = self.any_refused || self.folder.report.any_refused;
         self.left = packets_left(self.folder.report.any_left, self.every);
-        tell_new(
-            &mut self.log,
-            self.folder.report.lines.as_slice(),
-            self.before.as_slice(),
-        );
         result
     }
 }
@@ -313,27 +350,32 @@ fn look_is_due(left: &mut u64, within: bool, may_look: bool) -> bool
     may_look && *left == 0
 }
 
-/// Writes the lines that are not among those before, and flushes. Most of them stand there in the
-/// same order, so each is looked for after the one that was found last, and then in all of them.
-fn tell_new<W: Write>(log: &mut W, lines: &[u8], before: &[u8]) {
-    let mut rest = before;
-    for line in lines.split_inclusive(|byte| *byte == b'\n') {
-        match behind_line(rest, line).or_else(|| behind_line(before, line)) {
-            Some(behind) => rest = behind,
-            None => {
-                let _ = log.write_all(line);
-            }
-        }
-    }
-    let _ = log.flush();
+/// A further look begins: what the last one told is what the one before told. Whether that went by
+/// the folder's list.
+fn turn_over(report: &mut Report, before: &mut Vec<LookEvent>) -> bool
+    ensures before { before.new.items ≡ report.old.events.items }
+    ensures listed { result ≡ is_listed report.old.events.items }
+{
+    swap(before, &mut report.events);
+    is_listed(before.as_slice())
 }
 
-/// The rest after the line, with its end, if it is one of the lines.
-fn behind_line<'a>(lines: &'a [u8], line: &[u8]) -> Option<&'a [u8]> {
-    let mut rest = lines;
-    while !rest.starts_with(line) {
-        let (_, others) = cut_at_line_end(rest)?;
-        rest = others;
+impl<'a, S: Shelf + Drop> Facts for Looks<'a, S> {
+    fn looks(&self) -> u64
+        ensures { result ≡ self.now.count }
+    {
+        self.count
     }
-    Some(&rest[line.len()..])
+
+    fn events(&self) -> &[LookEvent]
+        ensures { result.now ≡ self.now.folder.report.events.items }
+    {
+        self.folder.report.events.as_slice()
+    }
+
+    fn events_before(&self) -> &[LookEvent]
+        ensures { result.now ≡ self.now.before.items }
+    {
+        self.before.as_slice()
+    }
 }

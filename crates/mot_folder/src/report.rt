@@ -1,53 +1,60 @@
-//! The log of a look at a folder, line by line.
-ghost use Rattle.std.specs.Prelude.{◌≡◌, ◌≢◌, ◌↔◌, ◌||◌, ◌++◌, [], List, Option, Some, ℕ, true, false};
-ghost use Rattle.std.specs.Prelude.{codes, not};
+//! What is told of a look at a folder, event by event.
+ghost use Rattle.std.specs.Prelude.{◌≡◌, ◌≢◌, ◌↔◌, ◌||◌, ◌++◌, ◌∷◌, [], true, false, not};
 ghost use Rattle.std.specs.Prelude.{IfErr, IsOk, OnOk, nat_le};
-ghost use Rattle.mot_folder.specs.Log.{BeginsAnew, ReportTells, TellsOne, entry, entry_with, kept_entry};
-ghost use Rattle.mot_folder.specs.Log.{log_line, with_reason};
+ghost use Rattle.mot_events.specs.Text.{event_of};
+ghost use Rattle.mot_events.specs.declared.event.Met.TheVariants as met;
+ghost use Rattle.mot_folder.specs.Inner.Reading.{unread_for};
+ghost use Rattle.mot_folder.specs.Inner.Reasons.{TellsNoMore, TellsUnless, is_counted};
+ghost use Rattle.mot_folder.specs.Inner.Reasons.{why_not_stored, why_refused};
+ghost use Rattle.mot_folder.specs.Log.{BeginsAnew, ReportTells, TellsOne, answered, met_for};
 ghost use Rattle.mot_numbers.specs.declared.refusal.Refusal.TheVariants.{NoRoom, OutOfMemory};
 ghost use Rattle.mot_server.specs.declared.running.Attempt.TheVariants.{Accepted, Refused};
-ghost use Rattle.mot_suffixes.specs.Shown.{shown};
 ghost use Rattle.mot_update.specs.Told.{was_accepted};
 
-use arrayvec::ArrayVec;
-use mot_lines::{done_text, refusal_text};
+use disk_store::OpenFault;
+use mot_events::{Deed, LookEvent, Met, Skip, Why, Words};
 use mot_numbers::Refusal;
 use mot_objects::Done;
 use mot_server::Attempt;
-use mot_suffixes::next_shown;
 use std::alloc::{AllocError, Global};
-use std::io::Write;
+use std::io;
 
-/// Room for the reason of a refusal. More of it is left out.
-const WHY: usize = 100;
-
-/// A reason, as it is logged.
-pub(crate) type Reason = ArrayVec<u8, WHY>;
-
-/// How many names that are skipped have a line in one look: further ones have none.
+/// How many names that are skipped are told in one look: further ones are not.
 const MAX_SKIPPED: u32 = 100;
 
-/// The lines of a look.
+/// What tells why an object was not stored.
+#[derive(Clone, Copy)]
+pub struct Sizes {
+    /// How many bytes it has.
+    pub length: u32,
+    /// How many objects there may be.
+    pub most: u16,
+    /// How many were refused in the look since there were as many.
+    pub waiting: u32,
+}
+
+/// What is told of a look.
 #[derive(Drop)]
 pub struct Report {
-    /// The lines that are to be written.
-    pub lines: Vec<u8>,
+    alloc: Global,
+    /// What happened, in order.
+    pub events: Vec<LookEvent>,
     /// Whether anything was refused.
     pub any_refused: bool,
-    /// Whether there was no memory for a line, which is then left out.
+    /// Whether there was no memory for an event, which is then left out, or for a reason.
     pub any_left_out: bool,
-    /// Whether a line says that memory ran out.
+    /// Whether an event says that memory ran out.
     pub any_without_memory: bool,
     /// Whether a file is left for the next look, which may take it.
     pub any_left: bool,
     /// Whether there was no room for an object.
     pub any_without_room: bool,
-    /// How many names were skipped that have a line.
+    /// How many names were skipped that are told.
     skipped: u32,
 }
 
 impl Report {
-    /// Nothing was logged.
+    /// Nothing happened.
     pub fn new(alloc: Global) -> Report
         ensures fine { result.any_refused ≡ false }
         ensures whole { result.any_left_out ≡ false }
@@ -55,7 +62,8 @@ impl Report {
         ensures told { ReportTells result [] }
     {
         Report {
-            lines: Vec::new(alloc),
+            alloc,
+            events: Vec::new(alloc),
             any_refused: false,
             any_left_out: false,
             any_without_memory: false,
@@ -72,7 +80,7 @@ impl Report {
         ensures anew { BeginsAnew self.new }
         ensures told { ReportTells self.new [] }
     {
-        self.lines.clear();
+        self.events.clear();
         self.any_refused = false;
         self.any_left_out = false;
         self.any_without_memory = false;
@@ -81,8 +89,8 @@ impl Report {
         self.skipped = 0;
     }
 
-    /// How a look ends that no fault ended: `OutOfMemory` if memory ran out for a line, or for the
-    /// subject of a line.
+    /// How a look ends that no fault ended: `OutOfMemory` if memory ran out for an event, or for the
+    /// subject of one.
     pub fn end(&self) -> Result<(), Refusal>
         ensures ends { IsOk result
             ↔ ((self.now.any_left_out ≡ false) × (self.now.any_without_memory ≡ false)) }
@@ -95,97 +103,93 @@ impl Report {
     }
 
     /// What became of a command on the object of this name.
-    pub fn answered(&mut self, what: &str, name: &[u8], attempt: Attempt)
+    pub fn answered(&mut self, deed: Deed, name: &[u8], attempt: Attempt)
         ensures fine { self.new.any_refused ≡ false
             → (self.old.any_refused ≡ false) × (was_accepted attempt ≡ true) }
         ensures any { self.new.any_refused
             ≡ (self.old.any_refused || not (was_accepted attempt)) }
         ensures stays { self.old.any_without_memory ≡ true
             → self.new.any_without_memory ≡ true }
-        ensures told { TellsOne self.old self.new (entry what.now name.now attempt) }
+        ensures told { TellsOne self.old self.new (answered deed name.now attempt) }
     {
         match attempt {
-            Attempt::Accepted(done) => self.done(what, name, done),
-            Attempt::Refused(refusal) => self.refused(what, name, refusal),
+            Attempt::Accepted(done) => self.done(deed, name, done),
+            Attempt::Refused(refusal) => self.refused(deed, name, refusal),
         }
     }
 
-    /// What became of a command that was to store so many bytes.
-    pub(crate) fn stored(&mut self, what: &str, name: &[u8], attempt: Attempt, length: u32)
+    /// What became of a command that was to store an object of these sizes.
+    pub(crate) fn stored(&mut self, deed: Deed, name: &[u8], attempt: Attempt, sizes: Sizes)
         ensures fine { self.new.any_refused ≡ false
             → (self.old.any_refused ≡ false) × (was_accepted attempt ≡ true) }
         ensures any { self.new.any_refused
             ≡ (self.old.any_refused || not (was_accepted attempt)) }
         ensures stays { self.old.any_without_memory ≡ true
             → self.new.any_without_memory ≡ true }
-        ensures told { (why : Option (List ℕ)) × TellsOne self.old self.new
-            (with_reason (entry what.now name.now attempt) why) }
+        ensures told { TellsUnless (is_counted sizes.waiting attempt) self.old self.new
+            (event_of name.now (met_for deed attempt (why_not_stored sizes attempt))) }
     {
         match attempt {
-            Attempt::Accepted(done) => self.done(what, name, done),
-            Attempt::Refused(refusal) => self.not_stored(what, name, refusal, length),
+            Attempt::Accepted(done) => self.done(deed, name, done),
+            Attempt::Refused(refusal) => self.not_stored(deed, name, refusal, sizes),
         }
     }
 
-    /// So many bytes were not stored. For want of room, the reason is how many they are.
-    fn not_stored(&mut self, what: &str, name: &[u8], refusal: Refusal, length: u32)
+    /// An object of these sizes was not stored. For want of room, the reason is how many bytes it
+    /// has; and where there are as many objects as there may be, how many those are. Of those that
+    /// have to wait for others to go only the first is told.
+    fn not_stored(&mut self, deed: Deed, name: &[u8], refusal: Refusal, sizes: Sizes)
         ensures any { self.new.any_refused ≡ true }
         ensures stays { self.old.any_without_memory ≡ true
             → self.new.any_without_memory ≡ true }
-        ensures told { (why : Option (List ℕ)) × TellsOne self.old self.new
-            (with_reason (entry what.now name.now (Refused refusal)) why) }
-        ensures plain { refusal ≢ NoRoom
-            → TellsOne self.old self.new (entry what.now name.now (Refused refusal)) }
+        ensures told { TellsUnless (is_counted sizes.waiting (Refused refusal)) self.old self.new
+            (event_of name.now (met.Refused deed refusal (why_refused sizes refusal))) }
     {
-        if refusal != Refusal::NoRoom {
-            self.refused(what, name, refusal);
+        if refusal == Refusal::TooManyObjects && sizes.waiting > 0 {
+            self.note_refusal(refusal);
             return;
         }
-        let mut why = Reason::new();
-        let _ = write!(why, "{length} bytes");
-        self.refused_for(what, name, refusal, why.as_slice());
+        let why = match refusal {
+            Refusal::NoRoom => Why::Bytes(u64::from(sizes.length)),
+            Refusal::TooManyObjects => Why::Objects(u64::from(sizes.most)),
+            _ => Why::Unsaid,
+        };
+        self.refused_for(deed, name, refusal, why);
     }
 
     /// It was done, with these ids.
-    fn done(&mut self, what: &str, name: &[u8], done: Done)
+    fn done(&mut self, deed: Deed, name: &[u8], done: Done)
         ensures same { self.new.any_refused ≡ self.old.any_refused }
         ensures stays { self.old.any_without_memory ≡ true
             → self.new.any_without_memory ≡ true }
-        ensures told { TellsOne self.old self.new (entry what.now name.now (Accepted done)) }
+        ensures told { TellsOne self.old self.new (answered deed name.now (Accepted done)) }
     {
-        self.add(what, name, done_text(done).as_slice());
+        self.add(name, Met::Done(deed, done));
     }
 
     /// It was refused.
-    pub fn refused(&mut self, what: &str, name: &[u8], refusal: Refusal)
+    pub fn refused(&mut self, deed: Deed, name: &[u8], refusal: Refusal)
         ensures any { self.new.any_refused ≡ true }
         ensures memory { refusal ≡ OutOfMemory → self.new.any_without_memory ≡ true }
         ensures stays { self.old.any_without_memory ≡ true
             → self.new.any_without_memory ≡ true }
         ensures left { self.new.any_left ≡ self.old.any_left }
-        ensures told { TellsOne self.old self.new (entry what.now name.now (Refused refusal)) }
+        ensures told { TellsOne self.old self.new (answered deed name.now (Refused refusal)) }
     {
-        self.note_refusal(refusal);
-        self.add(what, name, refusal_text(refusal).as_slice());
+        self.refused_for(deed, name, refusal, Why::Unsaid);
     }
 
     /// It was refused, for this reason.
-    pub(crate) fn refused_for(&mut self, what: &str, name: &[u8], refusal: Refusal, why: &[u8])
+    pub(crate) fn refused_for(&mut self, deed: Deed, name: &[u8], refusal: Refusal, why: Why)
         ensures any { self.new.any_refused ≡ true }
         ensures memory { refusal ≡ OutOfMemory → self.new.any_without_memory ≡ true }
         ensures stays { self.old.any_without_memory ≡ true
             → self.new.any_without_memory ≡ true }
         ensures left { self.new.any_left ≡ self.old.any_left }
-        ensures told { TellsOne self.old self.new
-            (with_reason (entry what.now name.now (Refused refusal)) (Some why.now)) }
+        ensures told { TellsOne self.old self.new (event_of name.now (met.Refused deed refusal why)) }
     {
         self.note_refusal(refusal);
-        let before = self.lines.len();
-        let Ok(()) = add_refusal(&mut self.lines, what, name, refusal, why) else {
-            self.lines.truncate(before);
-            self.any_left_out = true;
-            return;
-        };
+        self.add(name, Met::Refused(deed, refusal, why));
     }
 
     /// Notes that something was refused so.
@@ -198,7 +202,7 @@ impl Report {
         // That there was no room is noted of this refusal alone.
         ensures room { (refusal ≡ NoRoom → self.new.any_without_room ≡ true)
             × (refusal ≢ NoRoom → self.new.any_without_room ≡ self.old.any_without_room) }
-        ensures lines { self.new.lines ≡ self.old.lines }
+        ensures events { self.new.events ≡ self.old.events }
         ensures same { (self.new.any_left_out ≡ self.old.any_left_out)
             × (self.new.any_left ≡ self.old.any_left) }
     {
@@ -211,125 +215,150 @@ impl Report {
         }
     }
 
-    /// The file of this name was not taken, with the rest of its line.
-    pub fn missed(&mut self, name: &[u8], rest: &[u8])
+    /// The file of this name was not taken, for this reason.
+    pub fn missed(&mut self, name: &[u8], refusal: Refusal, why: Why)
         ensures any { self.new.any_refused ≡ true }
         ensures left { self.new.any_left ≡ self.old.any_left }
         ensures stays { self.old.any_without_memory ≡ true
             → self.new.any_without_memory ≡ true }
-        ensures told { TellsOne self.old self.new
-            (entry_with (codes "read") name.now rest.now) }
+        ensures told { TellsOne self.old self.new (unread_for name.now refusal why) }
     {
         self.any_refused = true;
-        self.add("read", name, rest);
+        self.add(name, Met::Refused(Deed::Read, refusal, why));
     }
 
-    /// The same of a file that the next look may take.
-    pub fn left(&mut self, name: &[u8], rest: &[u8])
+    /// The file of this name was changed a moment ago. The next look may take it.
+    pub fn young(&mut self, name: &[u8])
         ensures any { self.new.any_refused ≡ true }
         ensures left { self.new.any_left ≡ true }
         ensures stays { self.old.any_without_memory ≡ true
             → self.new.any_without_memory ≡ true }
-        ensures told { TellsOne self.old self.new
-            (entry_with (codes "read") name.now rest.now) }
+        ensures told { TellsOne self.old self.new (event_of name.now met.Young) }
     {
         self.any_left = true;
-        self.missed(name, rest);
+        self.any_refused = true;
+        self.add(name, Met::Young);
+    }
+
+    /// The file of this name was changed while it was read. The next look may take it.
+    pub fn changed(&mut self, name: &[u8])
+        ensures any { self.new.any_refused ≡ true }
+        ensures left { self.new.any_left ≡ true }
+        ensures stays { self.old.any_without_memory ≡ true
+            → self.new.any_without_memory ≡ true }
+        ensures told { TellsOne self.old self.new (event_of name.now met.Changed) }
+    {
+        self.any_left = true;
+        self.any_refused = true;
+        self.add(name, Met::Changed);
     }
 
     /// A look at the folder of this path took no object off the air, since it has none. That counts
     /// as a refusal.
     pub fn kept(&mut self, path: &[u8])
         ensures any { self.new.any_refused ≡ true }
-        ensures told { TellsOne self.old self.new (kept_entry path.now) }
+        ensures told { TellsOne self.old self.new (event_of path.now met.Kept) }
     {
         self.any_refused = true;
-        self.add("look", path, b"empty, kept\n");
+        self.add(path, Met::Kept);
     }
 
-    /// A note about what this name names, with the end of its line. Nothing was done for it.
-    pub fn noted(&mut self, name: &[u8], rest: &[u8])
+    /// The folder of this path is listed again.
+    pub fn listed(&mut self, path: &[u8])
+        ensures same { self.new.any_refused ≡ self.old.any_refused }
+        ensures told { TellsOne self.old self.new (event_of path.now met.Listed) }
+    {
+        self.add(path, Met::Listed);
+    }
+
+    /// So many of so many objects go.
+    pub fn going(&mut self, path: &[u8], unknown: u64, all: u64)
         ensures same { self.new.any_refused ≡ self.old.any_refused }
         ensures stays { self.old.any_without_memory ≡ true
             → self.new.any_without_memory ≡ true }
-        ensures told { TellsOne self.old self.new
-            (entry_with (codes "note") name.now rest.now) }
+        ensures told { TellsOne self.old self.new (event_of path.now (met.Going unknown all)) }
     {
-        self.add("note", name, rest);
+        self.add(path, Met::Going(unknown, all));
     }
 
-    /// Whether as many names were skipped as have lines.
+    /// So many bytes are in the longest gap.
+    pub fn gap(&mut self, path: &[u8], gap: u32)
+        ensures same { self.new.any_refused ≡ self.old.any_refused }
+        ensures stays { self.old.any_without_memory ≡ true
+            → self.new.any_without_memory ≡ true }
+        ensures told { TellsOne self.old self.new (event_of path.now (met.Gap gap)) }
+    {
+        self.add(path, Met::Gap(gap));
+    }
+
+    /// So many objects may be there, and so many files wait.
+    pub fn waiting(&mut self, path: &[u8], most: u64, files: u64)
+        ensures same { self.new.any_refused ≡ self.old.any_refused }
+        ensures room { self.new.any_without_room ≡ self.old.any_without_room }
+        ensures stays { self.old.any_without_memory ≡ true
+            → self.new.any_without_memory ≡ true }
+        ensures told { TellsOne self.old self.new (event_of path.now (met.Waiting most files)) }
+    {
+        self.add(path, Met::Waiting(most, files));
+    }
+
+    /// Whether as many names were skipped as are told.
     pub fn is_full(&self) -> bool
         ensures { result ≡ nat_le MAX_SKIPPED self.now.skipped }
     {
         self.skipped >= MAX_SKIPPED
     }
 
-    /// This name is left out, for this reason, with the end of the line. Nothing was done for it.
-    pub fn skipped(&mut self, name: &[u8], rest: &[u8])
+    /// This name is left out, for this reason.
+    pub fn skipped(&mut self, name: &[u8], skip: Skip)
         ensures same { self.new.any_refused ≡ self.old.any_refused }
-        ensures told { TellsOne self.old self.new
-            (entry_with (codes "skip") name.now rest.now) }
+        ensures told { TellsOne self.old self.new (event_of name.now (met.Skipped skip)) }
     {
         self.skipped = self.skipped.saturating_add(1);
-        self.add("skip", name, rest);
+        self.add(name, Met::Skipped(skip));
     }
 
-    /// A further line: what was done, to which name, and the rest of the line, with its end.
-    fn add(&mut self, what: &str, name: &[u8], rest: &[u8])
+    /// Why the system refused a call, in its words. If there is no memory for them, something is
+    /// left out.
+    pub(crate) fn words_of(&mut self, error: io::Error) -> Why
+        ensures same { (self.new.any_refused ≡ self.old.any_refused)
+            × (self.new.any_without_memory ≡ self.old.any_without_memory)
+            × (self.new.any_left ≡ self.old.any_left) }
+        ensures told { TellsNoMore self.old self.new }
+    {
+        let fault = OpenFault::System(error);
+        let Ok(words) = format!(in self.alloc; "{fault}") else {
+            self.any_left_out = true;
+            return Why::Unsaid;
+        };
+        Why::Words(Words::new(words.into_bytes()))
+    }
+
+    /// A further event, of this name.
+    fn add(&mut self, name: &[u8], met: Met)
         ensures same { self.new.any_refused ≡ self.old.any_refused }
         ensures memory { self.new.any_without_memory ≡ self.old.any_without_memory }
-        ensures left { self.new.any_left ≡ self.old.any_left }
-        ensures told { TellsOne self.old self.new (entry_with what.now name.now rest.now) }
+        ensures left { (self.new.any_left ≡ self.old.any_left)
+            × (self.new.any_without_room ≡ self.old.any_without_room) }
+        ensures told { TellsOne self.old self.new (event_of name.now met) }
     {
-        let before = self.lines.len();
-        let Ok(()) = add_line(&mut self.lines, what, name, rest) else {
-            self.lines.truncate(before);
+        let Ok(()) = add_event(&mut self.events, self.alloc, name, met) else {
             self.any_left_out = true;
             return;
         };
     }
 }
 
-/// Adds a line: what was done, to which name, and the rest of the line.
-fn add_line(lines: &mut Vec<u8>, what: &str, name: &[u8], rest: &[u8]) -> Result<(), AllocError>
-    ensures { OnOk result (lines.new.items ≡ lines.old.items ++ (what.now ++ codes " "
-        ++ shown name.now ++ codes " " ++ rest.now)) }
-{
-    lines.extend_from_slice(what.as_bytes())?;
-    lines.push(b' ')?;
-    add_name(lines, name)?;
-    lines.push(b' ')?;
-    lines.extend_from_slice(rest)
-}
-
-/// Adds the line of a refusal, with the reason in front of its end.
-fn add_refusal(
-    lines: &mut Vec<u8>,
-    what: &str,
+/// Adds an event.
+fn add_event(
+    events: &mut Vec<LookEvent>,
+    alloc: Global,
     name: &[u8],
-    refusal: Refusal,
-    why: &[u8],
+    met: Met,
 ) -> Result<(), AllocError>
-    ensures { OnOk result (lines.new.items ≡ lines.old.items ++ log_line
-        (with_reason (entry what.now name.now (Refused refusal)) (Some why.now))) }
+    ensures { OnOk result (events.new.items ≡ events.old.items ++ event_of name.now met ∷ []) }
 {
-    let text = refusal_text(refusal);
-    let line = text.as_slice();
-    add_line(lines, what, name, &line[..line.len().saturating_sub(1)])?;
-    lines.extend_from_slice(b": ")?;
-    add_name(lines, why)?;
-    lines.extend_from_slice(b"\n")
-}
-
-/// Adds a name, which a file of any name may have, as a log shows it: no byte ends the line.
-fn add_name(lines: &mut Vec<u8>, name: &[u8]) -> Result<(), AllocError>
-    ensures { OnOk result (lines.new.items ≡ lines.old.items ++ shown name.now) }
-{
-    let mut rest = name;
-    while let Some((byte, others)) = next_shown(rest) {
-        lines.push(byte)?;
-        rest = others;
-    }
+    let name = Words::new(Vec::from_slice(alloc, name)?);
+    events.push(LookEvent { name, met })?;
     Ok(())
 }

@@ -3,6 +3,7 @@
 #![tactic(auto)]
 
 mod inlet;
+mod line_count;
 mod memory;
 mod pairs;
 mod seen;
@@ -10,6 +11,7 @@ mod shelf;
 mod system;
 
 pub use inlet::Inlet;
+pub use line_count::LineCount;
 pub use memory::MemoryShelf;
 pub use pairs::Pairs;
 pub use seen::{LookNotes, Seen};

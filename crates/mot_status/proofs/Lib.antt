@@ -1,3 +1,2 @@
 pub mod Joined
-pub mod Lines
-pub mod Told
+pub mod Places

@@ -1,2 +1,3 @@
-pub mod Inner
-pub mod Status
+pub mod Clock
+pub mod Figures
+pub mod Told

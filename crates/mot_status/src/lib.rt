@@ -1,11 +1,12 @@
-//! What is told of a disk while it is played: lines of the log, and the status, a text in the
-//! exposition format of Prometheus.
+//! What is told of a disk while it is played: the events of its packets, its turns and its looks to
+//! a log, and the status to a file, a text in the exposition format of Prometheus.
 #![tactic(auto)]
 
+mod clock;
+mod figures;
 mod reporter;
-mod text;
+mod told;
 mod turn;
 
-pub use reporter::{Reporter, Telling};
-pub use text::{Figures, write_status};
-pub use turn::{TurnSize, turn_size};
+pub use reporter::{Looked, Reporter, Telling};
+pub use turn::{Measured, TurnSize, turn_size};

@@ -1,23 +1,36 @@
-//! What is told of a disk while it is played: lines at the start and the end, and the status.
-use crate::text::{Figures, write_status};
-use crate::turn::{TurnSize, turn_size};
-use disk_model::Disk;
-use mot_endpoints::{LineLog, PacketsFault, SharedLog, Shown, StatusFile};
-use mot_files::System;
-use mot_numbers::Refusal;
-use mot_server::Server;
-use mot_update::Moment;
-use std::alloc::{AllocError, Global};
-use std::cell::RefCell;
-use std::io::Write;
+//! What is told of a disk while it is played: packets, turns, looks, the start and the end, and the
+//! status.
+ghost use Rattle.std.specs.Prelude.{◌≡◌, ◌++◌, ◌==◌, [], List, false, flat_map, if◌then◌else◌, not};
+ghost use Rattle.std.specs.Prelude.{option_map, string_bytes, true, vec_len, ℕ};
+ghost use Rattle.std.specs.Io.KnownBytes.{Appends};
+ghost use Rattle.mot_events.specs.Counters.{counted, none_counted};
+ghost use Rattle.mot_events.specs.Look.{counted_look, logged_met, new_events};
+ghost use Rattle.mot_events.specs.Tally.{tally_of};
+ghost use Rattle.mot_events.specs.Text.{logged};
+ghost use Rattle.mot_status.specs.Told.{Asks, AsksTime, Reports, WritesIf, counted_after};
+ghost use Rattle.mot_status.specs.Told.{counted_before, counted_end};
+ghost use Rattle.mot_status.specs.Told.{ends_turn, is_due, is_new_look, known, logged_after};
+ghost use Rattle.mot_status.specs.Told.{logged_before, logged_end, matter, next_after, path_of};
+ghost use Rattle.mot_status.specs.Told.{packet_counted, place, status_counted, status_line};
+ghost use Rattle.mot_status.specs.Told.{turn_of, turn_packets};
 
-/// The version of the program, which `motcar --version` prints, too.
-const VERSION: &str = "0.2.0";
+use crate::clock::seconds_or;
+use crate::figures::{VERSION, figures_of};
+use crate::told::{hand, tell_written};
+use crate::turn::{Measured, TurnSize, measure};
+use disk_model::Disk;
+use mot_endpoints::StatusFile;
+use mot_events::{Event, EventLog, LookEvent, Tells};
+use mot_files::System;
+use mot_server::Server;
+use mot_update::{Facts, Moment, Watch};
+use std::alloc::{AllocError, Global};
+use std::io::Write;
 
 /// After how many packets the status is written again.
 const PACKETS: u64 = 1_000;
 
-/// Room for the text of a status. That of many refused files takes more.
+/// Room for the text of a status. That of many objects or refused files takes more.
 const ROOM: usize = 16_384;
 
 /// What is told of a disk while it is played.
@@ -31,215 +44,546 @@ pub struct Telling<'a, S: System + Drop> {
     pub levels: bool,
 }
 
+/// What is known of looks at a folder.
+#[derive(Clone, Copy)]
+pub struct Looked<'e> {
+    /// How many looks there were.
+    pub count: u64,
+    /// What the last one met.
+    pub events: &'e [LookEvent],
+    /// What the one before it met.
+    pub before: &'e [LookEvent],
+}
+
+impl Looked<'_> {
+    /// There is no folder.
+    pub fn none() -> Looked<'static>
+        ensures count { result.count ≡ 0 }
+        ensures events { result.events.now ≡ [] }
+        ensures before { result.before.now ≡ [] }
+    {
+        Looked {
+            count: 0,
+            events: &[],
+            before: &[],
+        }
+    }
+}
+
 /// What tells of a disk while it is played.
 #[derive(Drop)]
-pub struct Reporter<'l, 'a, S: System + Drop, W: Write + Drop> {
-    log: &'l RefCell<LineLog<W>>,
+pub struct Reporter<'a, S: System + Drop, W: Write + Drop> {
+    /// The log, with the counts of what was told.
+    pub log: EventLog<W>,
+    /// The path of the disk.
     disk: &'a str,
+    /// The file of the status, if one is given.
     status: Option<StatusFile<'a, S>>,
     /// The text of the status.
     text: Vec<u8>,
-    /// How many updates there were, one in front of each packet.
-    calls: u64,
-    /// How many turns have ended.
-    turns: u64,
-    /// How many looks the status that was written last tells of.
+    /// Whether there was an update: one comes in front of each packet.
+    has_begun: bool,
+    /// How many looks were told.
     looks: u64,
     /// After how many packets the status is written again.
     next: u64,
-    /// What a turn takes, and the directory of which that is known.
-    size: Option<(u16, TurnSize)>,
+    /// What a turn takes, if that is known.
+    size: Option<Measured>,
+    /// Of how many changes the time is known.
+    changes: u64,
+    /// When the last of them was made, in seconds since 1970; 0 if that is not known.
+    last_change: u64,
     /// Whether the log says that the status is not written.
     is_unwritten: bool,
 }
 
-impl<'l, 'a, S: System + Drop, W: Write + Drop> Reporter<'l, 'a, S, W> {
-    /// Nothing was told.
-    pub fn new(
-        alloc: Global,
-        log: &'l RefCell<LineLog<W>>,
-        telling: Telling<'a, S>,
-    ) -> Reporter<'l, 'a, S, W> {
-        let Telling { disk, status, .. } = telling;
+impl<'a, S: System + Drop, W: Write + Drop> Reporter<'a, S, W> {
+    /// Nothing was told. If there is no memory for a text or a line now, it is taken as that comes.
+    pub fn new(alloc: Global, log: W, telling: Telling<'a, S>) -> Reporter<'a, S, W>
+        ensures writer { result.log.writer ≡ log }
+        ensures levels { result.log.levels ≡ telling.entry.levels }
+        ensures counts { result.log.counters ≡ none_counted }
+        ensures whole { result.log.is_whole ≡ true }
+        ensures given { (result.disk ≡ telling.entry.disk)
+            × (result.status ≡ telling.entry.status) }
+        ensures none { (result.has_begun ≡ false) × (result.looks ≡ 0) × (result.next ≡ 0)
+            × (result.changes ≡ 0) × (result.last_change ≡ 0)
+            × (result.is_unwritten ≡ false) }
+    {
+        let Telling {
+            disk,
+            status,
+            levels,
+        } = telling;
         let text = match Vec::with_capacity(alloc, ROOM) {
             Ok(text) => text,
             Err(AllocError) => Vec::new(alloc),
         };
         Reporter {
-            log,
+            log: EventLog::new(alloc, log, levels),
             disk,
             status,
             text,
-            calls: 0,
-            turns: 0,
+            has_begun: false,
             looks: 0,
             next: 0,
             size: None,
+            changes: 0,
+            last_change: 0,
             is_unwritten: false,
         }
     }
 
-    /// Tells what is due before an update.
+    /// Tells what is due before an update: at the first that playing begins, and at each other one
+    /// that a packet was taken since the last.
     #[inline(always)]
-    pub fn tell_before<D: Disk>(&mut self, server: &Server<D>, alloc: Global, moment: Moment) {
-        if self.calls == 0 {
-            self.measure(server, alloc);
-            self.tell_start(server);
-        } else if moment == Moment::BetweenTurns {
-            self.turns = self.turns.saturating_add(1);
+    pub fn tell_before<D: Disk>(&mut self, server: &Server<D>, alloc: Global, moment: Moment)
+        ensures counts { self.new.log.counters
+            ≡ counted_before self.old.has_begun (ends_turn moment) self.old.log.counters }
+        ensures log { (self.new.log.levels ≡ self.old.log.levels)
+            × (self.new.log.is_whole ≡ true → self.old.log.is_whole ≡ true) }
+        ensures told { self.new.log.is_whole ≡ true → Appends (W.contents self.old.log.writer)
+            (W.contents self.new.log.writer)
+            (logged_before self.old.log.levels self.old.has_begun self.old.disk.now
+            (vec_len server.now.view.carousel.objects) (turn_packets self.new.size)) }
+        ensures begun { self.new.has_begun ≡ true }
+        ensures same { self.new ≡ record self.old {
+          log = self.new.log;
+          has_begun = self.new.has_begun;
+          size = self.new.size;
+        } }
+    {
+        if self.has_begun {
+            self.tell_packet(ends_turn(moment));
+        } else {
+            self.tell_start(server, alloc);
         }
     }
 
-    /// Tells what is due after an update, after so many looks, of which the last had these lines.
-    #[inline(always)]
-    pub fn tell_after<D: Disk>(
-        &mut self,
-        server: &Server<D>,
-        alloc: Global,
-        looks: u64,
-        lines: &[u8],
-    ) {
-        let packets = self.calls;
-        self.calls = packets.saturating_add(1);
-        if packets >= self.next || looks != self.looks {
-            self.tell_status(server, alloc, packets, looks, lines);
+    /// Tells that a packet was taken, and whether a turn has ended with it.
+    fn tell_packet(&mut self, ended: bool)
+        ensures counts { self.new.log.counters ≡ packet_counted ended self.old.log.counters }
+        ensures log { (self.new.log.levels ≡ self.old.log.levels)
+            × (self.new.log.is_whole ≡ true → self.old.log.is_whole ≡ true) }
+        ensures told { self.new.log.is_whole ≡ true → Appends (W.contents self.old.log.writer)
+            (W.contents self.new.log.writer) [] }
+        ensures same { self.new ≡ record self.old { log = self.new.log } }
+    {
+        self.log.tell(&Event::Packet);
+        if ended {
+            self.log.tell(&Event::Turn);
         }
-    }
-
-    /// Writes the status, if a file of it is given, after so many packets and looks.
-    #[inline(never)]
-    fn tell_status<D: Disk>(
-        &mut self,
-        server: &Server<D>,
-        alloc: Global,
-        packets: u64,
-        looks: u64,
-        lines: &[u8],
-    ) {
-        self.looks = looks;
-        self.next = (packets - packets % PACKETS).saturating_add(PACKETS);
-        if self.status.is_none() {
-            return;
-        }
-        self.measure(server, alloc);
-        let figures = self.figures(server, packets, lines);
-        self.write(&figures, lines);
-    }
-
-    /// Computes what a turn takes, if the carousel is another one since it was done last.
-    #[inline(never)]
-    fn measure<D: Disk>(&mut self, server: &Server<D>, alloc: Global) {
-        let carousel = server.carousel();
-        let directory = carousel.directory.get();
-        if let Some((known, _)) = &self.size
-            && *known == directory
-        {
-            return;
-        }
-        let geometry = server.geometry();
-        let (size, length) = (geometry.size_of_segments(), geometry.length_of_packets());
-        self.size = match turn_size(alloc, carousel, size, length) {
-            Ok(size) => Some((directory, size)),
-            Err(_) => None,
-        };
     }
 
     /// Tells which disk is played, by which program.
     #[inline(never)]
-    fn tell_start<D: Disk>(&self, server: &Server<D>) {
-        let mut log = SharedLog::new(self.log);
-        let disk = Shown::new(self.disk.as_bytes());
-        let objects = server.carousel().objects.len();
-        let _ = write!(log, "play: motcar {VERSION}, {disk}, {objects} objects, ");
-        let _ = match &self.size {
-            Some((_, size)) => writeln!(log, "{} packets a turn", size.packets),
-            None => writeln!(log, "a turn not measured: {}", Refusal::OutOfMemory),
-        };
-        let _ = log.flush();
+    fn tell_start<D: Disk>(&mut self, server: &Server<D>, alloc: Global)
+        ensures counts { self.new.log.counters ≡ self.old.log.counters }
+        ensures log { (self.new.log.levels ≡ self.old.log.levels)
+            × (self.new.log.is_whole ≡ true → self.old.log.is_whole ≡ true) }
+        ensures told { self.new.log.is_whole ≡ true → Appends (W.contents self.old.log.writer)
+            (W.contents self.new.log.writer)
+            (logged_before self.old.log.levels false self.old.disk.now
+            (vec_len server.now.view.carousel.objects) (turn_packets self.new.size)) }
+        ensures begun { self.new.has_begun ≡ true }
+        ensures same { self.new ≡ record self.old {
+          log = self.new.log;
+          has_begun = self.new.has_begun;
+          size = self.new.size;
+        } }
+    {
+        self.has_begun = true;
+        self.size = measure(self.size, server, alloc);
+        let objects = server.carousel().objects.len() as u64;
+        let packets = turn_packets(self.size);
+        let disk = self.disk.as_bytes();
+        self.log
+            .tell(&Event::Began(VERSION, disk, objects, packets));
     }
 
-    /// Tells that so many turns were sent, which are all.
-    pub fn tell_end(&self, turns: u64) {
-        let mut log = SharedLog::new(self.log);
-        let packets = self.calls;
-        let _ = writeln!(log, "play: ended, {turns} turns, {packets} packets");
-        let _ = log.flush();
-    }
-
-    /// What a turn takes: nothing, if that is not known.
-    fn turn_size(&self) -> TurnSize {
-        match &self.size {
-            Some((_, size)) => *size,
-            None => TurnSize {
-                packets: 0,
-                bytes: 0,
-            },
+    /// Tells what is due after an update: what the last look met, if there was one since, and the
+    /// status after a look and after each 1,000 packets.
+    #[inline(always)]
+    pub fn tell_after<D: Disk>(&mut self, server: &Server<D>, alloc: Global, looked: Looked<'_>)
+        ensures counts { let same = ⟦<LookEvent as PartialEq>⟧.eq in
+            self.new.log.counters ≡ status_counted self.old.is_unwritten self.new.is_unwritten
+            (counted_after same self.old.looks looked.entry self.old.log.counters) }
+        ensures log { (self.new.log.levels ≡ self.old.log.levels)
+            × (self.new.log.is_whole ≡ true → self.old.log.is_whole ≡ true) }
+        ensures told { let same = ⟦<LookEvent as PartialEq>⟧.eq in
+            let file = option_map (λ f. place f.path.now f.disk.now
+            (option_map string_bytes f.beside))
+            self.old.status in
+            self.new.log.is_whole ≡ true → (reason : List ℕ) × Appends
+            (W.contents self.old.log.writer) (W.contents self.new.log.writer)
+            (logged_after same self.old.log.levels self.old.looks looked.entry
+            ++ status_line self.old.log.levels (path_of file)
+            self.old.is_unwritten self.new.is_unwritten reason) }
+        ensures status { let same = ⟦<LookEvent as PartialEq>⟧.eq in
+            let counters = counted_after same self.old.looks looked.entry self.old.log.counters in
+            Reports (option_map (λ f. place f.path.now f.disk.now
+            (option_map string_bytes f.beside))
+            self.old.status)
+            (matter self.old.disk.now server.now.view (turn_of self.new.size) counters
+            looked.entry.events.now)
+            (not (counters.changes == self.old.changes))
+            (is_due self.old.next self.old.log.counters.packets
+            (is_new_look self.old.looks looked.entry))
+            (known self.old.last_change self.old.is_unwritten
+            (option_map (λ f. S.calls f.system) self.old.status))
+            (known self.new.last_change self.new.is_unwritten
+            (option_map (λ f. S.calls f.system) self.new.status)) }
+        ensures place { option_map (λ f. place f.path.now f.disk.now
+            (option_map string_bytes f.beside))
+            self.new.status
+            ≡ option_map (λ f. place f.path.now f.disk.now (option_map string_bytes f.beside))
+            self.old.status }
+        ensures same { let same = ⟦<LookEvent as PartialEq>⟧.eq in
+            let packets = self.old.log.counters.packets in
+            let is_new = is_new_look self.old.looks looked.entry in
+            self.new ≡ record self.old {
+              log = self.new.log;
+              status = self.new.status;
+              text = self.new.text;
+              looks = looked.entry.count;
+              next = if is_due self.old.next packets is_new then next_after packets
+                  else self.old.next;
+              size = self.new.size;
+              changes = (counted_after same self.old.looks looked.entry
+                  self.old.log.counters).changes;
+              last_change = self.new.last_change;
+              is_unwritten = self.new.is_unwritten;
+            } }
+    {
+        let packets = self.log.counters.packets;
+        let is_due = is_due(self.next, packets, looked.count != self.looks);
+        self.next = next_if(is_due, self.next, packets);
+        self.tell_looked(looked);
+        self.note_changes();
+        if is_due {
+            self.tell_status(server, alloc, looked.events);
         }
     }
 
-    /// What is known now, after so many packets and a look of these lines.
-    fn figures<D: Disk>(&self, server: &Server<D>, packets: u64, lines: &[u8]) -> Figures<'a> {
-        let carousel = server.carousel();
-        let (changes, refusals) = match self.log.try_borrow() {
-            Ok(log) => (log.changes, log.refusals),
-            Err(_) => (0, 0),
-        };
-        let mut used: u64 = 0;
-        for object in &carousel.objects {
-            used = used.saturating_add(u64::from(object.length.get()));
-        }
-        let size = self.turn_size();
-        Figures {
-            disk: self.disk,
-            version: VERSION,
-            packets,
-            turns: self.turns,
-            looks: self.looks,
-            changes,
-            refusals,
-            objects: carousel.objects.len() as u64,
-            directory: u64::from(carousel.directory.get()),
-            turn_packets: size.packets,
-            turn_bytes: size.bytes,
-            free: u64::from(server.geometry().data_area).saturating_sub(used),
-            gap: u64::from(server.longest_gap()),
-            listed: if is_listed(lines) { 1 } else { 0 },
+    /// Tells what the last look met, if there was one since the last call.
+    fn tell_looked(&mut self, looked: Looked<'_>)
+        ensures counts { let same = ⟦<LookEvent as PartialEq>⟧.eq in
+            self.new.log.counters
+            ≡ counted_after same self.old.looks looked.entry self.old.log.counters }
+        ensures log { (self.new.log.levels ≡ self.old.log.levels)
+            × (self.new.log.is_whole ≡ true → self.old.log.is_whole ≡ true) }
+        ensures told { let same = ⟦<LookEvent as PartialEq>⟧.eq in
+            self.new.log.is_whole ≡ true → Appends
+            (W.contents self.old.log.writer) (W.contents self.new.log.writer)
+            (logged_after same self.old.log.levels self.old.looks looked.entry) }
+        ensures looks { self.new.looks ≡ looked.entry.count }
+        ensures same { self.new ≡ record self.old {
+          log = self.new.log;
+          looks = self.new.looks;
+        } }
+    {
+        let is_new = looked.count != self.looks;
+        self.looks = looked.count;
+        if is_new {
+            self.tell_look(looked.events, looked.before);
         }
     }
 
-    /// Writes the status, with the files that these lines refuse. A fault of it is told, once.
-    fn write(&mut self, figures: &Figures<'_>, lines: &[u8]) {
+    /// Counts a look, and tells those of its events that the look before had not.
+    pub fn tell_look(&mut self, events: &[LookEvent], before: &[LookEvent])
+        ensures counts { let same = ⟦<LookEvent as PartialEq>⟧.eq in
+            self.new.log.counters
+            ≡ counted_look self.old.log.counters (new_events same before.now events.now) }
+        ensures log { (self.new.log.levels ≡ self.old.log.levels)
+            × (self.new.log.is_whole ≡ true → self.old.log.is_whole ≡ true) }
+        ensures told { let same = ⟦<LookEvent as PartialEq>⟧.eq in
+            self.new.log.is_whole ≡ true → Appends
+            (W.contents self.old.log.writer) (W.contents self.new.log.writer)
+            (flat_map (logged_met self.old.log.levels) (new_events same before.now events.now)) }
+        ensures same { self.new ≡ record self.old { log = self.new.log } }
+    {
+        self.log.tell_look(events, before);
+    }
+
+    /// Notes when the last change was made, if there was one since the last call.
+    fn note_changes(&mut self)
+        ensures asks { Asks (option_map (λ f. S.calls f.system) self.old.status)
+            (option_map (λ f. S.calls f.system) self.new.status)
+            (AsksTime (not (self.old.log.counters.changes == self.old.changes))
+            self.old.last_change self.new.last_change)
+            (self.new.last_change ≡ self.old.last_change) }
+        ensures changes { self.new.changes ≡ self.old.log.counters.changes }
+        ensures place { option_map (λ f. place f.path.now f.disk.now
+            (option_map string_bytes f.beside))
+            self.new.status
+            ≡ option_map (λ f. place f.path.now f.disk.now (option_map string_bytes f.beside))
+            self.old.status }
+        ensures same { self.new ≡ record self.old {
+          status = self.new.status;
+          changes = self.new.changes;
+          last_change = self.new.last_change;
+        } }
+    {
+        let grew = self.log.counters.changes != self.changes;
+        self.changes = self.log.counters.changes;
+        self.last_change = ask_time(&mut self.status, grew, self.last_change);
+    }
+
+    /// Writes the status, if a file of it is given, and tells of a fault of it once.
+    #[inline(never)]
+    fn tell_status<D: Disk>(&mut self, server: &Server<D>, alloc: Global, events: &[LookEvent])
+        ensures counts { self.new.log.counters ≡ status_counted self.old.is_unwritten
+            self.new.is_unwritten self.old.log.counters }
+        ensures log { (self.new.log.levels ≡ self.old.log.levels)
+            × (self.new.log.is_whole ≡ true → self.old.log.is_whole ≡ true) }
+        ensures told { let file = option_map (λ f. place f.path.now f.disk.now
+            (option_map string_bytes f.beside))
+            self.old.status in
+            self.new.log.is_whole ≡ true → (reason : List ℕ) × Appends
+            (W.contents self.old.log.writer) (W.contents self.new.log.writer)
+            (status_line self.old.log.levels (path_of file)
+            self.old.is_unwritten self.new.is_unwritten reason) }
+        ensures status { WritesIf
+            (option_map (λ f. place f.path.now f.disk.now (option_map string_bytes f.beside))
+            self.old.status)
+            (matter self.old.disk.now server.now.view (turn_of self.new.size) self.old.log.counters
+            events.now)
+            (known self.old.last_change self.old.is_unwritten
+            (option_map (λ f. S.calls f.system) self.old.status))
+            (known self.new.last_change self.new.is_unwritten
+            (option_map (λ f. S.calls f.system) self.new.status)) }
+        ensures place { option_map (λ f. place f.path.now f.disk.now
+            (option_map string_bytes f.beside))
+            self.new.status
+            ≡ option_map (λ f. place f.path.now f.disk.now (option_map string_bytes f.beside))
+            self.old.status }
+        ensures same { self.new ≡ record self.old {
+          log = self.new.log;
+          status = self.new.status;
+          text = self.new.text;
+          size = self.new.size;
+          is_unwritten = self.new.is_unwritten;
+        } }
+    {
+        self.size = measure(self.size, server, alloc);
+        let figures = figures_of(self.disk, server, turn_of(self.size), self.last_change);
         let Some(status) = &mut self.status else {
             return;
         };
-        let written = match write_status(&mut self.text, figures, lines) {
-            Ok(()) => status.write(self.text.as_slice()),
-            Err(error) => Err(PacketsFault::from(error)),
-        };
-        let was_unwritten = self.is_unwritten;
-        self.is_unwritten = written.is_err();
-        if self.is_unwritten == was_unwritten {
-            return;
+        let counters = &self.log.counters;
+        let written = hand(status, &mut self.text, alloc, &figures, counters, events);
+        let was = self.is_unwritten;
+        self.is_unwritten = tell_written(&mut self.log, alloc, status.path, was, written);
+    }
+
+    /// Tells that so many turns were sent, which are all, and writes the status once more. The last
+    /// packet, with which the last turn has ended, was taken since the last update, after which the
+    /// last look had met this.
+    pub fn tell_end<D: Disk>(
+        &mut self,
+        server: &Server<D>,
+        alloc: Global,
+        turns: u64,
+        events: &[LookEvent],
+    )
+        ensures counts { self.new.log.counters ≡ status_counted self.old.is_unwritten
+            self.new.is_unwritten (counted_end self.old.has_begun self.old.log.counters) }
+        ensures log { (self.new.log.levels ≡ self.old.log.levels)
+            × (self.new.log.is_whole ≡ true → self.old.log.is_whole ≡ true) }
+        ensures told { let file = option_map (λ f. place f.path.now f.disk.now
+            (option_map string_bytes f.beside))
+            self.old.status in
+            self.new.log.is_whole ≡ true → (reason : List ℕ) × Appends
+            (W.contents self.old.log.writer) (W.contents self.new.log.writer)
+            (logged_end self.old.log.levels turns
+            (counted_end self.old.has_begun self.old.log.counters).packets
+            ++ status_line self.old.log.levels (path_of file)
+            self.old.is_unwritten self.new.is_unwritten reason) }
+        ensures status { let counters = counted_end self.old.has_begun self.old.log.counters in
+            Reports (option_map (λ f. place f.path.now f.disk.now
+            (option_map string_bytes f.beside))
+            self.old.status)
+            (matter self.old.disk.now server.now.view (turn_of self.new.size) counters events.now)
+            (not (counters.changes == self.old.changes)) true
+            (known self.old.last_change self.old.is_unwritten
+            (option_map (λ f. S.calls f.system) self.old.status))
+            (known self.new.last_change self.new.is_unwritten
+            (option_map (λ f. S.calls f.system) self.new.status)) }
+        ensures place { option_map (λ f. place f.path.now f.disk.now
+            (option_map string_bytes f.beside))
+            self.new.status
+            ≡ option_map (λ f. place f.path.now f.disk.now (option_map string_bytes f.beside))
+            self.old.status }
+        ensures same { self.new ≡ record self.old {
+          log = self.new.log;
+          status = self.new.status;
+          text = self.new.text;
+          size = self.new.size;
+          changes = self.new.changes;
+          last_change = self.new.last_change;
+          is_unwritten = self.new.is_unwritten;
+        } }
+    {
+        self.tell_ended(turns);
+        self.note_changes();
+        self.tell_status(server, alloc, events);
+    }
+
+    /// Tells the last packet and turn, and how many there were.
+    fn tell_ended(&mut self, turns: u64)
+        ensures counts { self.new.log.counters
+            ≡ counted_end self.old.has_begun self.old.log.counters }
+        ensures log { (self.new.log.levels ≡ self.old.log.levels)
+            × (self.new.log.is_whole ≡ true → self.old.log.is_whole ≡ true) }
+        ensures told { self.new.log.is_whole ≡ true → Appends
+            (W.contents self.old.log.writer) (W.contents self.new.log.writer)
+            (logged_end self.old.log.levels turns
+            (counted_end self.old.has_begun self.old.log.counters).packets) }
+        ensures same { self.new ≡ record self.old { log = self.new.log } }
+    {
+        self.tell_last();
+        let packets = self.log.counters.packets;
+        self.log.tell(&Event::Ended(turns, packets));
+    }
+
+    /// Tells the last packet, if there was one, and with it the last turn.
+    fn tell_last(&mut self)
+        ensures counts { self.new.log.counters
+            ≡ counted_end self.old.has_begun self.old.log.counters }
+        ensures log { (self.new.log.levels ≡ self.old.log.levels)
+            × (self.new.log.is_whole ≡ true → self.old.log.is_whole ≡ true) }
+        ensures told { self.new.log.is_whole ≡ true → Appends
+            (W.contents self.old.log.writer) (W.contents self.new.log.writer) [] }
+        ensures same { self.new ≡ record self.old { log = self.new.log } }
+    {
+        if self.has_begun {
+            self.tell_packet(true);
         }
-        let mut log = SharedLog::new(self.log);
-        let path = Shown::new(status.path.as_bytes());
-        let _ = match written {
-            Ok(()) => writeln!(log, "status {path} written"),
-            Err(fault) => {
-                let refusal = Refusal::WriteFault;
-                writeln!(log, "status {path} refused {refusal}: {fault}")
-            }
-        };
-        let _ = log.flush();
     }
 }
 
-/// Whether a look of these lines went by the folder's list: no line is about all of it.
-fn is_listed(lines: &[u8]) -> bool {
-    for line in lines.split(|byte| *byte == b'\n') {
-        if line.starts_with(b"look ") {
-            return false;
-        }
+impl<'a, S: System + Drop, W: Write + Drop> Tells for Reporter<'a, S, W> {
+    ghost log_has = { λ reporter. W.contents reporter.log.writer };
+
+    ghost log_is_whole = { λ reporter. reporter.log.is_whole };
+
+    ghost log_has_levels = { λ reporter. reporter.log.levels };
+
+    /// Counts an event, and writes its line to the log, if it has one.
+    fn tell(&mut self, event: &Event<'_>)
+        ensures counts { self.new.log.counters
+            ≡ counted self.old.log.counters (tally_of event.now) }
+        ensures levels { self.new.log.levels ≡ self.old.log.levels }
+        ensures whole { self.new.log.is_whole ≡ true → self.old.log.is_whole ≡ true }
+        ensures told { self.new.log.is_whole ≡ true → Appends (W.contents self.old.log.writer)
+            (W.contents self.new.log.writer) (logged self.old.log.levels event.now) }
+        ensures same { self.new ≡ record self.old { log = self.new.log } }
+    {
+        self.log.tell(event);
     }
-    true
+
+    /// Something that happened is left out of the log.
+    fn leave_out(&mut self)
+        ensures levels { self.new.log.levels ≡ self.old.log.levels }
+        ensures left { self.new.log.is_whole ≡ false }
+        ensures counts { self.new.log.counters ≡ self.old.log.counters }
+        ensures same { self.new ≡ record self.old { log = self.new.log } }
+    {
+        self.log.leave_out();
+    }
+}
+
+impl<'a, S: System + Drop, W: Write + Drop> Watch for Reporter<'a, S, W> {
+    /// Tells what is due before an update.
+    fn begin<D: Disk>(&mut self, server: &Server<D>, alloc: Global, moment: Moment) {
+        self.tell_before(server, alloc, moment);
+    }
+
+    /// Tells what is due after an update.
+    fn end<D: Disk, U: Facts>(&mut self, server: &Server<D>, alloc: Global, update: &U) {
+        let looked = Looked {
+            count: update.looks(),
+            events: update.events(),
+            before: update.events_before(),
+        };
+        self.tell_after(server, alloc, looked);
+    }
+}
+
+/// Whether a turn has ended.
+fn ends_turn(moment: Moment) -> bool
+    ensures { result ≡ ends_turn moment }
+{
+    match moment {
+        Moment::BetweenTurns => true,
+        _ => false,
+    }
+}
+
+/// What a turn takes: nothing, if that is not known.
+fn turn_of(size: Option<Measured>) -> TurnSize
+    ensures { result ≡ turn_of size }
+{
+    match size {
+        Some(measured) => measured.turn,
+        None => TurnSize {
+            packets: 0,
+            bytes: 0,
+        },
+    }
+}
+
+/// How many packets a turn has, if that is known.
+fn turn_packets(size: Option<Measured>) -> Option<u64>
+    ensures { result ≡ turn_packets size }
+{
+    match size {
+        Some(measured) => Some(measured.turn.packets),
+        None => None,
+    }
+}
+
+/// Whether the status is written after so many packets: after a look it always is.
+fn is_due(next: u64, packets: u64, is_new: bool) -> bool
+    ensures { result ≡ is_due next packets is_new }
+{
+    is_new || packets >= next
+}
+
+/// After how many packets the status is written again, if it is written after so many, or is not.
+fn next_if(is_due: bool, next: u64, packets: u64) -> u64
+    ensures { result ≡ (if is_due then next_after packets else next) }
+{
+    if is_due { next_after(packets) } else { next }
+}
+
+/// After how many packets the status is written again, once it was written after so many.
+fn next_after(packets: u64) -> u64
+    ensures { result ≡ next_after packets }
+{
+    (packets - packets % PACKETS).saturating_add(PACKETS)
+}
+
+/// Asks the system for the time, if changes were made since it was asked last; the seconds of the
+/// last change, which were these.
+fn ask_time<S: System + Drop>(
+    status: &mut Option<StatusFile<'_, S>>,
+    grew: bool,
+    seconds: u64,
+) -> u64
+    ensures asks { Asks (option_map (λ f. S.calls f.system) status.old)
+        (option_map (λ f. S.calls f.system) status.new) (AsksTime grew seconds result)
+        (result ≡ seconds) }
+    ensures place { option_map (λ f. place f.path.now f.disk.now (option_map string_bytes f.beside))
+        status.new
+        ≡ option_map (λ f. place f.path.now f.disk.now (option_map string_bytes f.beside))
+        status.old }
+{
+    if !grew {
+        return seconds;
+    }
+    match status {
+        Some(file) => seconds_or(file.now(), seconds),
+        None => seconds,
+    }
 }

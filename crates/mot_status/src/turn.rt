@@ -1,9 +1,11 @@
 //! What a turn takes.
+use disk_model::Disk;
 use mot_directory::directory_bytes;
 use mot_groups::segment_count;
 use mot_numbers::{PacketLength, Refusal, SegmentSize};
 use mot_objects::Carousel;
 use mot_packets::packet_count;
+use mot_server::Server;
 use std::alloc::Global;
 
 /// How many bytes of a group are not its segment's.
@@ -19,6 +21,38 @@ pub struct TurnSize {
     pub packets: u64,
     /// Their bytes.
     pub bytes: u64,
+}
+
+/// What a turn takes, and the carousel of which that is known.
+#[derive(Clone, Copy)]
+pub struct Measured {
+    /// The transport id of its directory, which each change makes another one.
+    pub directory: u16,
+    /// What a turn takes.
+    pub turn: TurnSize,
+}
+
+/// What a turn of the carousel of a server takes: what is known of another one, if that is the
+/// same.
+#[inline(never)]
+pub(crate) fn measure<D: Disk>(
+    known: Option<Measured>,
+    server: &Server<D>,
+    alloc: Global,
+) -> Option<Measured> {
+    let carousel = server.carousel();
+    let directory = carousel.directory.get();
+    if let Some(measured) = known
+        && measured.directory == directory
+    {
+        return known;
+    }
+    let geometry = server.geometry();
+    let (size, length) = (geometry.size_of_segments(), geometry.length_of_packets());
+    match turn_size(alloc, carousel, size, length) {
+        Ok(turn) => Some(Measured { directory, turn }),
+        Err(_) => None,
+    }
 }
 
 /// What a turn of this carousel takes, from its beginning on, with the directory once. It takes

@@ -2,6 +2,7 @@
 use crate::disks::{Server, new_server};
 use crate::expecting::expect;
 use mot_base::{Geometry, Refusal};
+use mot_events::{LookEvent, add_met_line};
 use mot_folder::{FileTypes, Folder, look_at_folder};
 use mot_shelf::MemoryShelf;
 use std::alloc::Global;
@@ -62,7 +63,16 @@ fn told_of(
     let types = FileTypes::new(alloc)?;
     let mut folder = Folder::new(alloc, shelf, &types, allows_empty);
     look_at_folder(alloc, server, &mut folder)?;
-    Ok(folder.report.lines)
+    lines_of(alloc, folder.report.events.as_slice())
+}
+
+/// The lines of these events.
+fn lines_of(alloc: Global, events: &[LookEvent]) -> Result<Vec<u8>, Refusal> {
+    let mut lines = Vec::new(alloc);
+    for event in events {
+        add_met_line(&mut lines, event)?;
+    }
+    Ok(lines)
 }
 
 /// Whether a look is told so.

@@ -6,19 +6,19 @@ use crate::judging::{has_right_objects, is_of_lines, is_told_right, wrong_remova
 use crate::texts::{LINES, lines_plan, objects_plan};
 use crate::verdict::{Verdict, Wrong};
 use disk_store::{Disk, MemoryDisk};
-use mot_endpoints::{Asked, Heard, LineLog, LinePlace, Replies, SharedLog, Spool};
+use mot_endpoints::{LinePlace, Spool};
 use mot_feed::feed_every;
-use mot_feed_lines::Lines;
+use mot_feed_lines::{Lines, Reported};
 use mot_files::{Kind, MemorySystem, Plan, System};
 use mot_folder::{FileTypes, Folder, Looks};
 use mot_journal::{Geometry, format};
 use mot_lines::Hand;
 use mot_packets::Outlet;
 use mot_server::Server;
-use mot_shelf::{Inlet, SystemShelf};
-use mot_update::Update;
+use mot_shelf::SystemShelf;
+use mot_status::{Reporter, Telling};
+use mot_update::{Facts, Update, Watch};
 use std::alloc::{AllocError, Global};
-use std::cell::RefCell;
 use std::io::{self, ErrorKind, Write};
 
 /// The sizes of the disk.
@@ -294,65 +294,60 @@ fn play<S: System + Drop, D: Disk, L: Write + Drop>(
     log: L,
     manner: Manner,
 ) -> (S, S) {
-    let log = RefCell::new(LineLog::new(alloc, log, false));
-    let asked = RefCell::new(Asked::new(alloc));
-    let looks = looks_at(alloc, types, objects, SharedLog::new(&log), manner);
-    let reader = reader_of(alloc, lines, SharedLog::new(&log), &asked);
-    let replies = Replies::new(SharedLog::new(&log), &asked);
-    let lines = lines_with(reader, hand, replies, manner, looks);
-    let (reader, looks) = answer(alloc, server, lines, manner);
-    (objects_of(looks), lines_of(reader))
+    let reported = Reported {
+        update: looks_at(alloc, types, objects, manner),
+        watch: teller(alloc, log),
+    };
+    let spool = LinePlace::new(lines, "lines").spool(alloc);
+    let lines = Lines::new(alloc, spool, hand, manner.lines, reported);
+    let (spool, looks) = answer(alloc, server, lines, manner);
+    (objects_of(looks), spool.into_system())
 }
 
 /// Looks at the folder of objects.
-fn looks_at<'a, S: System + Drop, W: Write + Drop>(
+fn looks_at<'a, S: System + Drop>(
     alloc: Global,
     types: &'a FileTypes,
     objects: S,
-    log: W,
     manner: Manner,
-) -> Looks<'a, SystemShelf<'a, S>, W> {
+) -> Looks<'a, SystemShelf<'a, S>> {
     let shelf = SystemShelf::new(objects, "objects", manner.at_once);
     let folder = Folder::new(alloc, shelf, types, true);
-    let mut looks = Looks::new(alloc, folder, log);
+    let mut looks = Looks::new(alloc, folder);
     looks.every = manner.looks;
     looks.within = manner.directory > 0 && manner.look > 0;
     looks
 }
 
-/// What reads the folder of lines.
-fn reader_of<'a, S: System + Drop, W: Write + Drop>(
-    alloc: Global,
-    lines: S,
-    log: W,
-    asked: &'a RefCell<Asked>,
-) -> Heard<Spool<'a, S, W>> {
-    LinePlace::new(lines, "lines").spool(alloc, log, asked)
-}
-
-/// Lines, over these updates.
-fn lines_with<R: Inlet + Drop, W: Write + Drop, U: Update + Drop>(
-    reader: R,
-    hand: Hand,
-    log: W,
-    manner: Manner,
-    update: U,
-) -> Lines<R, W, U> {
-    Lines::new(reader, hand, log, manner.lines, update)
+/// What writes the log, without a status.
+fn teller<L: Write + Drop>(alloc: Global, log: L) -> Reporter<'static, MemorySystem, L> {
+    let telling = Telling {
+        disk: "disk",
+        status: None,
+        levels: false,
+    };
+    Reporter::new(alloc, log, telling)
 }
 
 /// Plays with these lines, and ends their reading if nothing killed it.
-fn answer<'a, S: System + Drop, D: Disk, W: Write + Drop, L: Write + Drop, U: Update + Drop>(
+fn answer<'a, S: System + Drop, D: Disk, U: Update + Facts + Drop, T: Watch + Drop>(
     alloc: Global,
     server: &mut Server<D>,
-    lines: Lines<Heard<Spool<'a, S, W>>, L, U>,
+    lines: Lines<Spool<'a, S>, U, T>,
     manner: Manner,
-) -> (Heard<Spool<'a, S, W>>, U) {
+) -> (Spool<'a, S>, U) {
     let mut lines = lines;
     if is_fed(alloc, server, &mut lines, manner) && lines.is_answered() {
-        lines.reader.finish();
+        finish(&mut lines);
     }
-    (lines.reader, lines.update)
+    lines.into_parts()
+}
+
+/// Ends the reading of lines.
+fn finish<'a, S: System + Drop, U: Update + Facts + Drop, T: Watch + Drop>(
+    lines: &mut Lines<Spool<'a, S>, U, T>,
+) {
+    lines.reader.finish(&mut lines.reported.watch);
 }
 
 /// Plays with these updates; whether it came to its end.
@@ -377,13 +372,8 @@ fn is_fed<D: Disk, U: Update>(
 }
 
 /// The folder of objects.
-fn objects_of<'a, S: System + Drop, W: Write + Drop>(looks: Looks<'a, SystemShelf<'a, S>, W>) -> S {
+fn objects_of<'a, S: System + Drop>(looks: Looks<'a, SystemShelf<'a, S>>) -> S {
     looks.folder.shelf.into_system()
-}
-
-/// The folder of lines.
-fn lines_of<'a, S: System + Drop, W: Write + Drop>(reader: Heard<Spool<'a, S, W>>) -> S {
-    reader.into_reader().into_system()
 }
 
 /// What is wrong with what was done to the folders in a life, before which so many files had been

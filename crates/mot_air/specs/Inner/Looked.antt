@@ -2,7 +2,9 @@
 use Rattle.std.specs.Prelude.{◌≡◌, ℕ, Bool, false, not, List, Option, Some, None, Result, Ok}
 use Rattle.std.specs.Prelude.{Err}
 use Rattle.std.specs.Io.KnownBytes.{Appends}
+use Rattle.std.specs.List.{flat_map}
 use Rattle.disk_model.specs.Disk.{State}
+use Rattle.mot_events.specs.Text.{met_line}
 use Rattle.mot_folder.specs.Looked.{HasLookedAtFolder}
 use Rattle.mot_folder.specs.declared.report.Report.{Report}
 use Rattle.mot_journal.specs.Image.{Standing}
@@ -17,7 +19,7 @@ pub data LooksAndTells {D : Type 0} (old new : ServerView D) (start now : State)
     (types : List SuffixType) (allows : Bool) (path : List ℕ) (given : Given)
     (before after : Option (List ℕ)) (result : Result Bool Refusal) : Type 0 where
   told : (report : Report) → result ≡ Ok (not report.any_refused) → report.any_left_out ≡ false
-      → Appends before after report.lines.items
+      → Appends before after (flat_map met_line report.events.items)
       → HasLookedAtFolder old new start now s types allows path given report None
       → LooksAndTells old new start now s types allows path given before after result
   broken : (report : Report) (refusal : Refusal) → result ≡ Err refusal

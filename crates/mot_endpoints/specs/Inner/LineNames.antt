@@ -1,18 +1,19 @@
 -- Names of files of lines.
-use Rattle.std.specs.Prelude.{◌≡◌, ◌≢◌, ◌≤◌, ◌<◌, ◌-◌, ℕ, List, All, IsUtf8, Option, Some, codes, drop, get_or}
-use Rattle.std.specs.Prelude.{insert, length, remove}
+use Rattle.std.specs.Prelude.{◌≡◌, ◌≤◌, ◌<◌, ℕ, Bool, true, false, List, MatchOption, Option, None, Some}
+use Rattle.std.specs.Prelude.{[], ◌∷◌, get_or, if◌then◌else◌, insert, length, nat_eq, remove}
 use Rattle.std.specs.Cmp.Lexicographic.{slice_cmp}
 use Rattle.std.specs.Ordering.{nat_cmp}
+use Rattle.mot_endpoints.specs.LineFiles.{IsOfLines}
 use Rattle.std.specs.declared.cmp.Ordering.TheVariants.{Less}
 
--- a file of this name is one of lines: it ends in `.lines`, and does not begin with a dot
-abbrev pub IsOfLines : List ℕ → Type 0
-IsOfLines name = (6 ≤ length name) × (get_or name 0 0 ≢ 46)
-    × (drop (length name - 6) name ≡ codes ".lines")
+-- the names in what a read of a folder gave, each ended by a zero byte
+abbrev pub begun : ℕ → List (List ℕ) → List (List ℕ)
+begun byte [] = []
+begun byte (name ∷ names) = (byte ∷ name) ∷ names
 
--- a text in which no control character stands
-abbrev pub IsPlain : List ℕ → Type 0
-IsPlain name = IsUtf8 name × All (λ byte. (32 ≤ byte) × (byte ≢ 127)) name
+abbrev pub names_in : List ℕ → List (List ℕ)
+names_in [] = []
+names_in (byte ∷ bytes) = (if nat_eq byte 0 then [] ∷ names_in bytes else begun byte (names_in bytes))
 
 -- by the first byte that is another, or by the length
 abbrev pub ComesBefore : (name other : List ℕ) → Type 0
@@ -44,3 +45,21 @@ module _ {V : Type 0} (bytes : V → List ℕ) where
     kept : length old < 64 → IsPut name old new → Keeps given name old new
     instead : 64 ≤ length old → ((d : V) → ComesBefore name (bytes (get_or old 0 d)))
         → IsPut name (remove old 0) new → Keeps given name old new
+
+  -- behind the last name that waits come those for which there was no room; if there was room for
+  -- all, the names begin again with the first
+  abbrev pub GoesOn : (has_more : Bool) (name : List ℕ) (given : Option V) → Type 0
+  GoesOn true name given = MatchOption given ⊥ (λ last. bytes last ≡ name)
+  GoesOn false name given = given ≡ None
+
+  -- a name is kept so if it is one of lines
+  pub data KeepsLines (given : Option V) (name : List ℕ) (old new : List V) : Type 0 where
+    other : ¬ (IsOfLines name) → new ≡ old → KeepsLines given name old new
+    lines : IsOfLines name → Keeps given name old new → KeepsLines given name old new
+
+  -- and so are all of these, one after the other
+  pub data KeepsAll (given : Option V) : (names : List (List ℕ)) (old new : List V) → Type 0 where
+    none : {old new : List V} → new ≡ old → KeepsAll given [] old new
+    more : {name : List ℕ} {names : List (List ℕ)} {old new : List V} (mid : List V)
+        → KeepsLines given name old mid → KeepsAll given names mid new
+        → KeepsAll given (name ∷ names) old new

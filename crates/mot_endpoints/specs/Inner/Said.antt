@@ -24,3 +24,10 @@ pub data Remembers (tolds : List Told) (name : List ℕ) (stamp : Option Stamp) 
     Type 0 where
   by : (told : Told) → Contains tolds told → told.name.items ≡ name → told.stamp ≡ stamp
       → told.is_met ≡ true → told.is_unread ≡ unread → Remembers tolds name stamp unread
+
+-- whether an entry about a file says that a read of it failed, and that it was then as it is
+pub data IsUnread (tolds : List Told) (name : List ℕ) (stamp : Option Stamp) (is : Bool) :
+    Type 0 where
+  untold : IsUntold tolds name → is ≡ false → IsUnread tolds name stamp is
+  told : (told : Told) → Contains tolds told → told.name.items ≡ name
+      → (IsTrue is ↔ (told.is_unread ≡ true) × (told.stamp ≡ stamp)) → IsUnread tolds name stamp is

@@ -1,10 +1,15 @@
 -- A folder while its names are listed.
 use Rattle.std.specs.Prelude.{◌≡◌, ◌≢◌, ◌⊎◌, ◌<◌, ◌≤◌, ℕ, Bool, false, List, [], ◌∷◌, ◌++◌}
-use Rattle.std.specs.Prelude.{codes, length}
+use Rattle.std.specs.Prelude.{length}
 use Rattle.std.specs.List.{flat_map, list_any}
+use Rattle.std.specs.Str.{is_utf8}
+use Rattle.mot_events.specs.Text.{event_of}
+use Rattle.mot_events.specs.declared.event.LookEvent.{LookEvent}
+use Rattle.mot_events.specs.declared.event.Met.TheVariants.{Skipped}
+use Rattle.mot_events.specs.declared.event.Skip.{Skip}
+use Rattle.mot_events.specs.declared.event.Skip.TheVariants.{NotUtf8, Suffix}
 use Rattle.mot_folder.specs.Listed.{AreEither, nameless, names_in, object_names, with_type}
-use Rattle.mot_folder.specs.Log.{LogEntry, ReportTells, TellsOne, entry_with, is_read, names_read}
-use Rattle.mot_folder.specs.Log.{of_look}
+use Rattle.mot_folder.specs.Log.{ReportTells, TellsOne, is_read, names_read, of_look}
 use Rattle.mot_folder.specs.declared.listing.TheConstants.{MAX_NAMES}
 use Rattle.mot_folder.specs.declared.report.Report.{Report}
 use Rattle.mot_numbers.specs.declared.refusal.Refusal.{Refusal}
@@ -85,20 +90,20 @@ pub data GivesNoMore (types : List SuffixType) (old new : Given) (counted : ℕ)
 -- These are the names of regular files that a folder gave so far. The report tells those of them
 -- that have no name of an object, and beside them only notes.
 pub record TellsNameless (files : List (List ℕ)) (report : Report) : Type 0 where
-  pub entries : List LogEntry
+  pub entries : List LookEvent
   pub told : ReportTells report entries
   pub are : of_look entries ≡ []
   pub any : report.any_refused ≡ list_any is_read entries
   pub read : names_read entries ≡ nameless files
 
--- why a name is left out: what it names; or it names a regular file, and has none of the suffixes
-abbrev pub IsLeftOutFor : (has_suffix : Bool) → (rest : List ℕ) → Type 0
-IsLeftOutFor has_suffix rest =
-    (rest ≡ codes "folder\n") ⊎ (rest ≡ codes "link\n") ⊎ (rest ≡ codes "special\n")
-    ⊎ ((has_suffix ≡ false) × (rest ≡ codes "suffix\n"))
+-- a name is left out for what it names; or since it is not UTF-8; or it names a regular file, and
+-- has none of the suffixes
+abbrev pub IsLeftOutFor : (has_suffix : Bool) → (name : List ℕ) → Skip → Type 0
+IsLeftOutFor has_suffix name skip =
+    (skip ≡ Suffix → has_suffix ≡ false) × (skip ≡ NotUtf8 → is_utf8 name ≡ false)
 
 -- nothing was told; or that this name is left out, once and for such a reason
 pub data Skips (old new : Report) (name : List ℕ) (has_suffix : Bool) : Type 0 where
   untold : new ≡ old → Skips old new name has_suffix
-  told_so : (rest : List ℕ) → IsLeftOutFor has_suffix rest
-      → TellsOne old new (entry_with (codes "skip") name rest) → Skips old new name has_suffix
+  told_so : (skip : Skip) → IsLeftOutFor has_suffix name skip
+      → TellsOne old new (event_of name (Skipped skip)) → Skips old new name has_suffix

@@ -1,13 +1,23 @@
 -- A folder while its files are read, and what a source of them was told.
-use Rattle.std.specs.Prelude.{◌≡◌, ◌⊎◌, ℕ, List, [], ◌∷◌, ◌++◌, codes, length, map, take}
+use Rattle.std.specs.Prelude.{◌≡◌, ◌⊎◌, ℕ, List, [], ◌∷◌, ◌++◌, length, map, take}
 use Rattle.std.specs.Prelude.{None, Some, Bool, true, false}
+use Rattle.mot_events.specs.Text.{event_of}
+use Rattle.mot_events.specs.declared.event.Deed.TheVariants.{Read}
+use Rattle.mot_events.specs.declared.event.LookEvent.{LookEvent}
+use Rattle.mot_events.specs.declared.event.Met.{Met}
+use Rattle.mot_events.specs.declared.event.Met.TheVariants as met
+use Rattle.mot_events.specs.declared.event.Why.{Why}
+use Rattle.mot_events.specs.declared.event.Why.TheVariants as why
+use Rattle.mot_folder.specs.Inner.Listing.{IsCallRefusal}
 use Rattle.mot_folder.specs.Listed.{IsListing}
-use Rattle.mot_folder.specs.Log.{TellsOf, TellsOne, entry_with}
+use Rattle.mot_folder.specs.Log.{TellsOf, TellsOne, is_of_file}
 use Rattle.mot_folder.specs.Taken.{IsUntakable, wanted_file}
 use Rattle.mot_folder.specs.declared.folder.Untaken.{Untaken}
 use Rattle.mot_folder.specs.declared.folder.Untaken.TheVariants.{Refused as NotTaken, Unread as NotRead}
 use Rattle.mot_folder.specs.declared.report.Report.{Report}
 use Rattle.mot_files.specs.declared.reading.Unread.TheVariants.{Changed, NoMemory as OutOfRoom, System, TooLong, Young}
+use Rattle.mot_numbers.specs.declared.refusal.Refusal.{Refusal}
+use Rattle.mot_numbers.specs.declared.refusal.Refusal.TheVariants.{BodyTooLong, OutOfMemory}
 use Rattle.mot_server.specs.declared.running.Attempt.TheVariants.{Accepted}
 use Rattle.mot_shelf.specs.Given.{Given, and_missed, and_read}
 use Rattle.mot_suffixes.specs.Types.{SuffixType, type_of_name}
@@ -33,7 +43,7 @@ pub data Misses (types : List SuffixType) (name : List ℕ) (old new : Given) (N
 -- a file of this name is told as one that was not taken
 abbrev pub TellsFile : Report → Report → List ℕ → Type 0
 TellsFile old new name =
-    (rest : List ℕ) × TellsOne old new (entry_with (codes "read") name rest)
+    (met : Met) × (is_of_file met ≡ true) × TellsOne old new (event_of name met)
 
 -- Which path and types a look is of does not change: no clause of a source can say so, but what it
 -- was told and what it gave only go on. So they stand in front of these: the path with the number
@@ -47,14 +57,14 @@ as_wanted type =
 
 -- what was told, and given, in a look at the folder of this path, up to this place in the names
 pub record TellsLook (types : List SuffixType) (path : List ℕ) (given : Given)
-    (names : List (List ℕ)) (place : ℕ) (report : Report) (told : List Answer)
+    (names : List (List ℕ)) (place : ℕ) (report : Report) (waiting : ℕ) (told : List Answer)
     (gave : List Wanted) : Type 0 where
   pub answers : List Answer
   pub wanted : List Wanted
   pub headed : told ≡ heading path types ∷ answers
   pub typed : gave ≡ map as_wanted types ++ wanted
   pub listing : IsListing types path given names
-  pub tells : TellsOf types given report (take place names) answers wanted
+  pub tells : TellsOf types given report waiting (take place names) answers wanted
 
 -- whether the next look may take what was not taken: a file that is too young, or was changed
 abbrev pub is_for_next : Untaken → Bool
@@ -64,3 +74,25 @@ is_for_next (NotRead (TooLong count)) = false
 is_for_next (NotRead (System fault)) = false
 is_for_next (NotRead OutOfRoom) = false
 is_for_next (NotTaken refusal) = false
+
+-- the file of this name was not read, or not taken, for this reason
+abbrev pub unread_for : List ℕ → Refusal → Why → LookEvent
+unread_for name refusal why = event_of name (met.Refused Read refusal why)
+
+-- the system refused to read it
+abbrev pub TellsFault : Report → Report → List ℕ → Type 0
+TellsFault old new name = (refusal : Refusal) × (words : Why) × IsCallRefusal refusal
+    × TellsOne old new (unread_for name refusal words)
+
+-- why a file of this name was not taken, as it is told: so many bytes are too many, or what was read
+-- of it was refused
+abbrev pub TellsUntaken : Untaken → Report → Report → List ℕ → Type 0
+TellsUntaken (NotRead Young) old new name = TellsOne old new (event_of name met.Young)
+TellsUntaken (NotRead Changed) old new name = TellsOne old new (event_of name met.Changed)
+TellsUntaken (NotRead (TooLong count)) old new name =
+    TellsOne old new (unread_for name BodyTooLong (why.TooLong count))
+TellsUntaken (NotRead (System fault)) old new name = TellsFault old new name
+TellsUntaken (NotRead OutOfRoom) old new name =
+    TellsOne old new (unread_for name OutOfMemory why.Unsaid)
+TellsUntaken (NotTaken refusal) old new name =
+    TellsOne old new (unread_for name refusal why.Unsaid)

@@ -1,5 +1,7 @@
 use Rattle.std.proofs.Common.{◌∙◌, Err, ap, inl, inr, refl, subst}
 use Rattle.std.specs.Io.KnownBytes.{Appends}
+use Rattle.std.specs.List.{flat_map}
+use Rattle.mot_events.specs.Text.{met_line}
 use Rattle.mot_air.specs.Inner.Looked.{broken, told, untold}
 use Rattle.mot_air.proofs.playing.look_and_tell.Goals as goal
 use Rattle.mot_numbers.proofs.Laws.{same_error}
@@ -31,7 +33,7 @@ returns-in_err-told-clause-faults g c =
 pub returns-clause-looked : goal.returns-clause-looked
 returns-clause-looked g c = λ s holds honest.
     told c.look_at_folder-looked.new.folder.report refl c.in_ok-looked.ensures.whole
-    (subst (Appends (g.L.Write.contents c.args.log.now)
-    (g.L.Write.contents c.write_lines-told.new.log)) c.as_slice.ensures.value
+    (subst (λ l. Appends (g.L.Write.contents c.args.log.now)
+    (g.L.Write.contents c.write_events-told.new.log) (flat_map met_line l)) c.as_slice.ensures.value
     c.in_ok-told.ensures.written)
     (c.in_ok-looked.ensures.looked s holds honest)

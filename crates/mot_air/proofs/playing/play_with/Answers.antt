@@ -1,96 +1,28 @@
-use Rattle.std.proofs.Common.{◌⊎◌, inl, sym, subst}
+use Rattle.std.proofs.Common.{◌⊎◌, subst, sym}
 use Rattle.std.specs.Prelude.{IsSomeAnd}
 use Rattle.mot_air.specs.Lives.{AirsOn}
 use Rattle.mot_air.specs.Playing.{Plays, manner, tale_of}
-use Rattle.mot_air.proofs.Kept.{lives}
-use Rattle.mot_air.proofs.Played.{plays}
-use Rattle.mot_air.proofs.playing.play_with.Given as given
 use Rattle.mot_air.proofs.playing.play_with.Goals as goal
-use Rattle.mot_air.proofs.playing.play_with.Goals.{After-feed_every-result}
-use Rattle.mot_feed.proofs.Laws.{grows_nil}
-use Rattle.mot_feed.specs.Feeding.AreTold.{no_call}
 use Rattle.mot_export.specs.Opening.{IsUnopened}
-use Rattle.mot_export.proofs.Laws.{unopened_is}
 use Rattle.mot_server.specs.Attempts.{fault_of}
 
-pub returns-in-Err-clause-ended : goal.returns-in-Err-clause-ended
-returns-in-Err-clause-ended g c =
+pub returns-in-Open-clause-ended : goal.returns-in-Open-clause-ended
+returns-in-Open-clause-ended g c =
     let state = g.D.Disk.state in
-    let opens = c.in-Err.ensures in
-    let writes = g.O.Outlet.writes c.args.outlet.now in
     let how = manner c.args.directory c.args.look c.args.turns in
-    let update = c.args.update.now in
-    subst (λ (e : _). Plays (tale_of g.U.Update.tells how update update) how (fault_of e.result)
-    writes writes (state c.args.disk) (state e.disk)) (sym c.unopened.ensures)
-    (record {
-      keeps = opens.only_syncs.keeps;
-      came = inl (
-        unopened_is _ (state c.args.disk) _ opens.refused opens.calm opens.only_syncs.still,
-        (grows_nil writes, λ limit made. no_call),
-      );
-    })
+    subst (λ d. Plays (tale_of g.U.Update.tells how c.args.update.now c.feed_disk.new.update) how
+    (fault_of c.in-Open.result) (g.O.Outlet.writes c.args.outlet.now)
+    (g.O.Outlet.writes c.feed_disk.new.outlet) (state c.args.disk) (state d))
+    (sym c.into_disk.ensures) c.in-Open.ensures.ended
 
--- the playing
-by : (g : given.Over) (c : After-feed_every-result g) → Plays
-    (tale_of g.U.Update.tells (manner c.args.directory c.args.look c.args.turns) c.args.update.now
-    c.feed_every-result.new.update) (manner c.args.directory c.args.look c.args.turns)
-    (fault_of c.feed_every-result.result)
-    (g.O.Outlet.writes c.args.outlet.now) (g.O.Outlet.writes c.feed_every-result.new.outlet)
-    (g.D.Disk.state c.args.disk) (g.D.Disk.state c.feed_every-result.new.server.disk)
-by g c =
-    let opens = c.in-Ok.ensures in
-    let feeds = c.feed_every-result.ensures in
-    plays g.D.Disk.state c.args.disk c.in-Ok.server c.feed_every-result.new.server
-    g.met.D.Disk.sound opens.only_syncs opens.opened opens.calm opens.going opens.at_start
-    c.geometry.ensures.valid feeds.keeps feeds.continuous feeds.turns_read
-    feeds.changed_turns_read
-    g.U.Update.tells c.args.update.now
-    c.feed_every-result.new.update (manner c.args.directory c.args.look c.args.turns) _ _
-    c.feed_every-result.result feeds.calm feeds.fault
-    (λ s holds honest. (feeds.fed s holds honest).0)
-
-pub returns-clause-ended : goal.returns-clause-ended
-returns-clause-ended g c =
+pub returns-in-Open-clause-lives : goal.returns-in-Open-clause-lives
+returns-in-Open-clause-lives g c =
     let state = g.D.Disk.state in
-    let from = (goal.at.returns-clause-ended g c).After-feed_every-result in
-    let old = g.O.Outlet.writes c.args.outlet.now in
-    let new = g.O.Outlet.writes c.feed_every-result.new.outlet in
-    let how = manner c.args.directory c.args.look c.args.turns in
-    let update = c.args.update.now in
-    let last = c.feed_every-result.new.update in
-    subst (λ d. Plays (tale_of g.U.Update.tells how update last) how
-    (fault_of c.feed_every-result.result) old new (state c.args.disk) (state d))
-    (sym c.into_disk.ensures) (by g from)
-
-pub returns-in-Err-clause-lives : goal.returns-in-Err-clause-lives
-returns-in-Err-clause-lives g c =
-    let state = g.D.Disk.state in
-    let opens = c.in-Err.ensures in
-    let how = manner c.args.directory c.args.look c.args.turns in
-    let update = c.args.update.now in
-    let writes = g.O.Outlet.writes c.args.outlet.now in λ geometry first done was.
-    subst (λ (e : _). (state e.disk).IsHonest → IsSomeAnd (fault_of e.result) (λ r.
-    IsUnopened r (state c.args.disk) (state e.disk))
-    ⊎ AirsOn geometry first done (tale_of g.U.Update.tells how update update) how
-    (fault_of e.result) writes writes (state c.args.disk) (state e.disk))
-    (sym c.unopened.ensures)
-    (λ honest. inl
-    (unopened_is _ (state c.args.disk) _ opens.refused opens.calm opens.only_syncs.still))
-
-pub returns-clause-lives : goal.returns-clause-lives
-returns-clause-lives g c =
-    let state = g.D.Disk.state in
-    let from = (goal.at.returns-clause-lives g c).After-feed_every-result in
-    let ending = fault_of c.feed_every-result.result in
-    let old = g.O.Outlet.writes c.args.outlet.now in
-    let new = g.O.Outlet.writes c.feed_every-result.new.outlet in
-    let how = manner c.args.directory c.args.look c.args.turns in
-    let update = c.args.update.now in
-    let last = c.feed_every-result.new.update in λ geometry first done was.
+    let ending = fault_of c.in-Open.result in
+    let how = manner c.args.directory c.args.look c.args.turns in λ geometry first done was.
     subst (λ d. (state d).IsHonest → IsSomeAnd ending (λ r.
     IsUnopened r (state c.args.disk) (state d))
-    ⊎ AirsOn geometry first done (tale_of g.U.Update.tells how update last) how ending old new
-    (state c.args.disk) (state d))
-    (sym c.into_disk.ensures)
-    (λ honest. lives geometry first done (tale_of g.U.Update.tells how update last) how old new
-    (state c.args.disk) (state c.feed_every-result.new.server.disk) ending was honest (by g from))
+    ⊎ AirsOn geometry first done (tale_of g.U.Update.tells how c.args.update.now
+    c.feed_disk.new.update) how ending (g.O.Outlet.writes c.args.outlet.now)
+    (g.O.Outlet.writes c.feed_disk.new.outlet) (state c.args.disk) (state d))
+    (sym c.into_disk.ensures) (c.in-Open.ensures.lives geometry first done was)

@@ -4,7 +4,7 @@ use Rattle.mot_files.proofs.Laws.{step}
 use Rattle.mot_endpoints.proofs.line_file.look_into.Goals as goal
 
 pub returns-in-Err : goal.returns-in-Err
-returns-in-Err g c = unheld c.in-Err.field-0 refl c.in-Err.ensures
+returns-in-Err g c = unheld c.in-Err.fault refl c.in-Err.ensures
 
 pub returns-then-not-is_same : goal.returns-then-not-is_same
 returns-then-not-is_same g c =
@@ -12,7 +12,7 @@ returns-then-not-is_same g c =
 
 pub returns-in-Err-peek : goal.returns-in-Err-peek
 returns-in-Err-peek g c =
-    unread c.in-Ok.held c.peek.new.room c.in-Err-peek.field-0 refl (c.if-not-is_same.ensures.0 refl)
+    unread c.in-Ok.held c.peek.new.room c.in-Err-peek.fault refl (c.if-not-is_same.ensures.0 refl)
     (step _ c.in-Err-peek.ensures.noted c.in-Ok.ensures)
 
 pub returns-then-not-is_whole_front : goal.returns-then-not-is_whole_front

@@ -13,7 +13,7 @@ use Rattle.mot_feed_lines.proofs.answering.answer_chunk.Given as goal
 abbrev pub invariant-loop-line : goal.invariant-loop-line
 invariant-loop-line g l =
     let state = g.D.Disk.state in
-    let contents = g.W.Write.contents in record {
+    let tells = g.T.Tells in record {
       keeps : KeepsLength (state l.initial.server.disk) (state l.server.disk);
       calm : StaysCalm l.initial.server l.server (state l.initial.server.disk)
           (state l.server.disk);
@@ -22,11 +22,12 @@ invariant-loop-line g l =
           → IsUpdating (λ _ _ _ _. ⊤) l.initial.server l.server (state l.initial.server.disk)
           (state l.server.disk) s None;
       taken : (front : List ℕ) × (front ++ l.rest ≡ l.chunk)
-          × ((input : List ℕ) → l.initial.hand ≡ bytes_in_hand (rest_of input)
-          → (l.hand ≡ bytes_in_hand (rest_of (input ++ front)))
+          × ((input : List ℕ) → l.initial.intake.hand ≡ bytes_in_hand (rest_of input)
+          → (l.intake.hand ≡ bytes_in_hand (rest_of (input ++ front)))
           × AnswersMore state l.initial.server l.server input (input ++ front) None
-          l.initial.log.is_told l.log.is_told
-          (contents l.initial.log.writer) (contents l.log.writer));
+          (tells.log_has_levels l.initial.log) (tells.log_is_whole l.initial.log)
+          (tells.log_is_whole l.log) (tells.log_has l.initial.log) (tells.log_has l.log));
+      levels : tells.log_has_levels l.log ≡ tells.log_has_levels l.initial.log;
     }
 
 abbrev pub decreases-loop-line : goal.decreases-loop-line

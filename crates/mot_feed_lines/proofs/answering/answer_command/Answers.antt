@@ -1,4 +1,6 @@
-use Rattle.std.proofs.Common.{Ok, subst, sym}
+use Rattle.std.proofs.Common.{◌∙◌, Ok, refl, subst, sym}
+use Rattle.mot_feed_lines.proofs.Requests.{never}
+use Rattle.mot_session.specs.OnAnyDisk.AnswersAnyhow.{halted}
 use Rattle.mot_feed_lines.specs.Answering.{run_of}
 use Rattle.mot_feed_lines.specs.Inner.Request.{reply_of}
 use Rattle.mot_feed_lines.proofs.Commands.{ran, replied}
@@ -6,6 +8,8 @@ use Rattle.mot_feed_lines.proofs.answering.answer_command.Goals as goal
 use Rattle.mot_lines.specs.declared.line.Line.TheVariants as asks
 use Rattle.mot_update.proofs.Laws.{answered_one, attempted}
 use Rattle.mot_update.specs.HasRun.{HasRun}
+use Rattle.mot_lines.specs.Text.{refusal_line}
+use Rattle.mot_numbers.specs.declared.refusal.Refusal.TheVariants.{Halted}
 
 pub returns-clause-answered : goal.returns-clause-answered
 returns-clause-answered g c =
@@ -31,5 +35,13 @@ returns-clause-answered g c =
                 (run_of (Ok (asks.Command command)) (reply_of attempt)) run.0 f)
                 (sym c.ended.ensures) run.2,
           );
-      log = rw (c.as_slice-2.ensures.value, c.reply_text.ensures) at c.tell-2.ensures.told;
+      log = c.tell_attempt.ensures.told;
     }
+
+pub returns-then-halted-clause-answered : goal.returns-then-halted-clause-answered
+returns-then-halted-clause-answered g c = record {
+  text = refusal_line Halted;
+  reply = halted (sym c.if-halted.ensures.value) tt refl refl;
+  run = λ s holds honest. absurd (never (sym holds.going ∙ sym c.if-halted.ensures.value));
+  log = c.tell_refused.ensures.told;
+}

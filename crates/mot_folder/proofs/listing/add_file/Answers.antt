@@ -23,7 +23,7 @@ returns-in-Err-clause-added c =
 
 pub returns-in-Err-clause-told : goal.returns-in-Err-clause-told
 returns-in-Err-clause-told c =
-    tells_unread c.args.report.now c.missed.new.self c.args.name.now _ c.missed.ensures.told
+    tells_unread c.args.name.now _ c.args.report.now c.missed.new.self refl c.missed.ensures.told
 
 pub returns-in_err-from_slice-clause-told : goal.returns-in_err-from_slice-clause-told
 returns-in_err-from_slice-clause-told c = tells_same c.args.report.now
@@ -50,7 +50,7 @@ returns-in_ok-add-in-Ok-clause-further c = λ files was.
 
 pub returns-in-Err-clause-further : goal.returns-in-Err-clause-further
 returns-in-Err-clause-further c = λ files was.
-    nameless_told files c.args.report.now c.missed.new.self c.args.name.now _
+    nameless_told files c.args.report.now c.missed.new.self c.args.name.now _ refl
     (false_from_ne_true (is_name MAX_NAME c.args.name.now) (λ is.
     absurd (cc (c.in-Err.ensures.valid.1 (subst IsName (sym c.in_ok-from_slice.ensures.items)
     (name_is MAX_NAME c.args.name.now (omega arith) is))))))

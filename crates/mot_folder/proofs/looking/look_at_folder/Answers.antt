@@ -1,4 +1,4 @@
-use Rattle.std.proofs.Common.{◌≡◌, ◌∙◌, ◌++◌, ℕ, None, [], ◌∷◌, ap, codes, not, refl, subst, sym}
+use Rattle.std.proofs.Common.{◌≡◌, ◌∙◌, ◌++◌, ℕ, None, [], ◌∷◌, ap, not, refl, subst, sym}
 use Rattle.std.proofs.Common.{◌≤◌, Bool, true, false, suc, arith, nat_eq, nat_lt, Err, IfErr, List, Ok, Option, Result, Some}
 use Rattle.std.proofs.Common.{inl, inr, length, map, take}
 use Rattle.std.proofs.lemmas.Bool.{and_parts, eqb-true}
@@ -7,8 +7,11 @@ use Rattle.disk_model.proofs.Laws.{unchanged_none}
 use Rattle.mot_folder.specs.Inner.Listing.{IsUnread, TellsNameless}
 use Rattle.mot_folder.specs.Inner.Reading.{TellsLook, as_wanted, heading}
 use Rattle.mot_folder.specs.Listed.{IsListing}
-use Rattle.mot_folder.specs.Log.{LogEntry, ReportTells, TellsOf, entry, kept_entry}
-use Rattle.mot_folder.specs.Log.{with_reason}
+use Rattle.mot_events.specs.Text.{event_of}
+use Rattle.mot_events.specs.declared.event.LookEvent.{LookEvent}
+use Rattle.mot_events.specs.declared.event.Met.TheVariants.{Kept}
+use Rattle.mot_events.specs.declared.event.Why.TheVariants.{Unsaid}
+use Rattle.mot_folder.specs.Log.{ReportTells, TellsOf, unlisted_for}
 use Rattle.mot_folder.specs.declared.report.Report.{Report}
 use Rattle.mot_folder.specs.Looked.{HasLookedAtFolder, IsUnlisted, is_kept, kept, listed}
 use Rattle.mot_folder.specs.Looked.{unlisted}
@@ -34,7 +37,6 @@ use Rattle.mot_update.specs.HasRun.{HasRun}
 use Rattle.mot_update.specs.Told.{Answer, TellsBoth}
 use Rattle.mot_update.specs.declared.wanted.Wanted.{Wanted}
 use Rattle.std.specs.Prelude.{◌≢◌, ◌⊎◌, IsOk}
-use Rattle.mot_server.specs.declared.running.Attempt.TheVariants.{Refused}
 use Rattle.mot_server.specs.Attempts.{fault_of}
 use Rattle.mot_suffixes.specs.Types.{AreShown, SuffixType}
 use Rattle.mot_update.specs.Looking.{HasLooked}
@@ -78,7 +80,7 @@ run_without_memory old new start now s commands marks run = record {
 -- a look of no command
 of_nothing : {D : Type 0} (old new : ServerView D) (start now : State) (s : Standing)
     (types : List SuffixType) (allows : Bool) (path : List ℕ) (given : Given) (report : Report)
-    (fault : Option Refusal) (entries : List LogEntry)
+    (fault : Option Refusal) (entries : List LookEvent)
     → HasRun old new start now s [] [] fault
     → look.IsLook types allows path given s.carousel [] [] fault [] [] (not report.any_refused) entries
     → ReportTells report entries
@@ -96,7 +98,7 @@ of_nothing old new start now s types allows path given report fault entries run 
 }
 
 -- a look of these names
-of_names : {D : Type 0} (old new : ServerView D) (start now : State) (s : Standing)
+of_names : {D : Type 0} {waiting : ℕ} (old new : ServerView D) (start now : State) (s : Standing)
     (types : List SuffixType) (allows : Bool) (path : List ℕ) (given : Given) (report : Report)
     (names : List (List ℕ)) (fault : Option Refusal) → AreShown names
     → IsListing types path given names
@@ -104,7 +106,7 @@ of_names : {D : Type 0} (old new : ServerView D) (start now : State) (s : Standi
     → (looked : HasLooked old new start now s names 0 None None (not report.any_refused) fault)
     → (seen : List (List ℕ)) → (fault ≡ None → seen ≡ names)
     → (report.any_without_memory ≡ true → fault ≢ None)
-    → TellsOf types given report seen looked.runs.answers looked.wanted
+    → TellsOf types given report waiting seen looked.runs.answers looked.wanted
     → HasLookedAtFolder old new start now s types allows path given report fault
 of_names old new start now s types allows path given report names fault shown listing updates looked
     seen all without told = record {
@@ -153,12 +155,12 @@ without_memory old new start now s names fine looked = record {
 }
 
 -- names that were gone over to the last, where memory may have been wanting for a line
-listed_whole : {D : Type 0} (old new : ServerView D) (start now : State) (s : Standing)
+listed_whole : {D : Type 0} {waiting : ℕ} (old new : ServerView D) (start now : State) (s : Standing)
     (types : List SuffixType) (allows : Bool) (path : List ℕ) (given : Given) (report : Report)
     (names : List (List ℕ)) → AreShown names → IsListing types path given names
     → is_kept allows names (length s.carousel.objects) ≡ false
     → (looked : HasLooked old new start now s names 0 None None (not report.any_refused) None)
-    → TellsOf types given report names looked.runs.answers looked.wanted
+    → TellsOf types given report waiting names looked.runs.answers looked.wanted
     → (r : Result Unit Refusal) → IfErr r (λ e. e ≡ OutOfMemory)
     → (IsOk r → report.any_without_memory ≡ false)
     → HasLookedAtFolder old new start now s types allows path given report (fault_of r)
@@ -205,36 +207,36 @@ none_named false (name ∷ names) objects e =
     absurd (omega (arith, none))
 
 -- what is known behind a look, of one that began so
-behind : (types others : List SuffixType) (path begun other : List ℕ) (first last : Given)
+behind : {waiting : ℕ} (types others : List SuffixType) (path begun other : List ℕ) (first last : Given)
     (names after : List (List ℕ)) (place : ℕ) (start report : Report) (answers : List Answer)
     (wanted : List Wanted) → begun ≡ path → after ≡ names
     → IsListing types path first names → IsUnread nothing first
     → TellsNameless first.files start
-    → TellsBoth (TellsLook types begun first names 0 start)
-    (TellsLook others other last after place report) answers wanted
-    → IsLook types path last names place report answers wanted
-behind types others path begun other first last names after place start report answers wanted same
+    → TellsBoth (TellsLook types begun first names 0 start 0)
+    (TellsLook others other last after place report waiting) answers wanted
+    → IsLook types path last names place report waiting answers wanted
+behind {waiting} types others path begun other first last names after place start report answers wanted same
     stays listing unread told looks =
-    subst (λ n. IsLook types path last n place report answers wanted) stays
-    (subst (λ p. IsLook types p last after place report answers wanted) same
-    (look_is types others begun other last after place report answers wanted
+    subst (λ n. IsLook types path last n place report waiting answers wanted) stays
+    (subst (λ p. IsLook types p last after place report waiting answers wanted) same
+    (look_is types others begun other last after place report waiting answers wanted
     (looks (map as_wanted types ++ []) (heading begun types ∷ [])
     (look_begins types begun first names start
     (subst (λ p. IsListing types p first names) (sym same) listing) unread.read unread.missed
     told))))
 
 -- it is of the path that it began with
-path_stays : (types others : List SuffixType) (path begun other : List ℕ) (first last : Given)
+path_stays : {waiting : ℕ} (types others : List SuffixType) (path begun other : List ℕ) (first last : Given)
     (names after : List (List ℕ)) (place : ℕ) (start report : Report) (answers : List Answer)
     (wanted : List Wanted) → begun ≡ path
     → IsListing types path first names → IsUnread nothing first
     → TellsNameless first.files start
-    → TellsBoth (TellsLook types begun first names 0 start)
-    (TellsLook others other last after place report) answers wanted
+    → TellsBoth (TellsLook types begun first names 0 start 0)
+    (TellsLook others other last after place report waiting) answers wanted
     → other ≡ path
-path_stays types others path begun other first last names after place start report answers wanted
+path_stays {waiting} types others path begun other first last names after place start report answers wanted
     same listing unread told looks =
-    same_path types others begun other last after place report answers
+    same_path types others begun other last after place report waiting answers
     ((map as_wanted types ++ []) ++ wanted)
     (looks (map as_wanted types ++ []) (heading begun types ∷ [])
     (look_begins types begun first names start
@@ -255,8 +257,9 @@ returns-in_err-look-clause-path g c = λ s holds honest.
     c.in-Ok.names.names.items) c.begin.ensures.same c.in-Ok.ensures.listed)
     c.in-Ok.ensures.unread
     (c.note_most.ensures.further (g.S.Shelf.gave c.list.new.shelf).files
+    (c.note_listed.ensures.further (g.S.Shelf.gave c.list.new.shelf).files
     (c.in-Ok.ensures.further
-    (nameless_none c.begin-2.new.self c.begin-2.ensures.fine c.begin-2.ensures.told))) looks.1
+    (nameless_none c.begin-2.new.self c.begin-2.ensures.fine c.begin-2.ensures.told)))) looks.1
 
 pub returns-clause-path : goal.returns-clause-path
 returns-clause-path g c = λ s holds honest.
@@ -272,8 +275,9 @@ returns-clause-path g c = λ s holds honest.
     c.in-Ok.names.names.items) c.begin.ensures.same c.in-Ok.ensures.listed)
     c.in-Ok.ensures.unread
     (c.note_most.ensures.further (g.S.Shelf.gave c.list.new.shelf).files
+    (c.note_listed.ensures.further (g.S.Shelf.gave c.list.new.shelf).files
     (c.in-Ok.ensures.further
-    (nameless_none c.begin-2.new.self c.begin-2.ensures.fine c.begin-2.ensures.told))) looks.1
+    (nameless_none c.begin-2.new.self c.begin-2.ensures.fine c.begin-2.ensures.told)))) looks.1
 
 pub returns-in-Err-clause-looked : goal.returns-in-Err-clause-looked
 returns-in-Err-clause-looked g c = λ s holds honest.
@@ -282,8 +286,8 @@ returns-in-Err-clause-looked g c = λ s holds honest.
     let told = c.list.ensures.told [] (tells_none c.begin-2.new.self c.begin-2.ensures.told) in
     let refusal = c.in-Err.unlisted.refusal in
     let path = c.as_bytes-path.result.now in
-    let bare = entry (codes "look") path (Refused refusal) in
-    let last = with_reason bare c.tell_unlisted.ensures.told.0 in
+    let bare = unlisted_for path refusal Unsaid in
+    let last = unlisted_for path refusal c.tell_unlisted.ensures.told.0 in
     let fault = fault_of c.end.result in
     of_nothing old old state state s _ _ _ _ _ fault (told.entries ++ last ∷ [])
     (has_read old old state state s fault
@@ -295,7 +299,7 @@ returns-in-Err-clause-looked g c = λ s holds honest.
     c.tell_unlisted.new.report.any_without_memory c.end.ensures.fault c.end.ensures.ends.0
     c.tell_unlisted.ensures.memory) refl
     (look-more told.entries (last ∷ []) ∙ ap (λ l. l ++ bare ∷ []) told.are
-    ∙ ap (λ n. entry (codes "look") n (Refused refusal) ∷ [])
+    ∙ ap (λ n. unlisted_for n refusal Unsaid ∷ [])
     (c.as_bytes-path.ensures.value ∙ c.shown.ensures ∙ c.in-Err.ensures.same
     ∙ c.begin.ensures.same)))
     (c.tell_unlisted.ensures.told.1 told.entries told.told)
@@ -319,7 +323,7 @@ returns-then-is_kept-clause-looked g c = λ s holds honest.
     ∙ sym c.if-is_kept.ensures in
     let none = none_named allows names (length s.carousel.objects) is in
     let fault = fault_of c.end-then-is_kept.result in
-    of_nothing old old state state s _ _ _ _ _ fault (told.entries ++ kept_entry path ∷ [])
+    of_nothing old old state state s _ _ _ _ _ fault (told.entries ++ event_of path Kept ∷ [])
     (has_read old old state state s fault
     (g.met.D.Disk.sound old.disk honest) refl refl honest (unchanged_none state) holds).0
     (kept
@@ -328,9 +332,9 @@ returns-then-is_kept-clause-looked g c = λ s holds honest.
     (subst (λ n. is_kept allows n (length s.carousel.objects) ≡ true) none is)
     (ap not c.kept.ensures.any)
     (ended c.end-then-is_kept.result c.end-then-is_kept.ensures.fault) refl
-    (look-more told.entries (kept_entry path ∷ [])
-    ∙ ap (λ l. l ++ kept_entry path ∷ []) told.are
-    ∙ ap (λ n. kept_entry n ∷ []) same))
+    (look-more told.entries (event_of path Kept ∷ [])
+    ∙ ap (λ l. l ++ event_of path Kept ∷ []) told.are
+    ∙ ap (λ n. event_of n Kept ∷ []) same))
     (c.kept.ensures.told told.entries told.told)
 
 pub returns-in_err-look-clause-looked : goal.returns-in_err-look-clause-looked
@@ -359,8 +363,9 @@ returns-in_err-look-clause-looked g c = λ s holds honest.
     (subst (λ p. IsListing types p (g.S.Shelf.gave c.list.new.shelf) names) c.begin.ensures.same
     c.in-Ok.ensures.listed) c.in-Ok.ensures.unread
     (c.note_most.ensures.further (g.S.Shelf.gave c.list.new.shelf).files
+    (c.note_listed.ensures.further (g.S.Shelf.gave c.list.new.shelf).files
     (c.in-Ok.ensures.further
-    (nameless_none c.begin-2.new.self c.begin-2.ensures.fine c.begin-2.ensures.told))) looks.1 in
+    (nameless_none c.begin-2.new.self c.begin-2.ensures.fine c.begin-2.ensures.told)))) looks.1 in
     subst (λ (r : Result Unit Refusal). HasLookedAtFolder old new (state old.disk) (state new.disk)
     s types allows path given source.report (fault_of r))
     (sym (same_error c.from_residual.result c.in_err-look.field-0.0 c.from_residual.ensures.1))
@@ -392,22 +397,25 @@ returns-clause-looked g c = λ s holds honest.
     (subst (λ p. IsListing types p (g.S.Shelf.gave c.list.new.shelf) names) c.begin.ensures.same
     c.in-Ok.ensures.listed) c.in-Ok.ensures.unread
     (c.note_most.ensures.further (g.S.Shelf.gave c.list.new.shelf).files
+    (c.note_listed.ensures.further (g.S.Shelf.gave c.list.new.shelf).files
     (c.in-Ok.ensures.further
-    (nameless_none c.begin-2.new.self c.begin-2.ensures.fine c.begin-2.ensures.told))) looks.1 in
+    (nameless_none c.begin-2.new.self c.begin-2.ensures.fine c.begin-2.ensures.told)))) looks.1 in
     let seen : take source.place names ≡ names =
     take_all source.place names (subst (λ (n : List (List ℕ)). length n ≤ source.place)
     c.in_ok-look.ensures.same c.in_ok-look.ensures.ended) in
     let report = c.note_gap.new.report in
     let fine : not source.report.any_refused ≡ not report.any_refused =
-    ap not (sym c.note_gap.ensures.same) in
+    ap not (sym (c.note_gap.ensures.same ∙ c.note_waiting.ensures.same)) in
+    let waiting = source.sizes.waiting in
     let Looks = λ (f : Bool). (l : HasLooked old new (state old.disk) (state new.disk) s names 0 None
-    None f None) × TellsOf types given report names l.runs.answers l.wanted in
+    None f None) × TellsOf types given report waiting names l.runs.answers l.wanted in
     let last : Looks (not report.any_refused) =
     subst Looks fine (
       looks.0,
-      c.note_gap.ensures.told types given names looks.0.runs.answers
-          looks.0.wanted (subst (λ l. TellsOf types given source.report l looks.0.runs.answers
-          looks.0.wanted) seen is.tells),
+      c.note_gap.ensures.told types given waiting names looks.0.runs.answers looks.0.wanted
+          (c.note_waiting.ensures.told types given waiting names looks.0.runs.answers looks.0.wanted
+          (subst (λ l. TellsOf types given source.report waiting l looks.0.runs.answers
+          looks.0.wanted) seen is.tells)),
     ) in
     listed_whole old new (state old.disk) (state new.disk) s types allows path given report
     names c.in-Ok.ensures.shown is.listing updates last.0 last.1 c.end-2.result c.end-2.ensures.fault

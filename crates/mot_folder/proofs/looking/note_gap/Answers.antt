@@ -1,8 +1,9 @@
+use Rattle.std.proofs.Common.{refl}
 use Rattle.mot_folder.proofs.Taken.{of_note}
 use Rattle.mot_folder.proofs.looking.note_gap.Goals as goal
 
-pub returns-then-is_ok-clause-told : goal.returns-then-is_ok-clause-told
-returns-then-is_ok-clause-told c = λ types given names answers wanted was.
-    let is = c.noted.ensures in
-    of_note types given c.args.report.now c.noted.new.self names _ _ answers wanted is.same is.stays
+pub returns-then-report-clause-told : goal.returns-then-report-clause-told
+returns-then-report-clause-told c = λ types given waiting names answers wanted was.
+    let is = c.gap.ensures in
+    of_note types given c.args.report.now c.gap.new.self waiting names c.as_bytes.result.now _ answers wanted refl is.same is.stays
     is.told was

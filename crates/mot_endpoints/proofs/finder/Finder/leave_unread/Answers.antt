@@ -1,11 +1,14 @@
-use Rattle.std.proofs.Common.{ℕ, List, refl, subst, true}
+use Rattle.std.proofs.Common.{ℕ, List, subst, true}
 use Rattle.mot_endpoints.specs.Inner.Said.{Remembers}
-use Rattle.mot_endpoints.specs.Spooling.OnlyReads.{more}
-use Rattle.mot_endpoints.proofs.OnlyReads.{stamped}
 use Rattle.mot_endpoints.proofs.finder.Finder.leave_unread.Goals as goal
 
-pub returns-clause-reads : goal.returns-clause-reads
-returns-clause-reads g c = more _ _ (stamped c.stamp-stamp.ensures) refl c.close.ensures
+pub returns-clause-leaves : goal.returns-clause-leaves
+returns-clause-leaves g c = (
+  c.stamp-stamp.result,
+  record { inner = g.S.System.calls c.stamp-stamp.new.system; seen = c.stamp-stamp.ensures; calls = c.close.ensures },
+  λ is. subst (λ (n : List ℕ). Remembers c.keep_unread.new.self.names.items n c.stamp-stamp.result true)
+      c.as_bytes.ensures.value (c.keep_unread.ensures is),
+)
 
 pub returns-clause-known : goal.returns-clause-known
 returns-clause-known g c =

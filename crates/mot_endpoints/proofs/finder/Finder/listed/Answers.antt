@@ -1,6 +1,12 @@
-use Rattle.std.proofs.Common.{refl}
-use Rattle.mot_endpoints.specs.Spooling.OnlyReads.{none}
+use Rattle.std.proofs.Common.{refl, sym, ◌∙◌}
+use Rattle.mot_endpoints.specs.Inner.Finding.HasFolder.{begins, goes_on}
 use Rattle.mot_endpoints.proofs.finder.Finder.listed.Goals as goal
 
-pub returns-in-Some : goal.returns-in-Some
-returns-in-Some g c = none refl
+pub returns-in-Some-clause-has : goal.returns-in-Some-clause-has
+returns-in-Some-clause-has g c =
+    goes_on c.in-Some.folder (sym c.take.ensures.value ∙ c.in-Some.is) refl refl
+
+pub returns-in-None-clause-has : goal.returns-in-None-clause-has
+returns-in-None-clause-has g c =
+    begins (sym c.take.ensures.value ∙ c.in-None.is)
+    (rw c.begin_anew.ensures.folder at (rw c.begin_anew.ensures.system at c.open_folder.ensures))

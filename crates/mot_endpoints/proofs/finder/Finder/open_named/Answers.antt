@@ -1,37 +1,44 @@
-use Rattle.std.proofs.Common.{refl, ap, sym, ◌∙◌, string_bytes}
-use Rattle.mot_endpoints.specs.Spooling.Finds.{nothing}
-use Rattle.mot_endpoints.specs.Spooling.OnlyReads.{none}
-use Rattle.mot_endpoints.proofs.OnlyReads.{and_then, finding, found_as, keeps, refused}
+use Rattle.std.proofs.Common.{ℕ, List, refl, ap, subst, sym, ◌∙◌, inl, inr, string_bytes}
+use Rattle.mot_endpoints.specs.LineFiles.{IsOfLines, IsPlain}
+use Rattle.mot_endpoints.specs.Inner.Finding.OpensNamed.{opens, passed, unnamed}
+use Rattle.mot_endpoints.proofs.Finding.{found_by, named_path}
+use Rattle.mot_endpoints.proofs.OnlyReads.{found_as}
 use Rattle.mot_endpoints.proofs.finder.Finder.open_named.Goals as goal
 
-pub returns-in_err-leave : goal.returns-in_err-leave
-returns-in_err-leave g c =
-    refused _ c.from_residual.ensures.0 (none (ap (λ (s : _). g.S.System.calls s) c.leave.ensures))
+pub returns-then-not-is_of_lines-clause-opens : goal.returns-then-not-is_of_lines-clause-opens
+returns-then-not-is_of_lines-clause-opens g c =
+    unnamed (λ is. let h = c.if-not-is_of_lines.ensures.1 is.1 in cc) (inl refl) refl
 
-pub returns-in_default : goal.returns-in_default
-returns-in_default g c = nothing refl (none (ap (λ (s : _). g.S.System.calls s) c.leave.ensures))
+pub returns-in_err-leave-in-Left-clause-opens : goal.returns-in_err-leave-in-Left-clause-opens
+returns-in_err-leave-in-Left-clause-opens g c =
+    passed _ (λ handle same. let h = same in cc) (inr c.from_residual-in_err-leave-in-Left.ensures.0)
+    (found_by (c.as_str.ensures.value ∙ named_path _ c.in_ok-path.ensures.ok
+    (c.in_ok-name.ensures.ok ∙ c.in-Some.ensures.0))
+    (ap (λ (s : _). g.S.System.calls s) c.leave-in-Left.ensures.system) c.in-Left.ensures)
 
-pub returns-in_err-name : goal.returns-in_err-name
-returns-in_err-name g c = refused _ c.from_residual-in_err-name.ensures.0 (none refl)
+pub returns-in_ok-leave-in-Left-clause-opens : goal.returns-in_ok-leave-in-Left-clause-opens
+returns-in_ok-leave-in-Left-clause-opens g c =
+    passed _ (λ handle same. let h = same in cc) (inl refl)
+    (found_by (c.as_str.ensures.value ∙ named_path _ c.in_ok-path.ensures.ok
+    (c.in_ok-name.ensures.ok ∙ c.in-Some.ensures.0))
+    (ap (λ (s : _). g.S.System.calls s) c.leave-in-Left.ensures.system) c.in-Left.ensures)
 
-pub returns-in_err-path : goal.returns-in_err-path
-returns-in_err-path g c = refused _ c.from_residual-in_err-path.ensures.0 (none refl)
+pub returns-in-Gone-clause-opens : goal.returns-in-Gone-clause-opens
+returns-in-Gone-clause-opens g c =
+    passed _ (λ handle same. let h = same in cc) (inl refl)
+    (found_by (c.as_str.ensures.value ∙ named_path _ c.in_ok-path.ensures.ok
+    (c.in_ok-name.ensures.ok ∙ c.in-Some.ensures.0))
+    refl c.in-Gone.ensures)
 
-pub returns-in-Lines : goal.returns-in-Lines
-returns-in-Lines g c =
-    keeps c.new.result c.open_found.result c.open_found.ensures
+pub returns-in-Lines-clause-opens : goal.returns-in-Lines-clause-opens
+returns-in-Lines-clause-opens g c =
+    let named = ap string_bytes c.new.ensures.name ∙ c.in_ok-name.ensures.ok ∙ c.in-Some.ensures.0 in
+    opens c.new.result c.open_found.result (g.S.System.calls c.find.new.system) named
+    (record {
+      plain = subst (λ (n : List ℕ). IsPlain n) (sym named) c.in-Some.ensures.1;
+      of_lines = subst (λ (n : List ℕ). IsOfLines n) (sym named) (c.if-not-is_of_lines.ensures.0 refl);
+      path = ap string_bytes c.new.ensures.path
+          ∙ named_path _ c.in_ok-path.ensures.ok (ap string_bytes (sym c.new.ensures.name));
+    }) refl
     (found_as (c.as_str.ensures.value ∙ ap string_bytes (sym c.new.ensures.path)) (sym c.new.ensures.handle)
-    c.in-Lines.ensures)
-
-pub returns-in_err-leave-in-Left : goal.returns-in_err-leave-in-Left
-returns-in_err-leave-in-Left g c =
-    refused _ c.from_residual-in_err-leave-in-Left.ensures.0
-    (and_then (finding c.find.ensures) (none (ap (λ (s : _). g.S.System.calls s) c.leave-in-Left.ensures)))
-
-pub returns-in_ok-leave-in-Left : goal.returns-in_ok-leave-in-Left
-returns-in_ok-leave-in-Left g c =
-    nothing refl (and_then (finding c.find.ensures)
-    (none (ap (λ (s : _). g.S.System.calls s) c.leave-in-Left.ensures)))
-
-pub returns-in-Gone : goal.returns-in-Gone
-returns-in-Gone g c = nothing refl (finding c.find.ensures)
+    c.in-Lines.ensures) c.open_found.ensures.keeps

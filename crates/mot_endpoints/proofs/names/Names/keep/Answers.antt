@@ -3,10 +3,8 @@ use Rattle.mot_endpoints.specs.Inner.LineNames.{ComesBefore}
 use Rattle.mot_endpoints.specs.Inner.LineNames.Keeps.{passed}
 use Rattle.mot_endpoints.proofs.names.Names.keep.Goals as goal
 
-pub returns : goal.returns
-returns c = record {
-  kept =
-      passed c.in-Some.behind c.in-Some.is
-      (λ is. let h = c.comes_before.ensures.1 (subst (λ (l : List ℕ). ComesBefore l c.args.name.now)
-      (sym c.as_slice.ensures.value) is) in cc) refl;
-}
+pub returns-clause-kept : goal.returns-clause-kept
+returns-clause-kept c =
+    passed c.in-Some.behind c.in-Some.is
+    (λ is. let h = c.comes_before.ensures.1 (subst (λ (l : List ℕ). ComesBefore l c.args.name.now)
+    (sym c.as_slice.ensures.value) is) in cc) refl

@@ -14,9 +14,7 @@ is_put bytes name old new place entry (Ok x) belongs named there = record {
 }
 is_put bytes name old new place entry (Err e) belongs named there = there
 
-pub returns : goal.returns
-returns c = record {
-  put =
-      is_put _ _ _ _ c.place_of-place.result c.in_ok-name.name c.insert.result c.place_of-place.ensures
-      c.in_ok-name.ensures.items c.insert.ensures;
-}
+pub returns-clause-put : goal.returns-clause-put
+returns-clause-put c =
+    is_put _ _ _ _ c.place_of-place.result c.in_ok-name.name c.insert.result c.place_of-place.ensures
+    c.in_ok-name.ensures.items c.insert.ensures

@@ -1,6 +1,6 @@
 use Rattle.std.proofs.Common.{refl, ap, ◌∙◌, string_bytes}
 use Rattle.mot_endpoints.specs.Spooling.ServesFile.{ended, failed, given}
-use Rattle.mot_endpoints.proofs.OnlyReads.{taken_as}
+use Rattle.mot_endpoints.proofs.OnlyReads.{left_as, taken_as}
 use Rattle.mot_endpoints.proofs.spool.Spool.read_file.Goals as goal
 
 pub returns-in-Ok-eq0-clause-serves : goal.returns-in-Ok-eq0-clause-serves
@@ -17,5 +17,6 @@ returns-in-Ok-clause-serves g c =
 
 pub returns-in-Err-clause-serves : goal.returns-in-Err-clause-serves
 returns-in-Err-clause-serves g c =
-    failed c.read.new.self.is_cut (g.S.System.calls c.read.new.system) c.in-Err.fault c.error.result
-    c.in-Err.ensures.reads c.leave_unread.ensures.reads c.leave_unread.ensures.torn refl (c.leave_unread.ensures.open ∙ c.requires)
+    failed c.read.new.self.is_cut (g.S.System.calls c.read.new.system) c.in-Err.fault c.error.result c.leave_unread.ensures.leaves.0
+    c.in-Err.ensures.reads
+    (left_as c.read.ensures.handle c.leave_unread.ensures.leaves.1) c.leave_unread.ensures.torn refl (c.leave_unread.ensures.open ∙ c.requires)

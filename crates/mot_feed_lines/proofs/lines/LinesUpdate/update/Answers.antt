@@ -11,7 +11,7 @@ returns-in_err-update-clause-run g c =
     let refusal = c.in_err-update.field-0.0 in
     rw (same_error c.from_residual.result refusal c.from_residual.ensures.1) (λ s holds honest.
     on_time refl (λ none. absurd (not_none refusal none))
-    (updating_alone g.D.Disk.state _ c.args.self.now.left c.args.self.now.hand _ c.args.server.now
+    (updating_alone g.D.Disk.state _ c.args.self.now.left c.args.self.now.intake.hand _ c.args.server.now
     c.update.new.server s (Some refusal) (inr (not_none refusal))
     (c.in_err-update.ensures.run s holds honest)))
 
@@ -25,14 +25,17 @@ returns-in_err-update-clause-lines g c = λ input hand.
       more = [];
       given = inr (refl, refl);
       fault = None;
-      takes = takes_none g.D.Disk.state new input _ _ _
-          (λ honest. g.met.D.Disk.sound new.disk honest) hand;
+      levels = _;
+      was_whole = _;
+      written = _;
+      takes = takes_none g.D.Disk.state new input _ (g.T.Tells.log_has_levels c.update.new.self.watch)
+          _ _ (λ honest. g.met.D.Disk.sound new.disk honest) hand;
     }
 
 pub returns-then-self-gt0-clause-run : goal.returns-then-self-gt0-clause-run
 returns-then-self-gt0-clause-run g c = λ s holds honest.
     on_time refl (λ none. counted _ c.args.self.now.left c.if-self-gt0.true)
-    (updating_alone g.D.Disk.state _ c.args.self.now.left c.args.self.now.hand _ c.args.server.now
+    (updating_alone g.D.Disk.state _ c.args.self.now.left c.args.self.now.intake.hand _ c.args.server.now
     c.update.new.server s None (inl c.if-self-gt0.true) (c.in_ok-update.ensures.run s holds honest))
 
 pub returns-then-self-gt0-clause-lines : goal.returns-then-self-gt0-clause-lines
@@ -45,8 +48,11 @@ returns-then-self-gt0-clause-lines g c = λ input hand.
       more = [];
       given = inr (refl, refl);
       fault = None;
-      takes = takes_none g.D.Disk.state new input _ _ _
-          (λ honest. g.met.D.Disk.sound new.disk honest) hand;
+      levels = _;
+      was_whole = _;
+      written = _;
+      takes = takes_none g.D.Disk.state new input _ (g.T.Tells.log_has_levels c.update.new.self.watch)
+          _ _ (λ honest. g.met.D.Disk.sound new.disk honest) hand;
     }
 
 pub returns-clause-run : goal.returns-clause-run
@@ -69,5 +75,8 @@ returns-clause-lines g c = λ input hand.
       more = read.0;
       given = inl read.1;
       fault = fault_of c.answer_there.result;
+      levels = _;
+      was_whole = _;
+      written = _;
       takes = read.2;
     }

@@ -19,12 +19,13 @@ returns-in-Ok-clause-told g c =
     let at : slice_get names mid.place ≡ Some name =
     slice_get_read names (length names) mid.place name refl within c.index-name.ensures in
     subst (λ p. TellsBoth (TellsLook old.types.now (path old.shelf) (gave old.shelf)
-    old.names.names.items old.place old.report) (TellsLook mid.types.now p
-    (gave c.read.new.shelf) names (mid.place + 1) mid.report) [] (c.in-Ok.wanted ∷ []))
+    old.names.names.items old.place old.report old.sizes.waiting) (TellsLook mid.types.now p
+    (gave c.read.new.shelf) names (mid.place + 1) mid.report mid.sizes.waiting) [] (c.in-Ok.wanted ∷ []))
     (sym c.in-Ok.ensures.same)
     (then_given mid.types.now (path mid.shelf) names
     (TellsLook old.types.now (path old.shelf) (gave old.shelf) old.names.names.items old.place
-    old.report) (gave mid.shelf) (gave c.read.new.shelf) mid.place mid.report name c.in-Ok.wanted
+    old.report old.sizes.waiting) (gave mid.shelf) (gave c.read.new.shelf) mid.place mid.report
+    mid.sizes.waiting name c.in-Ok.wanted
     c.loop-self.invariant.told within at c.in-Ok.ensures.took)
 
 pub loop-self-preserved : goal.loop-self-preserved
@@ -45,16 +46,16 @@ loop-self-preserved g c =
     let told : TellsFile mid.report report name =
     subst (λ n. TellsFile mid.report report n) c.as_bytes.ensures.value c.tell_untaken.ensures.told in
     let first = TellsLook old.types.now (path old.shelf) (gave old.shelf) old.names.names.items
-    old.place old.report in
+    old.place old.report old.sizes.waiting in
     record {
       types = is.types;
       path = c.in-Err.ensures.same ∙ is.path;
       names = is.names;
       goes = omega (arith, goes);
       told = subst (λ p. TellsBoth first (TellsLook mid.types.now p (gave c.read.new.shelf) names
-          (mid.place + 1) report) [] []) (sym c.in-Err.ensures.same)
+          (mid.place + 1) report mid.sizes.waiting) [] []) (sym c.in-Err.ensures.same)
           (then_missed mid.types.now (path mid.shelf) names first (gave mid.shelf)
-          (gave c.read.new.shelf) mid.place mid.report report name
+          (gave c.read.new.shelf) mid.place mid.report report mid.sizes.waiting name
           is.told within at c.in-Err.ensures.took c.tell_untaken.ensures.memory
           c.tell_untaken.ensures.any c.tell_untaken.ensures.stays told);
       fine = λ e. let any = c.tell_untaken.ensures.any in absurd (cc (e, any));

@@ -12,9 +12,10 @@ invariant-loop-self g l = record {
   told : TellsBoth
       (TellsLook l.initial.self.types.now (g.S.Shelf.path l.initial.self.shelf)
       (g.S.Shelf.gave l.initial.self.shelf) l.initial.self.names.names.items
-      l.initial.self.place l.initial.self.report)
+      l.initial.self.place l.initial.self.report l.initial.self.sizes.waiting)
       (TellsLook l.self.types.now (g.S.Shelf.path l.self.shelf)
-      (g.S.Shelf.gave l.self.shelf) l.self.names.names.items l.self.place l.self.report) [] [];
+      (g.S.Shelf.gave l.self.shelf) l.self.names.names.items l.self.place l.self.report
+      l.self.sizes.waiting) [] [];
   fine : l.self.report.any_refused ≡ false
       → (l.initial.self.report.any_refused ≡ false) × (l.self.place ≡ l.initial.self.place);
 }

@@ -1,5 +1,7 @@
-use Rattle.std.proofs.Common.{[], None, codes, subst, take}
-use Rattle.mot_folder.specs.Log.{TellsOne, entry}
+use Rattle.std.proofs.Common.{[], subst, take}
+use Rattle.mot_events.specs.declared.event.Deed.TheVariants as deed
+use Rattle.mot_events.specs.declared.event.Why.TheVariants.{Unsaid}
+use Rattle.mot_folder.specs.Log.{TellsOne, answered}
 use Rattle.mot_folder.proofs.Taken.{look_on, of_answer}
 use Rattle.mot_folder.proofs.folder.FolderSource.withdrew.Goals as goal
 use Rattle.mot_update.specs.Told.{Withdrew}
@@ -11,8 +13,8 @@ returns-clause-told g c =
     let given = g.S.Shelf.gave self.shelf in
     let names = self.names.names.items in
     look_on types (g.S.Shelf.path self.shelf) names given given self.place self.place self.report
-    c.answered.new.self _ [] (λ is. is)
-    (of_answer types given self.report c.answered.new.self (take self.place names)
-    (Withdrew c.args.name.now c.args.attempt) None c.answered.ensures.any c.answered.ensures.stays
+    c.answered.new.self self.sizes.waiting self.sizes.waiting _ [] (λ is. is)
+    (of_answer types given self.report c.answered.new.self self.sizes.waiting (take self.place names)
+    (Withdrew c.args.name.now c.args.attempt) Unsaid c.answered.ensures.any c.answered.ensures.stays
     (subst (λ n. TellsOne self.report c.answered.new.self
-    (entry (codes "withdraw") n c.args.attempt)) c.as_bytes.ensures.value c.answered.ensures.told))
+    (answered deed.Withdraw n c.args.attempt)) c.as_bytes.ensures.value c.answered.ensures.told))

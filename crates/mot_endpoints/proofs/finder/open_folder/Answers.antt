@@ -1,0 +1,17 @@
+use Rattle.std.proofs.Common.{Err, Ok, refl, ◌∙◌}
+use Rattle.mot_endpoints.specs.Inner.Finding.OpensFolder.{asked, unasked}
+use Rattle.mot_endpoints.proofs.Steps.{open_step}
+use Rattle.mot_endpoints.proofs.finder.open_folder.Goals as goal
+
+pub returns-in_err-path : goal.returns-in_err-path
+returns-in_err-path g c = unasked c.from_residual.ensures.0 refl
+
+pub returns-in-Ok : goal.returns-in-Ok
+returns-in-Ok g c =
+    asked (Ok c.in-Ok.handle) refl
+    (open_step _ _ _ (c.as_str.ensures.value ∙ c.in_ok-path.ensures.ok) c.in-Ok.ensures)
+
+pub returns : goal.returns
+returns g c =
+    asked (Err c.in-Err.fault) (c.error.result, refl)
+    (open_step _ _ _ (c.as_str.ensures.value ∙ c.in_ok-path.ensures.ok) c.in-Err.ensures)

@@ -1,0 +1,126 @@
+//! What is to be told of files of lines, until it is.
+ghost use Rattle.std.specs.Prelude.{◌≡◌, [], length};
+ghost use Rattle.mot_events.specs.Log.{HasGrown};
+
+use disk_store::OpenFault;
+use mot_events::{Event, Tells, Why, Words};
+use mot_numbers::Refusal;
+use std::alloc::{AllocError, Global};
+use std::io::{self, ErrorKind, Write};
+
+/// Room for the notices of one read: one for each name that is looked at, and some of the folder.
+const ROOM: usize = 32;
+
+/// Something about a folder of files of lines, or about a file in it.
+#[derive(Drop)]
+enum Notice {
+    /// The file of this name is left there, or is the last one.
+    File(Words, Refusal, Why),
+    /// The folder can't be read.
+    Folder(Refusal, Why),
+    /// The folder can be read again.
+    Readable,
+}
+
+/// What is to be told of a folder of files of lines. A notice for which there is no memory is left
+/// out; that of a file for whose name there is none says that of the folder.
+#[derive(Drop)]
+pub(crate) struct Notices<'a> {
+    alloc: Global,
+    /// The folder's path.
+    folder: &'a str,
+    waiting: Vec<Notice>,
+    /// Why the folder can't be read, as was told.
+    unread: Option<Refusal>,
+}
+
+impl<'a> Notices<'a> {
+    /// Nothing is to be told. If there is no memory for notices now, it is taken as they come.
+    pub(crate) fn new(alloc: Global, folder: &'a str) -> Notices<'a> {
+        let waiting = match Vec::with_capacity(alloc, ROOM) {
+            Ok(waiting) => waiting,
+            Err(AllocError) => Vec::new(alloc),
+        };
+        Notices {
+            alloc,
+            folder,
+            waiting,
+            unread: None,
+        }
+    }
+
+    /// The file of this name is left there, or is the last one.
+    pub(crate) fn add_file(&mut self, name: &[u8], refusal: Refusal, why: Why) {
+        let notice = match Vec::from_slice(self.alloc, name) {
+            Ok(name) => Notice::File(Words::new(name), refusal, why),
+            Err(AllocError) => Notice::Folder(Refusal::OutOfMemory, Why::Unsaid),
+        };
+        let _ = self.waiting.push(notice);
+    }
+
+    /// The folder can't be read, if that is not told already.
+    pub(crate) fn add_unread(&mut self, refusal: Refusal, why: Why) {
+        if self.unread != Some(refusal) {
+            self.unread = Some(refusal);
+            let _ = self.waiting.push(Notice::Folder(refusal, why));
+        }
+    }
+
+    /// The system refused to read the folder. Want of memory is told of each call.
+    pub(crate) fn add_unlisted(&mut self, error: io::Error) {
+        if error.kind() != ErrorKind::OutOfMemory {
+            let why = words_of(self.alloc, error);
+            self.add_unread(Refusal::ReadFault, why);
+        }
+    }
+
+    /// The folder can be read again, if it could not for this reason.
+    pub(crate) fn add_readable(&mut self, refusal: Refusal) {
+        if self.unread == Some(refusal) {
+            self.unread = None;
+            let _ = self.waiting.push(Notice::Readable);
+        }
+    }
+
+    /// Tells all, in their order.
+    pub(crate) fn tell<T: Tells>(&mut self, log: &mut T)
+        ensures levels { T.log_has_levels log.new ≡ T.log_has_levels log.old }
+        ensures told { HasGrown (T.log_is_whole log.old) (T.log_is_whole log.new)
+            (T.log_has log.old) (T.log_has log.new) }
+        ensures none { self.new.waiting.items ≡ [] }
+    {
+        let mut at = 0;
+        while at < self.waiting.len() {
+            tell_notice(self.folder, &self.waiting[at], log);
+            at += 1;
+        }
+        self.waiting.clear();
+    }
+}
+
+/// Tells one.
+fn tell_notice<T: Tells>(folder: &str, notice: &Notice, log: &mut T)
+    ensures levels { T.log_has_levels log.new ≡ T.log_has_levels log.old }
+    ensures told { HasGrown (T.log_is_whole log.old) (T.log_is_whole log.new)
+        (T.log_has log.old) (T.log_has log.new) }
+{
+    match notice {
+        Notice::File(name, refusal, why) => {
+            log.tell(&Event::LinesRefused(name.as_bytes(), *refusal, why));
+        }
+        Notice::Folder(refusal, why) => {
+            log.tell(&Event::LinesRefused(folder.as_bytes(), *refusal, why));
+        }
+        Notice::Readable => log.tell(&Event::LinesReadable(folder.as_bytes())),
+    }
+}
+
+/// The system's words, as far as there is memory for them.
+pub(crate) fn words_of(alloc: Global, error: io::Error) -> Why {
+    let mut text = Vec::new(alloc);
+    let fault = OpenFault::System(error);
+    match write!(text, "{fault}") {
+        Ok(()) => Why::Words(Words::new(text)),
+        Err(_) => Why::Unsaid,
+    }
+}

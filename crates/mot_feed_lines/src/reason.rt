@@ -1,0 +1,55 @@
+//! Why a line is refused, beside the number of the refusal.
+ghost use Rattle.std.specs.Prelude.{◌≡◌, Err, IfSome};
+ghost use Rattle.mot_feed_lines.specs.Inner.Reasons.{IsWhy, IsWrong, ends_with_return};
+ghost use Rattle.mot_session.specs.OnAnyDisk.{read_only};
+
+use crate::asked::command_of;
+use mot_events::{Asked, Why};
+use mot_lines::Line;
+use mot_numbers::Refusal;
+
+/// The refusal of a line that asks for nothing here: it was refused as it was read, or it asks for
+/// packets, which are those that are played.
+pub(crate) fn refusal_of(request: &Result<Line, Refusal>) -> Option<Refusal>
+    ensures { IfSome result (λ refusal. read_only request.now ≡ Err refusal) }
+{
+    match request {
+        Err(refusal) => Some(*refusal),
+        Ok(Line::Next(_) | Line::Turn) => Some(Refusal::BadLine),
+        Ok(_) => None,
+    }
+}
+
+/// Why it is refused, as far as the line shows it.
+pub(crate) fn why_of(request: &Result<Line, Refusal>, line: &[u8]) -> Why
+    ensures { IsWhy request.now line.now result }
+{
+    match request {
+        Ok(_) => Why::NotHere,
+        Err(_) => why_in(line),
+    }
+}
+
+/// Why a line is wrong: a carriage return at its end belongs to its last word.
+fn why_in(line: &[u8]) -> Why
+    ensures { IsWrong line.now result }
+{
+    if ends_with_return(line) {
+        return Why::Return;
+    }
+    let (asked, _) = command_of(line);
+    match asked {
+        Asked::Other => Why::NoCommand,
+        _ => Why::Unsaid,
+    }
+}
+
+/// Whether the last byte is a carriage return.
+fn ends_with_return(line: &[u8]) -> bool
+    ensures { result ≡ ends_with_return line.now }
+{
+    if line.is_empty() {
+        return false;
+    }
+    line[line.len() - 1] == b'\r'
+}

@@ -1,0 +1,57 @@
+//! Updates that are watched.
+ghost use Rattle.std.specs.Prelude.{◌≡◌};
+ghost use Rattle.disk_model.specs.Disk.{KeepsLength};
+ghost use Rattle.mot_journal.specs.Image.{Standing};
+ghost use Rattle.mot_repository.specs.Repository.{Holds};
+ghost use Rattle.mot_server.specs.Attempts.{fault_of};
+ghost use Rattle.mot_update.specs.Between.{IsUpdating};
+ghost use Rattle.mot_update.specs.Faults.{TellsFaults};
+
+use disk_model::Disk;
+use mot_numbers::Refusal;
+use mot_server::Server;
+use mot_update::{Facts, Moment, Update, Watch};
+use std::alloc::Global;
+
+/// Updates that are watched. Nothing is changed by that.
+#[derive(Drop)]
+pub struct Reported<U: Update + Facts + Drop, T: Watch + Drop> {
+    /// The updates.
+    pub update: U,
+    /// What is told of them.
+    pub watch: T,
+}
+
+impl<U: Update + Facts + Drop, T: Watch + Drop> Reported<U, T> {
+    /// The updates.
+    pub fn into_update(self) -> U
+        ensures { result ≡ self.update }
+    {
+        self.update
+    }
+}
+
+impl<U: Update + Facts + Drop, T: Watch + Drop> Update for Reported<U, T> {
+    // What the updates tell.
+    ghost tells = { λ old new. U.tells old.update new.update };
+
+    fn update<D: Disk>(
+        &mut self,
+        server: &mut Server<D>,
+        alloc: Global,
+        moment: Moment,
+    ) -> Result<(), Refusal>
+        ensures keeps { KeepsLength (D.state server.old.disk) (D.state server.new.disk) }
+        ensures faults { TellsFaults server.old server.new
+            (D.state server.old.disk) (D.state server.new.disk) result }
+        ensures run { (s : Standing) → Holds server.old.view s (D.state server.old.disk)
+            → (D.state server.new.disk).IsHonest
+            → IsUpdating (U.tells self.old.update self.new.update moment) server.old server.new
+            (D.state server.old.disk) (D.state server.new.disk) s (fault_of result) }
+    {
+        self.watch.begin(server, alloc, moment);
+        let result = self.update.update(server, alloc, moment);
+        self.watch.end(server, alloc, &self.update);
+        result
+    }
+}

@@ -1,0 +1,139 @@
+//! Telling what lines were answered.
+ghost use Rattle.std.specs.Prelude.{◌≡◌, List, ℕ};
+ghost use Rattle.mot_feed_lines.specs.Inner.Request.{ShowsLines, TellsLine, reply_of};
+ghost use Rattle.mot_feed_lines.specs.Logged.{IsShown, LogHas};
+ghost use Rattle.mot_lines.specs.Text.{done_line, refusal_line};
+ghost use Rattle.mot_session.specs.OnAnyDisk.{AnswersAnyhow, read_only};
+
+use crate::asked::command_of;
+use crate::intake::Intake;
+use crate::reason::{refusal_of, why_of};
+use disk_model::Disk;
+use mot_events::{Event, Reply, Tells, Why};
+use mot_lines::{Line, cut_at_line_end};
+use mot_numbers::Refusal;
+use mot_objects::Done;
+use mot_server::{Attempt, Server};
+use mot_session::answer_reading;
+use std::alloc::Global;
+
+/// Tells that the command in hand was done.
+fn tell_done<T: Tells>(intake: &Intake, log: &mut T, done: Done)
+    ensures levels { T.log_has_levels log.new ≡ T.log_has_levels log.old }
+    ensures told { LogHas (T.log_has_levels log.old) intake.now.hand (done_line done)
+        (T.log_is_whole log.old) (T.log_is_whole log.new) (T.log_has log.old) (T.log_has log.new) }
+{
+    let (asked, subject) = command_of(intake.hand.as_slice());
+    let (file, number) = (intake.count.file(), intake.count.number);
+    log.tell(&Event::Answered(file, number, asked, subject, Reply::Done(done)));
+}
+
+/// Tells that the line in hand is refused, and why.
+pub(crate) fn tell_refused<'x, T: Tells>(
+    intake: &'x Intake,
+    log: &mut T,
+    refusal: Refusal,
+    why: &'x Why,
+)
+    ensures levels { T.log_has_levels log.new ≡ T.log_has_levels log.old }
+    ensures told { LogHas (T.log_has_levels log.old) intake.now.hand (refusal_line refusal)
+        (T.log_is_whole log.old) (T.log_is_whole log.new) (T.log_has log.old) (T.log_has log.new) }
+{
+    let (asked, subject) = command_of(intake.hand.as_slice());
+    let (file, number) = (intake.count.file(), intake.count.number);
+    let reply = Reply::Refused(refusal, why);
+    log.tell(&Event::Answered(file, number, asked, subject, reply));
+}
+
+/// Tells a line that the line in hand asks for.
+fn tell_shown<'x, T: Tells>(intake: &'x Intake, log: &mut T, line: &'x [u8])
+    ensures levels { T.log_has_levels log.new ≡ T.log_has_levels log.old }
+    ensures told { TellsLine (T.log_has_levels log.old) intake.now.hand (IsShown line.now)
+        (T.log_is_whole log.old) (T.log_is_whole log.new) (T.log_has log.old) (T.log_has log.new) }
+{
+    let (asked, subject) = command_of(intake.hand.as_slice());
+    let (file, number) = (intake.count.file(), intake.count.number);
+    log.tell(&Event::Answered(file, number, asked, subject, Reply::Shown(line)));
+}
+
+/// Tells what became of the command in hand.
+pub(crate) fn tell_attempt<T: Tells>(
+    intake: &Intake,
+    log: &mut T,
+    attempt: &Result<Attempt, Refusal>,
+)
+    ensures levels { T.log_has_levels log.new ≡ T.log_has_levels log.old }
+    ensures told { LogHas (T.log_has_levels log.old) intake.now.hand (reply_of attempt.now)
+        (T.log_is_whole log.old) (T.log_is_whole log.new) (T.log_has log.old) (T.log_has log.new) }
+{
+    match attempt {
+        Ok(Attempt::Accepted(done)) => tell_done(intake, log, *done),
+        Ok(Attempt::Refused(refusal)) => tell_refused(intake, log, *refusal, &Why::Unsaid),
+        Err(refusal) => tell_refused(intake, log, *refusal, &Why::Unsaid),
+    }
+}
+
+/// Tells the reply to a line that changes and plays nothing.
+pub(crate) fn show<T: Tells, D: Disk>(
+    alloc: Global,
+    request: &Result<Line, Refusal>,
+    intake: &Intake,
+    log: &mut T,
+    server: &Server<D>,
+)
+    ensures levels { T.log_has_levels log.new ≡ T.log_has_levels log.old }
+    ensures told { (text : List ℕ) × AnswersAnyhow server.now.view server.now.view
+        (D.state server.now.disk).failures (D.state server.now.disk).failures
+        (read_only request.now) text
+        × LogHas (T.log_has_levels log.old) intake.now.hand text (T.log_is_whole log.old)
+        (T.log_is_whole log.new) (T.log_has log.old) (T.log_has log.new) }
+{
+    match refusal_of(request) {
+        Some(refusal) => {
+            let why = why_of(request, intake.hand.as_slice());
+            tell_refused(intake, log, refusal, &why);
+        }
+        None => show_text(alloc, request, intake, log, server),
+    }
+}
+
+/// Tells the lines that are asked for. If there is no memory for them, that is told in their place.
+fn show_text<T: Tells, D: Disk>(
+    alloc: Global,
+    request: &Result<Line, Refusal>,
+    intake: &Intake,
+    log: &mut T,
+    server: &Server<D>,
+)
+    ensures levels { T.log_has_levels log.new ≡ T.log_has_levels log.old }
+    ensures told { (text : List ℕ) × AnswersAnyhow server.now.view server.now.view
+        (D.state server.now.disk).failures (D.state server.now.disk).failures
+        (read_only request.now) text
+        × LogHas (T.log_has_levels log.old) intake.now.hand text (T.log_is_whole log.old)
+        (T.log_is_whole log.new) (T.log_has log.old) (T.log_has log.new) }
+{
+    let mut text = Vec::new(alloc);
+    match answer_reading(alloc, request, &mut text, server) {
+        Ok(()) => show_lines(intake, log, text.as_slice()),
+        Err(_) => {
+            tell_refused(intake, log, Refusal::OutOfMemory, &Why::Unsaid);
+            log.leave_out();
+        }
+    }
+}
+
+/// Tells each line of a text.
+fn show_lines<T: Tells>(intake: &Intake, log: &mut T, text: &[u8])
+    ensures levels { T.log_has_levels log.new ≡ T.log_has_levels log.old }
+    ensures told { ShowsLines (T.log_has_levels log.old) intake.now.hand text.now
+        (T.log_is_whole log.old) (T.log_is_whole log.new) (T.log_has log.old) (T.log_has log.new) }
+{
+    let mut rest = text;
+    while let Some((line, next)) = cut_at_line_end(rest) {
+        tell_shown(intake, log, line);
+        rest = next;
+    }
+    if rest.len() > 0 {
+        tell_shown(intake, log, rest);
+    }
+}

@@ -1,0 +1,50 @@
+//! What watches updates, and tells of them.
+ghost use Rattle.std.specs.Prelude.{◌≡◌, []};
+
+use crate::between::NoUpdate;
+use crate::moment::Moment;
+use disk_model::Disk;
+use mot_events::{LookEvent, Tells};
+use mot_server::Server;
+use std::alloc::Global;
+
+/// What is known of the looks of updates.
+pub trait Facts {
+    /// How many looks there were.
+    fn looks(&self) -> u64;
+
+    /// What the last look met.
+    fn events(&self) -> &[LookEvent];
+
+    /// What the look before it met.
+    fn events_before(&self) -> &[LookEvent];
+}
+
+impl Facts for NoUpdate {
+    fn looks(&self) -> u64
+        ensures { result ≡ 0 }
+    {
+        0
+    }
+
+    fn events(&self) -> &[LookEvent]
+        ensures { result.now ≡ [] }
+    {
+        &[]
+    }
+
+    fn events_before(&self) -> &[LookEvent]
+        ensures { result.now ≡ [] }
+    {
+        &[]
+    }
+}
+
+/// What is told of updates. It reads the server, and changes nothing of it.
+pub trait Watch: Tells {
+    /// An update begins.
+    fn begin<D: Disk>(&mut self, server: &Server<D>, alloc: Global, moment: Moment);
+
+    /// It has ended, and these are its looks.
+    fn end<D: Disk, U: Facts>(&mut self, server: &Server<D>, alloc: Global, update: &U);
+}
