@@ -149,7 +149,7 @@ class Case(Rows):
 
     def objects(self, disk):
         """Each object as `check` shows it, by its name: id, version, type and subtype, length, MIME type."""
-        found = [it.split() for it in self.motcar("check", disk)[1].decode().splitlines() if it.startswith("object ")]
+        found = [it.split(" ") for it in self.motcar("check", disk)[1].decode().split("\n") if it.startswith("object ")]
         return {it[6]: (int(it[1]), int(it[2]), f"{it[3]} {it[4]}", int(it[5]), it[7]) for it in found}
 
 

@@ -1,4 +1,5 @@
 """Files of lines that can't be read, removed or looked at, that are exchanged, and folders that go and come back."""
+import errno
 import os
 import shutil
 
@@ -6,8 +7,12 @@ from .air import NOBODY, AirCase, needs_strace, send, traced, until
 from .program import plain, run
 from .test_line_files import LineFiles
 
-UNREAD = "lines {} refused 22 ReadFault"
 ERRORS = ("EIO", "EACCES", "ELOOP", "ESTALE")
+
+
+def unread(name, error="EIO"):
+    """What is logged of a file or a folder that can't be read, with the system's words."""
+    return f"lines {name} refused 22 ReadFault: {os.strerror(getattr(errno, error))}"
 
 
 class Permissions(AirCase):
@@ -39,7 +44,7 @@ class Permissions(AirCase):
 
     def test_a_file_that_cant_be_taken_away(self):
         asked = self.lines(0o555, ("1.lines", "2.lines"))
-        wanted = 0, b"done directory 2\nlines 1.lines refused 22 ReadFault\n", b""
+        wanted = 0, f"done directory 2\n{unread('1.lines', 'EACCES')}\n".encode(), b""
         self.expect("a file that can't be taken away is logged", wanted, self.answered(asked))
         asked.chmod(0o755)
         self.expect("and is the last", ["1.lines", "2.lines"], sorted(os.listdir(asked)))
@@ -47,7 +52,7 @@ class Permissions(AirCase):
     def test_a_file_that_cant_be_opened(self):
         asked = self.lines(0o755, ("1.lines", "2.lines"))
         (asked / "1.lines").chmod(0)
-        wanted = 0, b"lines 1.lines refused 22 ReadFault\ndone directory 2\n", b""
+        wanted = 0, f"{unread('1.lines', 'EACCES')}\ndone directory 2\n".encode(), b""
         self.expect("a file that can't be opened is logged once", wanted, self.answered(asked))
         self.expect("and the next is taken", ["1.lines"], os.listdir(asked))
 
@@ -66,7 +71,7 @@ class Faults(LineFiles):
     def test_a_read_that_fails(self):
         for name in "12":
             send(self.asked, f"{name}.lines", f"put {name} 1 0 - 61\n".encode())
-        told = ["done object 2 directory 3", UNREAD.format("1.lines"), "done object 4 directory 5"]
+        told = ["done object 2 directory 3", unread("1.lines"), "done object 4 directory 5"]
         ended = self.faulty("inject=read:error=EIO:when=2+2")
         self.expect("a file whose reading fails is logged once", (0, told, b""), ended)
         self.expect("and stays, and the next is taken", ["1.lines"], self.left())
@@ -79,7 +84,7 @@ class Faults(LineFiles):
             words = ["play", self.place, "/dev/null", "--lines", self.asked, "--every", "1", "--turns", "9"]
             fault = "inject=read:error=EIO:when=2+2"
             status, told, _ = run(traced([self.program, *words], fault, paths=[self.asked / "1.lines"]))
-            wanted = [f"lines 1.lines:1 period 5 done directory {2 * number + 2}", UNREAD.format("1.lines"),
+            wanted = [f"lines 1.lines:1 period 5 done directory {2 * number + 2}", unread("1.lines"),
                       f"lines 1.lines:2 put {name} refused 5 BadBody",
                       f"lines 2.lines:1 period 6 done directory {2 * number + 3}"]
             told = told.decode().splitlines()[1:-1]
@@ -93,7 +98,7 @@ class Faults(LineFiles):
             status, told, said = self.faulty(f"inject=statx:error={error}:when=1")
             told = [it.split(" directory")[0] for it in told]
             self.expect(f"one that can't be looked at is logged before the next is taken: {error}",
-                        (0, [UNREAD.format("1.lines"), "done", "done"], b"", []), (status, told, said, self.left()))
+                        (0, [unread("1.lines", error), "done", "done"], b"", []), (status, told, said, self.left()))
 
     def test_a_file_that_cant_be_opened_for_a_moment(self):
         for call, error in [("openat", it) for it in ERRORS] + [("pread64", "EIO"), ("pread64", "ESTALE")]:
@@ -101,13 +106,13 @@ class Faults(LineFiles):
             status, told, said = self.faulty(f"inject={call}:error={error}:when=1")
             told = [it.split(" directory")[0] for it in told]
             self.expect(f"a file that can't be opened once: {call}, {error}",
-                        (0, [UNREAD.format("1.lines"), "done"], b"", []), (status, told, said, self.left()))
+                        (0, [unread("1.lines", error), "done"], b"", []), (status, told, said, self.left()))
 
     def test_a_file_that_would_not_be_known_again(self):
         """Else its lines would be done again and again: it is the last."""
         for name in "12":
             send(self.asked, f"{name}.lines", f"put {name} 1 0 - 61\n".encode())
-        told = ["done object 2 directory 3", UNREAD.format("1.lines")]
+        told = ["done object 2 directory 3", unread("1.lines")]
         ended = self.faulty("inject=read:error=EIO:when=2", "inject=statx:error=EIO:when=4")
         self.expect("a file that can't be looked at once its reading failed", (0, told, b""), ended)
         self.expect("and no more are taken", ["1.lines", "2.lines"], self.left())
@@ -118,7 +123,7 @@ class Faults(LineFiles):
         for name in "12":
             send(self.asked, f"{name}.lines", f"put {name} 1 0 - 61\n".encode())
         status, told, _ = self.faulty("inject=read:error=EIO:when=2")
-        self.expect("there is no room to know it again", (0, ["done object 2 directory 3", UNREAD.format("1.lines")]),
+        self.expect("there is no room to know it again", (0, ["done object 2 directory 3", unread("1.lines")]),
                     (status, [it for it in told if "BadLine" not in it]))
         self.expect("and no more are taken", {"1.lines", "2.lines"}, {it for it in self.left() if len(it) < 9})
 
@@ -135,7 +140,7 @@ class Faults(LineFiles):
             send(self.asked, "1.lines", b"put a 1 0 - 61\n")
             fault = ["inject=read:error=EIO:when=2"], [self.asked / "1.lines"]
             player = self.playing(tracing=fault)
-            player.until(UNREAD.format("1.lines"))
+            player.until(unread("1.lines"))
             self.passes(2)
             self.expect(f"{row}: it is left meanwhile", ["1.lines"], self.left())
             mend()
@@ -156,8 +161,9 @@ class Faults(LineFiles):
         player = self.started(traced(words, *waits, paths=[self.asked / "1.lines"], out=trace))
         until(lambda: trace.exists() and " = 0" in trace.read_text())
         os.rename(link, self.asked / "1.lines")
-        player.until(UNREAD.format("1.lines"))
-        self.expect("what a link names is not read as lines", [UNREAD.format("1.lines")], player.end())
+        left = "lines 1.lines refused 22 ReadFault: not a regular file"
+        player.until(left)
+        self.expect("what a link names is not read as lines", [left], player.end())
         self.expect("nor taken away", (True, ["1.lines"]), (secret.exists(), self.left()))
 
 
@@ -188,15 +194,15 @@ class Folders(LineFiles):
         send(self.asked, "1.lines", b"period 1\n")
         player = self.playing()
         player.until("done directory 2")
-        unread, readable = UNREAD.format(self.asked), f"lines {self.asked} readable"
+        gone, readable = unread(self.asked, "ENOENT"), f"lines {self.asked} readable"
         for number in (1, 2):
             os.rename(self.asked, self.room / "away")
-            player.until(unread, number)
+            player.until(gone, number)
             os.rename(self.room / "away", self.asked)
             player.until(readable, number)
         send(self.asked, "1.lines", b"list\n")
         player.until("carousel 1 2 2 0")
-        wanted = ["done directory 2", *[unread, readable] * 2, "carousel 1 2 2 0"]
+        wanted = ["done directory 2", *[gone, readable] * 2, "carousel 1 2 2 0"]
         self.expect("a folder that can't be read is logged once", wanted, player.end())
 
     def many(self):
@@ -227,7 +233,7 @@ class Folders(LineFiles):
         """All names that are kept are gone with it, and none is after which the next ones come."""
         player = self.many()
         os.rename(self.asked, self.room / "away")
-        player.hear(lambda: UNREAD.format(self.asked) in player.log.read_text())
+        player.hear(lambda: unread(self.asked, "ENOENT") in player.log.read_text())
         left = sorted(it.split(".")[0] for it in os.listdir(self.room / "away"))
         send(self.room / "away", "000.lines", b"withdraw early\n")
         os.rename(self.room / "away", self.asked)

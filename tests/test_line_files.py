@@ -9,7 +9,8 @@ from .air import AirCase, send, until
 
 # The files of lines in a folder that has other files, too.
 NAMES = ("2.lines", "10.lines", "3.lines")
-LEFT = "lines {}.lines refused 1 BadLine"
+LEFT = "lines {}.lines refused 1 BadLine: its first word is no command"
+NOT_HERE = "refused 1 BadLine: not while a disk is played"
 
 
 class LineFiles(AirCase):
@@ -49,14 +50,14 @@ class Answered(LineFiles):
         (self.asked / "5.lines").symlink_to(".left.lines")
         os.mkfifo(self.asked / "6.lines")
         stay = [it for it in self.left() if it not in NAMES]
-        return stay, [f"lines {name}.lines refused 22 ReadFault" for name in "456"]
+        return stay, [f"lines {name}.lines refused 22 ReadFault: not a regular file" for name in "456"]
 
     def test_before_the_first_packet(self):
         self.serve(self.place, ["put first 1 0 - 61"])
         before, (stay, left) = self.turns(self.place, 1), self.fill()
         status, packets, told = self.answered("--every", "1", "--turns", "3", to="-")
         wanted = ["done object 4 directory 5", "carousel 0 5 5 2", "object 2 0 1 0 1 first -",
-                  "object 4 0 1 0 2 second -", *["refused 1 BadLine"] * 3, "refused 10 NoSuchName", *left]
+                  "object 4 0 1 0 2 second -", *[NOT_HERE] * 2, "refused 1 BadLine", "refused 10 NoSuchName", *left]
         self.expect("lines in files, by their names", (0, wanted), (status, told.decode().splitlines()))
         now = self.turns(self.place, 3)
         self.expect("the first before the first packet", b"".join(now), packets)
@@ -245,7 +246,7 @@ class Left(LineFiles):
         player.until("done directory 2")
         self.passes(3)
         first = [it for it in player.told() if "carousel" not in it]
-        names = [f"lines {it}.lines refused 2 BadName" for it in ("?", "a?b")]
+        names = ["lines ?.lines refused 2 BadName: not UTF-8", "lines a?b.lines refused 2 BadName: a control character"]
         wanted = sorted(["done directory 2", *names, *left])
         self.expect("files of another kind are logged once", wanted, sorted(first))
         told = [it for it in first if "BadName" not in it]

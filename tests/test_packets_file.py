@@ -222,5 +222,6 @@ class WithFolder(AirCase):
         fault = "inject=openat:error=EIO:when=1"
         status, printed, said = self.traced([self.program, *words], fault, paths=[f"{self.objects_of}/."])
         told = without_ids(printed)
-        wanted = [f"look {self.objects_of} refused 22 ReadFault: Input/output error", "put a.txt"]
+        wanted = [f"look {self.objects_of} refused 22 ReadFault: Input/output error",
+                  f"look {self.objects_of} listed", "put a.txt"]
         self.expect("a folder that can be read again", (1, wanted, b""), (status, told, said))

@@ -35,12 +35,16 @@ class Samples(Status):
         packets, size = map(int, inspected["turn"].split()[0::2][:2])
         reasons = {"b.txt": "6 EmptyBody", 'c\\"\\\\.txt': "6 EmptyBody", "d?.txt": "2 BadName: a control character"}
         files = {f'motcar_file_refused{{command="read",name="{it}",reason="{why}"}}': 1 for it, why in reasons.items()}
-        wanted = {"packets_total": 0, "turns_total": 0, "looks_total": 1, "changes_total": 1, "refusals_total": 4,
+        wanted = {"packets_total": packets, "turns_total": 1, "looks_total": 1, "changes_total": 1, "refusals_total": 4,
+                  "line_refusals_total": 0, "mass_withdrawals_total": 0, "objects_limit": 40, "data_bytes": 600_000,
                   "objects": 1, "directory_id": 3, "turn_packets": packets, "turn_bytes": size, "folder_listed": 1,
                   "free_bytes": int(inspected["data"].split()[-1]), "gap_bytes": int(inspected["gap"]),
                   f'info{{version="{version}"}}': 1}
         wanted = {f"motcar_{it}": value for it, value in wanted.items()}
-        self.expect("a status", {**wanted, **files}, samples(self.path))
+        # (the others have rows of their own)
+        others = "motcar_refused_total", "motcar_object{", "motcar_last_change_seconds"
+        came = {it: value for it, value in samples(self.path).items() if not it.startswith(others)}
+        self.expect("a status", {**wanted, **files}, came)
         others = [it for it in self.path.read_text().splitlines() if not re.match(r"# (HELP|TYPE) motcar_|motcar_", it)]
         self.expect("with help and a kind for each family", [], others)
         self.expect("for any reader", 0o644, self.path.stat().st_mode & 0o777)
@@ -55,25 +59,33 @@ class Samples(Status):
         levels = ["<4>" if " refused " in it else "<6>" for it in told]
         self.expect("and the levels of all lines", (levels, 4), ([it[:3] for it in told], levels.count("<4>")))
 
+    def written(self, *more):
+        """How many packets there were each time that the status was written."""
+        trace, words = self.room / "trace", ["play", self.place, "/dev/null", "--status", self.path, *more]
+        run(["strace", "-f", "-qq", "-s", "400", "-e", "trace=write", "-P", f"{self.path}.new", "-o", trace,
+             self.program, *words])
+        return [int(it) for it in re.findall(r"motcar_packets_total{disk=[^}]*} (\d+)", trace.read_text())]
+
+    @needs_strace
     def test_when_it_is_written(self):
         self.shown()
         packets = self.count("turn_packets")
         turns = 3_500 // packets
-        self.shown(turns=str(turns))
         # (a look begins a turn)
         between = -(-1_000 // packets) * packets
-        self.expect("after each look", (4, 3 * between), (self.count("looks_total"), self.count("packets_total")))
-        self.expect("with the turns up to there", 3 * between // packets, self.count("turns_total"))
-        self.motcar("play", self.place, "/dev/null", "--turns", str(turns), "--status", self.path)
-        wanted = 0, 3_000, 3_000 // packets
-        came = [self.count(it) for it in ("looks_total", "packets_total", "turns_total")]
-        self.expect("after each thousand packets", wanted, tuple(came))
+        at = self.written("--at-once", "--folder", self.objects_of, "--turns", str(turns))
+        wanted = {0, turns * packets, *(number * it for number in (1, 2, 3) for it in (1_000, between))}
+        self.expect("after each look, after each thousand packets, and at the end", sorted(wanted), at)
+        self.expect("with all looks and turns", (4, turns), (self.count("looks_total"), self.count("turns_total")))
+        self.expect("without a folder", [0, 1_000, 2_000, 3_000, turns * packets],
+                    self.written("--turns", str(turns)))
+        self.expect("with all turns", (0, turns), (self.count("looks_total"), self.count("turns_total")))
 
     def test_a_file_that_is_mended(self):
         self.shown()
         (self.objects_of / "b.txt").write_bytes(b"b")
         self.shown()
-        came = self.count("objects"), sum("b.txt" in it for it in samples(self.path))
+        came = self.count("objects"), sum("file_refused" in it and "b.txt" in it for it in samples(self.path))
         self.expect("a file that is mended", (2, 0), came)
 
     def test_control_characters_above_ascii(self):
@@ -183,7 +195,8 @@ class Places(Status):
             opened = [re.search(r'"([^"]*)"', it)[1] for it in calls if "rename" not in it]
             renamed = [re.findall(r'"([^"]*)"', it) for it in calls if "rename" in it]
             self.expect("only the file beside it is opened", {f"{self.path}.new"}, set(opened))
-            self.expect("and takes its place", [[f"{self.path}.new", str(self.path)]], renamed)
+            wanted = [[f"{self.path}.new", str(self.path)]] * 2
+            self.expect("and takes its place, at the start and at the end", wanted, renamed)
 
     def test_a_full_file_system(self):
         self.shown()
@@ -230,7 +243,8 @@ class Counts(Status):
             (self.objects_of / name).write_bytes(b"x")
 
     def counts(self):
-        return {it: value for it, value in samples(self.path).items() if "refus" in it or "changes" in it}
+        kinds = "motcar_(refusals|changes|file_refused)"
+        return {it: value for it, value in samples(self.path).items() if re.match(kinds, it)}
 
     def wanted(self, changes, refusals, *files):
         counts = {"motcar_changes_total": changes, "motcar_refusals_total": refusals}

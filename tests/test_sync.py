@@ -138,8 +138,8 @@ class Skips(AirCase):
         os.mkfifo(folder / "c.txt")
         os.mkfifo(folder / "d.pipe")
         status, told, _ = self.sync(disk, folder)
-        wanted = [b"skip c.txt special", b"skip d.pipe special"]
-        self.expect("pipes are skipped", (0, wanted), (status, beginning(b"skip", told)))
+        wanted = [b"skip ?.doc not UTF-8", b"skip ?.txt not UTF-8", b"skip c.txt special", b"skip d.pipe special"]
+        self.expect("pipes, and names that are no text, are skipped", (0, wanted), (status, beginning(b"skip", told)))
         self.expect("and the rest is taken", ["a.txt"], list(self.objects(disk)))
 
     def test_a_hundred_at_most(self):
@@ -249,7 +249,8 @@ class Bounds(AirCase):
         folder = self.folder({f"{it}.txt": b"xy" for it in range(1, 5)})
         status, told, _ = self.sync(disk, folder)
         told = [it if b"refused" in it or b"note" in it else it[:9] for it in told.splitlines()]
-        wanted = [b"put 1.txt", b"put 2.txt", *[b"put %d.txt refused 11 TooManyObjects" % it for it in (3, 4)]]
+        wanted = [b"put 1.txt", b"put 2.txt", b"put 3.txt refused 11 TooManyObjects: 2 at most",
+                  f"note {folder} 2 objects at most, 2 files wait".encode()]
         self.expect("one object too many: no bytes, and no gap, are its reason", (1, wanted), (status, told))
 
 
