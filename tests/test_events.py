@@ -303,16 +303,17 @@ class Lines(Events):
         (asked / "5\1.lines").write_bytes(b"list\n")
         with open(os.fsencode(asked) + b"/6\xe9.lines", "wb") as it:
             it.write(b"list\n")
-        send(asked, "7.lines", b"next 1\nturn\nnext x\nturn x\n")
+        send(asked, "7.lines", b"next 1\nturn\nnext x\nturn x\nput a 1 0 - 61\r\nlists\n")
         told = self.played("--lines", asked, turns=9)[1:-1]
         other = [f"{it}.lines refused 22 ReadFault: not a regular file" for it in "234"]
         replies = [*[f"{it} refused 1 BadLine: not while a disk is played" for it in ("next", "turn")],
-                   "next refused 8 BadNumber", "turn refused 1 BadLine"]
+                   "next refused 8 BadNumber", "turn refused 1 BadLine", "put a refused 5 BadBody: a carriage return",
+                   "refused 1 BadLine: its first word is no command"]
         wanted = ["1.lines refused 1 BadLine: its first word is no command", *other,
                   "5?.lines refused 2 BadName: a control character", "6?.lines refused 2 BadName: not UTF-8",
                   *[f"7.lines:{at} {it}" for at, it in enumerate(replies, 1)]]
         self.expect("why", sorted(f"<4>lines {it}" for it in wanted), sorted(told))
-        self.expect("each is counted", (10, 10), self.refusals()[:2])
+        self.expect("each is counted", (12, 12), self.refusals()[:2])
 
 
     def test_a_long_line(self):

@@ -85,7 +85,7 @@ class Faults(LineFiles):
             fault = "inject=read:error=EIO:when=2+2"
             status, told, _ = run(traced([self.program, *words], fault, paths=[self.asked / "1.lines"]))
             wanted = [f"lines 1.lines:1 period 5 done directory {2 * number + 2}", unread("1.lines"),
-                      f"lines 1.lines:2 put {name} refused 5 BadBody",
+                      f"lines 1.lines:2 put {name} refused 5 BadBody: a carriage return",
                       f"lines 2.lines:1 period 6 done directory {2 * number + 3}"]
             told = told.decode().splitlines()[1:-1]
             self.expect(f"a line that was read in part is none: {name}", (0, wanted), (status, told))

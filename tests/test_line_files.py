@@ -10,6 +10,7 @@ from .air import AirCase, send, until
 # The files of lines in a folder that has other files, too.
 NAMES = ("2.lines", "10.lines", "3.lines")
 LEFT = "lines {}.lines refused 1 BadLine: its first word is no command"
+NO_COMMAND = "refused 1 BadLine: its first word is no command"
 NOT_HERE = "refused 1 BadLine: not while a disk is played"
 
 
@@ -57,7 +58,7 @@ class Answered(LineFiles):
         before, (stay, left) = self.turns(self.place, 1), self.fill()
         status, packets, told = self.answered("--every", "1", "--turns", "3", to="-")
         wanted = ["done object 4 directory 5", "carousel 0 5 5 2", "object 2 0 1 0 1 first -",
-                  "object 4 0 1 0 2 second -", *[NOT_HERE] * 2, "refused 1 BadLine", "refused 10 NoSuchName", *left]
+                  "object 4 0 1 0 2 second -", *[NOT_HERE] * 2, NO_COMMAND, "refused 10 NoSuchName", *left]
         self.expect("lines in files, by their names", (0, wanted), (status, told.decode().splitlines()))
         now = self.turns(self.place, 3)
         self.expect("the first before the first packet", b"".join(now), packets)
