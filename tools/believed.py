@@ -81,15 +81,18 @@ CITED_BY_NONE = [
     ("disk_store/FileSound", "now_is file_sound", "`mot_commands`, whose own disks are files"),
     ("mot_journal/Gaps", "IsBeside AreBeside standing_of", "private functions of `mot_repository`, and its proofs"),
     ("mot_feed/Sending", "SendsPacket", "private functions of `mot_feed`, and its proofs"),
-    ("mot_status/Status", "label_byte", "private functions of `write_status`"),
+    ("mot_events/Status", "label_byte", "private functions of `write_status`"),
+    ("mot_events/Text", "line_of", "private functions of `EventLog`"),
     ("mot_cli/Asked", "AskBy", "private functions of `mot_commands` and `mot_air`"),
-    ("mot_folder/Log", "TellsAnswers TellsOf not_accepted", "private functions of `look_at_folder`"),
+    ("mot_folder/Log", "TellsAnswers TellsOf not_accepted waiting_in", "private functions of `look_at_folder`"),
+    ("mot_feed_lines/Logged", "LogHas", "private functions of `answer_there`"),
+    ("mot_endpoints/LineFiles", "refusal_of", "private functions of `Spool`"),
     ("mot_update/HasRun", "commands_for", "a private function of `settle`"),
     ("mot_update/Looking", "unknown_names withdraw_all HasSettled", "private functions of `look`"),
 ]
 
 # Private definitions that a public contract cites: by file and reason.
-CITED_THOUGH_INNER = []
+CITED_THOUGH_INNER = [("mot_folder/Inner.Reading", "unread_for", "`Report::missed`, which only `mot_folder` calls")]
 
 
 class Definition:
@@ -154,7 +157,7 @@ class Sources:
     """All definitions of the repository, and what of its program contracts cite."""
 
     def __init__(self):
-        self.types, self.functions = {}, {}
+        self.types, self.functions, self.below = {}, {}, crates_below()
         self.files, self.exported, self.says = collections.defaultdict(dict), {}, {}
         for crate in sorted(it for it in (TOP / "crates").iterdir() if (it / "src").is_dir()):
             for path in sorted((crate / "specs").rglob("*.antt")):
@@ -286,8 +289,20 @@ class Sources:
     def type_named(self, crate, name):
         if (crate, name) in self.types:
             return self.types[crate, name]
-        found = [it for (other, short), it in self.types.items() if short == name and name in self.exported[other]]
+        found = [it for (other, short), it in self.types.items()
+                 if short == name and name in self.exported[other] and other in self.below[crate]]
         return found[0] if found else None
+
+
+def crates_below():
+    """Of each crate the crates that it stands on: a type's name is one of theirs."""
+    listed = (it.split(":") for it in (TOP / "crates.txt").read_text().splitlines() if not it.startswith("#"))
+    direct = {crate: rest.split() for crate, rest in listed}
+    below = {}
+    for crate, others in direct.items():
+        # (lowest first)
+        below[crate] = set(others).union(*(below.get(it, ()) for it in others))
+    return below
 
 
 def first_sentence(text):
