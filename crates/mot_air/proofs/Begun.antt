@@ -9,7 +9,7 @@ use Rattle.mot_air.specs.Program.{Ends, IsBeginningRefusal}
 use Rattle.mot_cli.specs.declared.air.task.AirTask.{AirTask}
 use Rattle.mot_numbers.specs.declared.refusal.Refusal.{Refusal}
 use Rattle.mot_outcome.specs.declared.used.UsedDisk.{UsedDisk}
-use Rattle.mot_server.specs.Attempts.{fault_of}
+use Rattle.mot_playout.specs.Attempts.{fault_of}
 
 -- a fact of the ending, by cases
 pub ending-cases : (P : Option Refusal → Type 0) (ended : Result Unit Refusal) → P (fault_of ended)

@@ -19,10 +19,10 @@ use Rattle.mot_objects.specs.declared.command.Command.{Command}
 use Rattle.mot_export.specs.Opening.{IsUnopened}
 use Rattle.mot_export.proofs.Laws.{all_hold}
 use Rattle.mot_repository.specs.Opening.{IsOpened}
-use Rattle.mot_server.specs.Lives.{HasDone}
-use Rattle.mot_server.specs.Server.{ServerView}
-use Rattle.mot_server.specs.Runs.{IsAfter, StandsAfterSome, accepted_commands, commands_in_flight}
-use Rattle.mot_server.proofs.Laws.{after_both, none_of}
+use Rattle.mot_playout.specs.Lives.{HasDone}
+use Rattle.mot_playout.specs.Server.{ServerView}
+use Rattle.mot_playout.specs.Runs.{IsAfter, StandsAfterSome, accepted_commands, commands_in_flight}
+use Rattle.mot_playout.proofs.Laws.{after_both, none_of}
 use Rattle.mot_update.proofs.Laws.{not_none}
 
 -- more that was done before

@@ -13,11 +13,11 @@ use Rattle.mot_numbers.specs.declared.refusal.Refusal.{Refusal}
 use Rattle.mot_objects.specs.declared.command.Command.{Command}
 use Rattle.mot_export.proofs.Laws.{AllAre}
 use Rattle.mot_repository.specs.Repository.{RepositoryView}
-use Rattle.mot_server.specs.RunEnds.{RunLeaves}
-use Rattle.mot_server.specs.Runs.{StandsAfterSome, accepted_commands, commands_in_flight}
-use Rattle.mot_server.specs.Attempts.{fault_of}
-use Rattle.mot_server.specs.Server.{ServerView}
-use Rattle.mot_server.proofs.Laws.{after_none, none_of, not_halted}
+use Rattle.mot_playout.specs.RunEnds.{RunLeaves}
+use Rattle.mot_playout.specs.Runs.{StandsAfterSome, accepted_commands, commands_in_flight}
+use Rattle.mot_playout.specs.Attempts.{fault_of}
+use Rattle.mot_playout.specs.Server.{ServerView}
+use Rattle.mot_playout.proofs.Laws.{after_none, none_of, not_halted}
 use Rattle.mot_update.specs.Faults as update
 use Rattle.mot_update.specs.Faults.{StaysCalm}
 

@@ -29,9 +29,9 @@ use Rattle.mot_export.specs.Opening.{IsOpenable, first_place}
 use Rattle.mot_repository.proofs.Laws.{standings-are_sound}
 use Rattle.mot_repository.specs.Opening.{IsOpened}
 use Rattle.mot_repository.specs.Repository.{Agrees, Holds}
-use Rattle.mot_server.proofs.Laws.{valid_is}
-use Rattle.mot_server.specs.Attempts.{fault_of}
-use Rattle.mot_server.specs.Server.{ServerView, place_in}
+use Rattle.mot_playout.proofs.Laws.{valid_is}
+use Rattle.mot_playout.specs.Attempts.{fault_of}
+use Rattle.mot_playout.specs.Server.{ServerView, place_in}
 use Rattle.mot_update.specs.Between.{Telling}
 use Rattle.mot_update.specs.Faults.{StaysCalm}
 use Rattle.mot_update.specs.declared.moment.Moment.{Moment}
@@ -107,7 +107,7 @@ module _ {D : Type 0} (state : D → State) (disk : D) (server new : ServerView 
         let was = keeps.was_honest honest in
         let holds = holds_opened s honest all in
         let made : Standing = fed.leaves.last in
-        let happened = subst (λ (p : Place). Happen s.geometry.objects s.geometry.segment_size
+        let happened = subst (λ (p : Place). Happen s.geometry.objects s.geometry.segment
         s.carousel (place_for how.directory p) events made.carousel (place_in new made))
         (at_start s holds.agrees) fed.happened in
         record {
@@ -125,9 +125,9 @@ module _ {D : Type 0} (state : D → State) (disk : D) (server new : ServerView 
               (sound disk (opens.keeps.was_honest was)) all
               (opens.still was) fed.leaves;
           are = are;
-          continuous = continuous s.geometry.objects s.geometry.segment_size s.carousel
+          continuous = continuous s.geometry.objects s.geometry.segment s.carousel
               made.carousel s.geometry.address (packet_room s.geometry)
-              (turn_of_carousel s.carousel s.geometry.segment_size)
+              (turn_of_carousel s.carousel s.geometry.segment)
               (place_for how.directory (first_place s)).follows events (place_in new made) packets
               (room s holds.agrees) happened are;
           turns_read = λ before during others all_of c then place after of came goes is_one
@@ -135,15 +135,15 @@ module _ {D : Type 0} (state : D → State) (disk : D) (server new : ServerView 
               let is_valid = sizes s holds.agrees in
               let limit = s.geometry.objects in
               let rules = rules_of_turn limit c during others is_one
-              (rules_behind limit s.geometry.segment_size s.carousel c
+              (rules_behind limit s.geometry.segment s.carousel c
               (place_for how.directory (first_place s)) place before (during ++ others)
               (subst (λ l. RulesAreKept limit s.carousel l) (sym all_of) fed.rules) came) in (
-                (λ begins. turns_read s.geometry.objects s.geometry.segment_size s.carousel c then
+                (λ begins. turns_read s.geometry.objects s.geometry.segment s.carousel c then
                     s.geometry.address (packet_room s.geometry)
                     (place_for how.directory (first_place s)).follows before during place after of
                     is_valid.1 (is_valid.4, is_valid.5) (room s holds.agrees)
                     (sound_carousel s honest all) came begins rules goes is_one are_of),
-                (λ ended. changed_read s.geometry.objects s.geometry.segment_size s.carousel c then
+                (λ ended. changed_read s.geometry.objects s.geometry.segment s.carousel c then
                     s.geometry.address (packet_room s.geometry)
                     (place_for how.directory (first_place s)).follows before during place after of
                     is_valid.1 (is_valid.4, is_valid.5) (room s holds.agrees)

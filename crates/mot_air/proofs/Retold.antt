@@ -1,20 +1,22 @@
 -- What an update tells of playing, told of what stands beside the disk.
-use Rattle.std.proofs.Common.{sym}
 use Rattle.std.proofs.Common.{◌≡◌, ◌∙◌, ℕ, Bool, false, List, [], Option, Some, None, ap, inl, inr}
-use Rattle.std.proofs.Common.{refl}
-use Rattle.std.proofs.Common.{subst}
+use Rattle.std.proofs.Common.{refl, subst, sym}
 use Rattle.disk_model.specs.Disk.{State}
 use Rattle.mot_air.specs.Playing.{HasAired, Manner, Plays, Tale, look_of_feed, tale_of}
 use Rattle.mot_air.specs.Inner.Fed.{IsEndOf, disk_of, ending_of}
 use Rattle.mot_air.specs.declared.playing.Fed.{Fed}
-use Rattle.mot_air.specs.Telling.{Sources, first_sources, tale_with, tells_lines, tells_looks}
-use Rattle.mot_feed_lines.specs.Answering.{TellsBetween, TellsInTurn, TellsOnTime}
+use Rattle.mot_air.specs.Telling.{Same, Sources, first_sources, no_looks, tale_told, tale_with}
+use Rattle.mot_air.specs.Telling.{tells_alone, tells_lines}
+use Rattle.mot_events.specs.Log.{Entry, HearsAll}
+use Rattle.mot_events.specs.declared.event.Event as event
+use Rattle.mot_events.proofs.Laws.{hears_as}
+use Rattle.mot_feed_lines.specs.Answering.{TellsBetween, TellsInTurn, TellsOnTime, TellsRead}
 use Rattle.mot_feed_lines.specs.Answering.{late_behind}
 use Rattle.mot_feed_lines.specs.Answering.TellsBetween.{other_alone, then_lines}
-use Rattle.mot_folder.specs.Looked.{LooksSoFar, TellsLooks, TellsWatch, Watch, so_far}
+use Rattle.mot_folder.specs.Looked.{LooksSoFar, TellsLooks, TellsWatch, Watch}
 use Rattle.mot_export.specs.declared.ended.Ended.{Ended}
 use Rattle.mot_outcome.specs.declared.used.Inputs.{Inputs}
-use Rattle.mot_server.specs.Attempts.{fault_of}
+use Rattle.mot_playout.specs.Attempts.{fault_of}
 use Rattle.mot_feed.specs.Feeding.{AreTold, Event, Stage}
 use Rattle.mot_feed.specs.Feeding.AreTold.{no_call, one_asked, one_call, one_played}
 use Rattle.mot_feed.specs.Feeding.Stage.{Ready}
@@ -22,7 +24,11 @@ use Rattle.mot_journal.specs.Image.{Standing}
 use Rattle.mot_numbers.specs.declared.refusal.Refusal.{Refusal}
 use Rattle.mot_objects.specs.Carousel.{Carousel}
 use Rattle.mot_objects.specs.declared.command.Command.{Command}
+use Rattle.mot_repository.specs.Repository.{RepositoryView}
+use Rattle.mot_session.specs.Life.{Told}
+use Rattle.mot_status.specs.Teller.{Hears, Misses, TellerView, TellsAfter, TellsBefore}
 use Rattle.mot_update.specs.Between.{Telling}
+use Rattle.mot_update.specs.Watching.{LooksKnown, TellsWatched}
 use Rattle.mot_update.specs.declared.moment.Moment.{Moment}
 
 -- what one update tells another does of what is seen of it, where something stays
@@ -110,7 +116,7 @@ module _ (tale other : Tale) (retells : Retells tale other) (how : Manner) where
     ];
   }
 
--- ---- looks and lines
+-- ---- looks and lines, and what is told of them
 
 -- what is told of looks of one watch
 watch_on : (w now next : Watch) (moment : Moment) (before after : LooksSoFar) (c : Carousel)
@@ -122,191 +128,247 @@ watch_on w now next moment before after c commands marks fault stays tells = (
   subst (λ (x : Watch). TellsLooks x moment before after c commands marks fault) stays tells.1,
 )
 
--- what stands between lines
-between_on : {other then_other : Telling} {P : Type 0} {left : ℕ} {hand then_hand : List ℕ}
-    {earlier later : List (List ℕ)} {c : Carousel}
-    → ((commands : List Command) (marks : List Bool) (fault : Option Refusal)
-    → other c commands marks fault → P × then_other c commands marks fault)
-    → (commands : List Command) (marks : List Bool) (fault : Option Refusal)
-    → TellsBetween left hand then_hand earlier later other c commands marks fault
-    → P × TellsBetween left hand then_hand earlier later then_other c commands marks fault
-between_on on commands marks fault (other_alone these so_marked broken undue same none tells) =
-    let one = on these so_marked broken tells in
-    (one.0, other_alone these so_marked broken undue same none one.1)
-between_on on commands marks fault
-    (then_lines these others so_marked rest broken due tells lines) =
-    let one = on these so_marked None tells in
-    (one.0, then_lines these others so_marked rest broken due one.1 lines)
+-- who tells is seen so
+module _ {W : Type 0} (view : W → TellerView) (same : Same) where
+  abbrev pub Begins : W → RepositoryView → Moment → W → Type 0
+  Begins old stands moment new = TellsBefore (view old) stands moment (view new)
 
--- calls that go on keep how many come between two that read
-on_time : {other then_other : Telling} {P : Type 0}
-    {between now then left then_left : ℕ} {hand then_hand : List ℕ} {earlier later : List (List ℕ)}
-    {c : Carousel} {commands : List Command} {marks : List Bool} {fault : Option Refusal}
-    → ((commands : List Command) (marks : List Bool) (fault : Option Refusal)
-    → other c commands marks fault → P × then_other c commands marks fault)
-    → now ≡ between
-    → TellsOnTime now then left then_left hand then_hand earlier later other c commands marks fault
-    → P × ((then ≡ between) × TellsInTurn between left then_left hand then_hand earlier later
-    then_other c commands marks fault)
-on_time {between = between} {left = left} {then_left = then_left} {commands = commands}
-    {marks = marks} {fault = fault} on stays tells =
-    let one = between_on on commands marks fault tells.1.1 in (
-      one.0,
-      (
-        tells.0 ∙ stays,
+  abbrev pub Ends : W → RepositoryView → LooksKnown → W → Type 0
+  Ends old stands known new = TellsAfter same (view old) stands known (view new)
+
+  abbrev pub HearsSo : W → List Entry → W → Type 0
+  HearsSo = HearsAll (λ (a : W) (e : event.Event) (b : W). Hears (view a) e (view b))
+      (λ (a b : W). Misses (view a) (view b))
+
+  -- what is told of an update that is watched
+  watched_on : {other then_other : Telling} {P : Type 0} {old new : W} {known : LooksKnown}
+      {moment : Moment} {c : Carousel}
+      → ((commands : List Command) (marks : List Bool) (fault : Option Refusal)
+      → other c commands marks fault → P × then_other c commands marks fault)
+      → (commands : List Command) (marks : List Bool) (fault : Option Refusal)
+      → TellsWatched Begins Ends old known new moment other c commands marks fault
+      → P × TellsWatched TellsBefore (TellsAfter same) (view old) known (view new) moment then_other
+      c commands marks fault
+  watched_on on commands marks fault is =
+      let one = on commands marks fault is.told in (
+        one.0,
+        record {
+          found = is.found;
+          found_is = is.found_is;
+          begun = view is.begun;
+          begins = is.begins;
+          told = one.1;
+          left = is.left;
+          limit = is.limit;
+          made = is.made;
+          leads = is.leads;
+          left_is = is.left_is;
+          ends = is.ends;
+        },
+      )
+
+  -- what is told of lines
+  read_on : (told : List Told) (before now : W) → TellsRead HearsSo told before now
+      → TellsRead (HearsAll Hears Misses) told (view before) (view now)
+  read_on told before now is = record {
+    notices = is.notices;
+    are_of_files = is.are_of_files;
+    middle = view is.middle;
+    noticed = hears_as view Hears Misses before is.middle is.notices is.noticed;
+    entries = is.entries;
+    logged = is.logged;
+    heard = hears_as view Hears Misses is.middle now is.entries is.heard;
+  }
+
+  -- what stands between lines
+  between_on : {other : W → Telling} {then_other : TellerView → Telling} {P : Type 0} {left : ℕ}
+      {hand then_hand : List ℕ} {earlier later : List (List ℕ)} {c : Carousel} {now : W}
+      → ((told : W) (commands : List Command) (marks : List Bool) (fault : Option Refusal)
+      → other told c commands marks fault → P × then_other (view told) c commands marks fault)
+      → (commands : List Command) (marks : List Bool) (fault : Option Refusal)
+      → TellsBetween HearsSo left hand then_hand earlier later other now c commands marks fault
+      → P × TellsBetween (HearsAll Hears Misses) left hand then_hand earlier later then_other
+      (view now) c commands marks fault
+  between_on {now = now} on commands marks fault
+      (other_alone these so_marked broken undue kept none tells) =
+      let one = on now these so_marked broken tells in
+      (one.0, other_alone these so_marked broken undue kept none one.1)
+  between_on {now = now} on commands marks fault
+      (then_lines middle these others so_marked rest broken due tells lines) =
+      let one = on middle these so_marked None tells in (
+        one.0,
+        then_lines (view middle) these others so_marked rest broken due one.1 (λ is.
+            let of = lines is in record {
+              more = of.more;
+              given = of.given;
+              told = of.told;
+              ended = of.ended;
+              are = of.are;
+              accepted = of.accepted;
+              in_hand = of.in_hand;
+              tells = read_on of.told middle now of.tells;
+            }),
+      )
+
+  -- calls that go on keep how many come between two that read
+  on_time : {other : W → Telling} {then_other : TellerView → Telling} {P : Type 0}
+      {between now then left then_left : ℕ} {hand then_hand : List ℕ}
+      {earlier later : List (List ℕ)} {c : Carousel} {commands : List Command}
+      {marks : List Bool} {fault : Option Refusal} {at : W}
+      → ((told : W) (commands : List Command) (marks : List Bool) (fault : Option Refusal)
+      → other told c commands marks fault → P × then_other (view told) c commands marks fault)
+      → now ≡ between
+      → TellsOnTime HearsSo now then left then_left hand then_hand earlier later other at c commands
+      marks fault
+      → P × ((then ≡ between) × TellsInTurn (HearsAll Hears Misses) between left then_left hand
+      then_hand earlier later then_other (view at) c commands marks fault)
+  on_time {between = between} {left = left} {then_left = then_left} {commands = commands}
+      {marks = marks} {fault = fault} on stays tells =
+      let one = between_on on commands marks fault tells.1.1 in (
+        one.0,
         (
-          subst (λ (n : ℕ). fault ≡ None → then_left ≡ late_behind n left) stays
-              tells.1.0,
-          one.1,
+          tells.0 ∙ stays,
+          (
+            subst (λ (n : ℕ). fault ≡ None → then_left ≡ late_behind n left) stays
+                tells.1.0,
+            one.1,
+          ),
         ),
-      ),
-    )
+      )
 
 begins : (looks : LooksSoFar) (late : ℕ) (lines : List (List ℕ)) (hand other : List ℕ)
-    → looks ≡ so_far 0 [] false → late ≡ 0 → lines ≡ [] → hand ≡ other
-    → record { looks = looks; late = late; lines = lines; hand = hand } ≡ first_sources other
-begins looks late lines hand other none due unread same =
-    ap (λ (l : LooksSoFar). record { looks = l; late = late; lines = lines; hand = hand }) none
-    ∙ ap (λ n. record { looks = so_far 0 [] false; late = n; lines = lines; hand = hand }) due
-    ∙ ap (λ l. record { looks = so_far 0 [] false; late = 0; lines = l; hand = hand }) unread
-    ∙ ap first_sources same
+    (t : TellerView) → looks ≡ no_looks → late ≡ 0 → lines ≡ [] → hand ≡ other
+    → record { looks = looks; late = late; lines = lines; hand = hand; teller = t }
+    ≡ first_sources other t
+begins looks late lines hand other t none due unread same =
+    ap (λ (l : LooksSoFar).
+    record { looks = l; late = late; lines = lines; hand = hand; teller = t }) none
+    ∙ ap (λ n. record { looks = no_looks; late = n; lines = lines; hand = hand; teller = t }) due
+    ∙ ap (λ l. record { looks = no_looks; late = 0; lines = l; hand = hand; teller = t }) unread
+    ∙ ap (λ h. first_sources h t) same
 
-module _ {U : Type 0} (at : U → Watch) (looks : U → LooksSoFar) (w : Watch) (how : Manner)
-    (first last : U) (given : Inputs) (refused : Bool) (begun : at first ≡ w)
-    (none : looks first ≡ so_far 0 [] false) (looked : (looks last).given ≡ given.looks.all)
-    (any : (looks last).refused ≡ refused) where
-  -- looks alone
-  pub looks_retold : given.lines.notes.all ≡ [] → Retells
-      (tale_of (λ u v moment. TellsWatch (at u) (at v) moment (looks u) (looks v)) how first last)
-      (tale_with (Some w) None how given refused)
-  looks_retold unread limit c stage events commands marks made told =
-      let view : U → Sources = λ u. record { looks = looks u; late = 0; lines = []; hand = [] } in
-      let is = told_as (tells_looks (Some w)) view (λ u. at u ≡ w)
-      (λ u v moment found commands marks fault stays tells.
-      watch_on w (at u) (at v) moment (looks u) (looks v) found commands marks
-      fault stays tells) begun stage events commands marks last made told in (
-        view last,
-        record { looks = looked; any = any },
-        unread,
-        subst (λ (b : Sources). AreTold (tells_looks (Some w)) (look_of_feed how) limit b c stage
-            events commands marks (view last) made)
-            (begins (looks first) 0 [] [] [] none refl refl refl) is.1,
-      )
+module _ {U W : Type 0} (view : W → TellerView) (same : Same) (watch : U → W) (how : Manner)
+    (first last : U) (given : Inputs) where
+  module _ (at : U → Watch) (looks : U → LooksSoFar) (w : Watch) (refused : Bool)
+      (begun : at first ≡ w) (none : looks first ≡ no_looks)
+      (looked : (looks last).given ≡ given.looks.all)
+      (any : (looks last).refused ≡ refused) where
+    -- looks alone
+    pub looks_retold : {t : TellerView} → view (watch first) ≡ t → given.lines.notes.all ≡ []
+        → Retells
+        (tale_of (λ u v moment. TellsWatched (Begins view same) (Ends view same) (watch u)
+        (looks v).known (watch v) moment (TellsWatch (at u) (at v) moment (looks u) (looks v))) how
+        first last)
+        (tale_told same (Some w) None how given refused t (view (watch last)))
+    looks_retold starts unread limit c stage events commands marks made told =
+        let see : U → Sources = λ u.
+        record { looks = looks u; late = 0; lines = []; hand = []; teller = view (watch u) } in
+        let is = told_as (tells_alone same (Some w)) see (λ u. at u ≡ w)
+        (λ u v moment found commands marks fault stays tells.
+        watched_on view same (λ these so_marked broken one.
+        watch_on w (at u) (at v) moment (looks u) (looks v) found these so_marked broken stays one)
+        commands marks fault tells) begun stage events commands marks last made told in (
+          see last,
+          record { looks = looked; any = any; teller = refl },
+          unread,
+          subst (λ (b : Sources). AreTold (tells_alone same (Some w)) (look_of_feed how) limit b c
+              stage events commands marks (see last) made)
+              (begins (looks first) 0 [] [] [] (view (watch first)) none refl refl refl
+              ∙ ap (first_sources []) starts) is.1,
+        )
 
-  -- looks and lines
-  pub lines_retold : (gap late : U → ℕ) (hand : U → List ℕ) (read : U → List (List ℕ))
-      (between : ℕ) (held : List ℕ) → gap first ≡ between → late first ≡ 0 → hand first ≡ held
-      → read first ≡ [] → read last ≡ given.lines.notes.all
-      → Retells
-      (tale_of (λ u v moment. TellsOnTime (gap u) (gap v) (late u) (late v) (hand u) (hand v)
-      (read u) (read v) (TellsWatch (at u) (at v) moment (looks u) (looks v))) how
-      first last)
-      (tale_with (Some w) (Some (held, between)) how given refused)
-  lines_retold gap late hand read between held apart soon same unread heard limit c stage events
-      commands marks made told =
-      let view : U → Sources = λ u.
-      record { looks = looks u; late = late u; lines = read u; hand = hand u } in
-      let is = told_as (tells_lines between (Some w)) view
-      (λ u. (at u ≡ w) × (gap u ≡ between))
-      (λ u v moment found commands marks fault stays tells.
-      let one = on_time (λ these so_marked broken one.
-      watch_on w (at u) (at v) moment (looks u) (looks v) found these so_marked
-      broken stays.0 one) stays.1 tells in
-      ((one.0, one.1.0), one.1.1)) (begun, apart) stage events commands marks last made told in (
-        view last,
-        record { looks = looked; any = any },
-        heard,
-        subst (λ (b : Sources). AreTold (tells_lines between (Some w)) (look_of_feed how) limit b c
-            stage events commands marks (view last) made)
-            (begins (looks first) (late first) (read first) (hand first) held none soon unread
-            same) is.1,
-      )
+    -- looks and lines
+    pub lines_retold : (gap late : U → ℕ) (hand : U → List ℕ) (read : U → List (List ℕ))
+        (between : ℕ) (held : List ℕ) {t : TellerView} → view (watch first) ≡ t
+        → gap first ≡ between → late first ≡ 0 → hand first ≡ held
+        → read first ≡ [] → read last ≡ given.lines.notes.all
+        → Retells
+        (tale_of (λ u v moment. TellsOnTime (HearsSo view same) (gap u) (gap v) (late u) (late v)
+        (hand u) (hand v) (read u) (read v) (λ told. TellsWatched (Begins view same)
+        (Ends view same) (watch u) (looks v).known told moment
+        (TellsWatch (at u) (at v) moment (looks u) (looks v))) (watch v)) how first last)
+        (tale_told same (Some w) (Some (held, between)) how given refused t (view (watch last)))
+    lines_retold gap late hand read between held starts apart soon kept unread heard limit c stage events
+        commands marks made told =
+        let see : U → Sources = λ u. record {
+          looks = looks u;
+          late = late u;
+          lines = read u;
+          hand = hand u;
+          teller = view (watch u);
+        } in
+        let is = told_as (tells_lines same between (Some w)) see
+        (λ u. (at u ≡ w) × (gap u ≡ between))
+        (λ u v moment found commands marks fault stays tells.
+        let one = on_time view same (λ told these so_marked broken one.
+        watched_on view same (λ them so_answered up one.
+        watch_on w (at u) (at v) moment (looks u) (looks v) found them so_answered up stays.0 one)
+        these so_marked broken one) stays.1 tells in
+        ((one.0, one.1.0), one.1.1)) (begun, apart) stage events commands marks last made told in (
+          see last,
+          record { looks = looked; any = any; teller = refl },
+          heard,
+          subst (λ (b : Sources). AreTold (tells_lines same between (Some w)) (look_of_feed how)
+              limit b c stage events commands marks (see last) made)
+              (begins (looks first) (late first) (read first) (hand first) held
+              (view (watch first)) none soon unread kept ∙ ap (first_sources held) starts) is.1,
+        )
 
-module _ {U : Type 0} (how : Manner) (first last : U) (given : Inputs)
-    (unlooked : given.looks.all ≡ []) where
-  -- no looks
-  pub none_retold : given.lines.notes.all ≡ [] → Retells
-      (tale_of (λ u v moment c commands marks fault. commands ≡ []) how first last)
-      (tale_with None None how given false)
-  none_retold unread limit c stage events commands marks made told =
-      let is = told_as (tells_looks None) (λ (u : U). first_sources []) (λ u. Unit {0})
-      (λ u v moment found commands marks fault stays tells. (tt, (refl, tells))) tt stage events
-      commands marks last made told in
-      (first_sources [], record { looks = sym unlooked; any = refl }, unread, is.1)
+  module _ (unlooked : given.looks.all ≡ []) where
+    -- no looks
+    pub none_retold : {t : TellerView} {refused : Bool} → view (watch first) ≡ t
+        → false ≡ refused → given.lines.notes.all ≡ [] → Retells
+        (tale_of (λ u v moment. TellsWatched (Begins view same) (Ends view same) (watch u)
+        no_looks.known (watch v) moment (λ c commands marks fault. commands ≡ [])) how first last)
+        (tale_told same None None how given refused t (view (watch last)))
+    none_retold starts fine unread limit c stage events commands marks made told =
+        let is = told_as (tells_alone same None)
+        (λ (u : U). first_sources [] (view (watch u))) (λ u. Unit {0})
+        (λ u v moment found commands marks fault stays tells.
+        watched_on view same {P = Unit {0}} (λ these so_marked broken one. (tt, (refl, one)))
+        commands marks fault tells) tt stage events commands marks last made told in (
+          first_sources [] (view (watch last)),
+          record { looks = sym unlooked; any = fine; teller = refl },
+          unread,
+          subst (λ (b : Sources). AreTold (tells_alone same None) (look_of_feed how) limit b c stage
+              events commands marks (first_sources [] (view (watch last))) made)
+              (ap (first_sources []) starts) is.1,
+        )
 
-  -- lines alone
-  pub lines_alone : (gap late : U → ℕ) (hand : U → List ℕ) (read : U → List (List ℕ))
-      (between : ℕ) (held : List ℕ) → gap first ≡ between → late first ≡ 0 → hand first ≡ held
-      → read first ≡ [] → read last ≡ given.lines.notes.all
-      → Retells
-      (tale_of (λ u v moment. TellsOnTime (gap u) (gap v) (late u) (late v) (hand u) (hand v)
-      (read u) (read v) (λ c commands marks fault. commands ≡ [])) how first last)
-      (tale_with None (Some (held, between)) how given false)
-  lines_alone gap late hand read between held apart soon same unread heard limit c stage events
-      commands marks made told =
-      let view : U → Sources = λ u.
-      record { looks = so_far 0 [] false; late = late u; lines = read u; hand = hand u } in
-      let is = told_as (tells_lines between None) view (λ u. gap u ≡ between)
-      (λ u v moment found commands marks fault stays tells.
-      let one = on_time {P = Unit {0}} (λ these so_marked broken one. (tt, (refl, one))) stays tells in
-      one.1) apart stage events commands marks last made told in (
-        view last,
-        record { looks = sym unlooked; any = refl },
-        heard,
-        subst (λ (b : Sources). AreTold (tells_lines between None) (look_of_feed how) limit b c stage
-            events commands marks (view last) made)
-            (begins (so_far 0 [] false) (late first) (read first) (hand first) held refl soon unread
-            same) is.1,
-      )
-
--- ---- playing that is told so
-
-module _ (U : Type 0) (at : U → Watch) (looks : U → LooksSoFar) (w : Watch)
-    (how : Manner) (ending : Option Refusal) (first last : U)
-    (before after : Option (List (List ℕ))) (start now : State) (given : Inputs) (refused : Bool)
-    (begun : at first ≡ w) (none : looks first ≡ so_far 0 [] false)
-    (looked : (looks last).given ≡ given.looks.all) (any : (looks last).refused ≡ refused) where
-  pub plays_looks : given.lines.notes.all ≡ [] → Plays
-      (tale_of (λ u v moment. TellsWatch (at u) (at v) moment (looks u) (looks v)) how first last)
-      how ending before after start now
-      → Plays (tale_with (Some w) None how given refused) how ending before after start now
-  plays_looks unread = plays_as _ _
-      (looks_retold at looks w how first last given refused begun none looked any unread) how ending
-      before after start now
-
-  pub plays_lines : (gap late : U → ℕ) (hand : U → List ℕ) (read : U → List (List ℕ))
-      (between : ℕ) (held : List ℕ) → gap first ≡ between → late first ≡ 0 → hand first ≡ held
-      → read first ≡ [] → read last ≡ given.lines.notes.all
-      → Plays (tale_of (λ u v moment. TellsOnTime (gap u) (gap v) (late u) (late v) (hand u) (hand v)
-      (read u) (read v) (TellsWatch (at u) (at v) moment (looks u) (looks v))) how
-      first last) how ending before after start now
-      → Plays (tale_with (Some w) (Some (held, between)) how given refused) how ending before after
-      start now
-  plays_lines gap late hand read between held apart soon same unread heard = plays_as _ _
-      (lines_retold at looks w how first last given refused begun none looked any gap late hand read
-      between held apart soon same unread heard) how ending before after start now
-
-module _ (U : Type 0) (how : Manner) (ending : Option Refusal) (first last : U)
-    (before after : Option (List (List ℕ))) (start now : State) (given : Inputs)
-    (unlooked : given.looks.all ≡ []) where
-  pub plays_alone : given.lines.notes.all ≡ []
-      → Plays (tale_of (λ u v moment c commands marks fault. commands ≡ []) how first last) how
-      ending before after start now
-      → Plays (tale_with None None how given false) how ending before after start now
-  plays_alone unread = plays_as _ _ (none_retold how first last given unlooked unread) how ending
-      before after start now
-
-  pub plays_lines_alone : (gap late : U → ℕ) (hand : U → List ℕ) (read : U → List (List ℕ))
-      (between : ℕ) (held : List ℕ) → gap first ≡ between → late first ≡ 0 → hand first ≡ held
-      → read first ≡ [] → read last ≡ given.lines.notes.all
-      → Plays (tale_of (λ u v moment. TellsOnTime (gap u) (gap v) (late u) (late v) (hand u) (hand v)
-      (read u) (read v) (λ c commands marks fault. commands ≡ [])) how first last) how ending before
-      after start now
-      → Plays (tale_with None (Some (held, between)) how given false) how ending before after start
-      now
-  plays_lines_alone gap late hand read between held apart soon same unread heard = plays_as _ _
-      (lines_alone how first last given unlooked gap late hand read between held apart soon same
-      unread heard) how ending before after start now
+    -- lines alone
+    pub lines_alone : (gap late : U → ℕ) (hand : U → List ℕ) (read : U → List (List ℕ))
+        (between : ℕ) (held : List ℕ) {t : TellerView} {refused : Bool} → view (watch first) ≡ t
+        → false ≡ refused → gap first ≡ between → late first ≡ 0 → hand first ≡ held
+        → read first ≡ [] → read last ≡ given.lines.notes.all
+        → Retells
+        (tale_of (λ u v moment. TellsOnTime (HearsSo view same) (gap u) (gap v) (late u) (late v)
+        (hand u) (hand v) (read u) (read v) (λ told. TellsWatched (Begins view same)
+        (Ends view same) (watch u) no_looks.known told moment
+        (λ c commands marks fault. commands ≡ [])) (watch v)) how first last)
+        (tale_told same None (Some (held, between)) how given refused t (view (watch last)))
+    lines_alone gap late hand read between held starts fine apart soon kept unread heard limit c stage events
+        commands marks made told =
+        let see : U → Sources = λ u. record {
+          looks = no_looks;
+          late = late u;
+          lines = read u;
+          hand = hand u;
+          teller = view (watch u);
+        } in
+        let is = told_as (tells_lines same between None) see (λ u. gap u ≡ between)
+        (λ u v moment found commands marks fault stays tells.
+        let one = on_time view same {P = Unit {0}} (λ told these so_marked broken one.
+        watched_on view same {P = Unit {0}} (λ them so_answered up one. (tt, (refl, one)))
+        these so_marked broken one) stays tells in
+        one.1) apart stage events commands marks last made told in (
+          see last,
+          record { looks = sym unlooked; any = fine; teller = refl },
+          heard,
+          subst (λ (b : Sources). AreTold (tells_lines same between None) (look_of_feed how) limit b
+              c stage events commands marks (see last) made)
+              (begins no_looks (late first) (read first) (hand first) held (view (watch first))
+              refl soon unread kept ∙ ap (first_sources held) starts) is.1,
+        )
 
 -- playing is told of the end that is handed out
 pub handed_out : {D : Type 0} (state : D → State) (tale : Tale) (how : Manner)
@@ -326,3 +388,22 @@ pub fed_out : {D : Type 0} (state : D → State) (tale : Tale) (how : Manner)
 fed_out state tale how before after start fed ended is plays =
     subst (λ d. Plays tale how (fault_of ended.result) before after start (state d)) (sym is.disk)
     (subst (λ f. Plays tale how f before after start (state (disk_of fed))) (sym is.ending) plays)
+
+-- the log that is handed out has what was told
+pub told_out : {D L : Type 0} (contents : L → Option (List ℕ)) (fed : Fed D)
+    (ended out : Ended D Unit) (log handed : L)
+    (Tells : Option Refusal → Option (List ℕ) → Type 0) → IsEndOf fed ended → out ≡ ended
+    → handed ≡ log → Tells (ending_of fed) (contents log)
+    → Tells (fault_of out.result) (contents handed)
+told_out contents fed ended out log handed Tells is same given told =
+    subst (λ (e : Ended _ Unit). Tells (fault_of e.result) (contents handed)) (sym same)
+    (subst (λ f. Tells f (contents handed)) (sym is.ending)
+    (subst (λ l. Tells (ending_of fed) (contents l)) (sym given) told))
+
+-- whoever tells, it is so
+pub whoever : (same : Same) (w : Option Watch) (reads : Option (List ℕ × ℕ)) (how : Manner)
+    (given : Inputs) (refused : Bool) (first last : TellerView)
+    → Retells (tale_told same w reads how given refused first last)
+    (tale_with w reads how given refused)
+whoever same w reads how given refused first last limit c stage events commands marks made told =
+    (same, first, last, told)

@@ -34,10 +34,10 @@ use Rattle.mot_export.specs.Opening.{IsOpenable}
 use Rattle.mot_repository.proofs.Laws.{standings-are_sound, stands_where}
 use Rattle.mot_repository.specs.Opening.{IsOpened}
 use Rattle.mot_repository.specs.Repository.{Agrees, Holds}
-use Rattle.mot_server.proofs.Laws.{valid_is}
-use Rattle.mot_server.specs.Attempts.{fault_of}
-use Rattle.mot_server.specs.Runs.{accepted_commands}
-use Rattle.mot_server.specs.Server.{ServerView}
+use Rattle.mot_playout.proofs.Laws.{valid_is}
+use Rattle.mot_playout.specs.Attempts.{fault_of}
+use Rattle.mot_playout.specs.Runs.{accepted_commands}
+use Rattle.mot_playout.specs.Server.{ServerView}
 use Rattle.mot_shelf.specs.Given.{Given}
 use Rattle.mot_suffixes.specs.Types.{SuffixType}
 use Rattle.mot_update.proofs.Laws.{made}

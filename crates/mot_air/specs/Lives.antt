@@ -10,7 +10,7 @@ use Rattle.mot_numbers.specs.declared.geometry.Geometry.{Geometry}
 use Rattle.mot_numbers.specs.declared.refusal.Refusal.{Refusal}
 use Rattle.mot_objects.specs.declared.command.Command.{Command}
 use Rattle.mot_repository.specs.Repository.{IsOf}
-use Rattle.mot_server.specs.Runs.{IsAfter, StandsAfterSome, commands_in_flight}
+use Rattle.mot_playout.specs.Runs.{IsAfter, StandsAfterSome, commands_in_flight}
 
 -- All of these commands are done since the formatting, and nothing else is: what they make of the
 -- new carousel, whose directory has this id, stands on each image that a crash now may leave.

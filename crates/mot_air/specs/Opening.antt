@@ -8,7 +8,7 @@ use Rattle.mot_numbers.specs.declared.refusal.Refusal.{Refusal}
 use Rattle.mot_numbers.specs.declared.refusal.Refusal.TheVariants.{DeviceFault, OutOfMemory}
 use Rattle.mot_numbers.specs.declared.refusal.Refusal.TheVariants.{WriteFault}
 use Rattle.mot_objects.specs.declared.command.Command.{Command}
-use Rattle.mot_server.specs.Runs.{StandsAfterSome, accepted_commands, commands_in_flight}
+use Rattle.mot_playout.specs.Runs.{StandsAfterSome, accepted_commands, commands_in_flight}
 
 -- In these the disk was in a state start and is in a state now; and this refusal ended what was
 -- done, or, with none, it came to its end.

@@ -19,7 +19,7 @@ use Rattle.mot_player.specs.Place.{Place}
 use Rattle.mot_player.specs.Repeats.{ReadAsTurn, ReadsOnceAs}
 use Rattle.mot_export.specs.Opening.{first_place}
 use Rattle.mot_repository.specs.Repository.{IsOf}
-use Rattle.mot_server.specs.Runs.{IsAfter, accepted_commands}
+use Rattle.mot_playout.specs.Runs.{IsAfter, accepted_commands}
 use Rattle.mot_update.specs.Between.{Telling}
 use Rattle.mot_update.specs.declared.moment.Moment.{Moment}
 
@@ -55,13 +55,13 @@ tale_of tells how first last limit c stage events commands marks made =
 abbrev pub TurnReads : Standing → Manner → (before during : List Event) → Type 0
 TurnReads s how before during =
     (c made : Carousel) (place new : Place) (packets : List (List ℕ))
-    → Happen s.geometry.objects s.geometry.segment_size s.carousel
+    → Happen s.geometry.objects s.geometry.segment s.carousel
     (place_for how.directory (first_place s)) before c place
-    → Happen s.geometry.objects s.geometry.segment_size c place during made new
+    → Happen s.geometry.objects s.geometry.segment c place during made new
     → is_turn during ≡ true → AreOf during packets
     → (begins_turn (place_for how.directory (first_place s)).follows true true before ≡ true
-    → ReadAsTurn (asks during) packets c s.geometry.segment_size)
-    × (is_between_turns true before ≡ true → ReadsOnceAs packets c s.geometry.segment_size)
+    → ReadAsTurn (asks during) packets c s.geometry.segment)
+    × (is_between_turns true before ≡ true → ReadsOnceAs packets c s.geometry.segment)
 
 -- These happened on a server that was opened of a disk that stood for s: the commands, of which
 -- this is told, left this of the disk, and the packets are these, with their continuity indexes.
@@ -69,7 +69,7 @@ pub record HasAired (s : Standing) (tale : Tale) (how : Manner) (stage : Stage)
     (events : List Event) (packets : List (List ℕ)) (start now : State) : Type 0 where
   pub last : Standing
   pub place : Place
-  pub happened : Happen s.geometry.objects s.geometry.segment_size s.carousel
+  pub happened : Happen s.geometry.objects s.geometry.segment s.carousel
       (place_for how.directory (first_place s)) events last.carousel place
   pub commands : List Command
   pub marks : List Bool

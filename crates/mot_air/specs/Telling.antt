@@ -1,13 +1,20 @@
--- What the commands come of that run while a disk is played: looks at a folder, and lines.
-use Rattle.std.specs.Prelude.{◌≡◌, ℕ, ◌&&◌, nat_lt, Bool, false, if◌then◌else◌, List, []}
+-- What the commands come of that run while a disk is played, looks at a folder and lines; and what is
+-- told of it.
+use Rattle.std.specs.Prelude.{◌≡◌, ◌≢◌, ℕ, ◌&&◌, nat_lt, Bool, false, if◌then◌else◌, List, []}
 use Rattle.std.specs.Prelude.{Option, Some, None}
 use Rattle.mot_air.specs.Playing.{Manner, Tale, look_of_feed}
+use Rattle.mot_events.specs.Log.{AreOfFiles, Entry, HearsAll}
+use Rattle.mot_events.specs.declared.event.LookEvent.{LookEvent}
 use Rattle.mot_feed_lines.specs.Answering.{TellsInTurn}
 use Rattle.mot_feed.specs.Feeding.{AreTold}
 use Rattle.mot_folder.specs.Looked.{LooksSoFar, TellsLooks, Watch, so_far, watch}
+use Rattle.mot_numbers.specs.declared.refusal.Refusal.{Refusal}
 use Rattle.mot_outcome.specs.declared.used.Inputs.{Inputs}
+use Rattle.mot_repository.specs.Repository.{RepositoryView}
+use Rattle.mot_status.specs.Teller.{Hears, Misses, TellerView, TellsAfter, TellsBefore, TellsEnd}
 use Rattle.mot_suffixes.specs.Types.{SuffixType}
 use Rattle.mot_update.specs.Between.{Telling}
+use Rattle.mot_update.specs.Watching.{TellsWatched, looks_known}
 use Rattle.mot_update.specs.declared.moment.Moment.{Moment}
 
 abbrev pub looks_within : Manner → Bool
@@ -25,16 +32,21 @@ watched None of = None
 watched (Some folder) of = Some (of folder)
 
 -- beside the disk: the looks so far, how many packets are to come before the next read of lines,
--- what each of these gave so far, and what has come of the next line
+-- what each of these gave so far, what has come of the next line, and what was told
 pub record Sources : Type 0 where
   pub looks : LooksSoFar
   pub late : ℕ
   pub lines : List (List ℕ)
   pub hand : List ℕ
+  pub teller : TellerView
 
 -- no look has come, and nothing was read
-abbrev pub first_sources : List ℕ → Sources
-first_sources hand = record { looks = so_far 0 [] false; late = 0; lines = []; hand = hand }
+abbrev pub no_looks : LooksSoFar
+no_looks = so_far 0 [] false (looks_known 0 [] [])
+
+abbrev pub first_sources : List ℕ → TellerView → Sources
+first_sources hand teller =
+    record { looks = no_looks; late = 0; lines = []; hand = hand; teller = teller }
 
 -- commands come of looks alone; without a folder there are none
 abbrev pub tells_looks : Option Watch → (old new : Sources) → Moment → Telling
@@ -43,28 +55,78 @@ tells_looks None old new moment c commands marks fault =
 tells_looks (Some w) old new moment c commands marks fault =
     TellsLooks w moment old.looks new.looks c commands marks fault
 
--- or of looks, and of the lines that end in what was read, where so many packets come between two
--- reads
-abbrev pub tells_lines : (between : ℕ) → Option Watch → (old new : Sources) → Moment → Telling
-tells_lines between w old new moment =
-    TellsInTurn between old.late new.late old.hand new.hand old.lines new.lines
+-- whether two events are the same
+abbrev pub Same : Type 0
+Same = LookEvent → LookEvent → Bool
+
+-- before it and after it that is told, up to here
+abbrev pub tells_told : Same → Option Watch → (old new : Sources) → (told : TellerView) → Moment
+    → Telling
+tells_told same w old new told moment =
+    TellsWatched TellsBefore (TellsAfter same) old.teller new.looks.known told moment
     (tells_looks w old new moment)
 
--- of these sources the looks gave that, and something was refused in them, or not
-pub record HasSeen (end : Sources) (given : Inputs) (refused : Bool) : Type 0 where
+-- nothing else is told
+abbrev pub tells_alone : Same → Option Watch → (old new : Sources) → Moment → Telling
+tells_alone same w old new moment = tells_told same w old new new.teller moment
+
+-- or commands come of looks, and of the lines that end in what was read, where so many packets come
+-- between two reads; and that is told
+abbrev pub tells_lines : Same → (between : ℕ) → Option Watch → (old new : Sources) → Moment
+    → Telling
+tells_lines same between w old new moment =
+    TellsInTurn (HearsAll Hears Misses) between old.late new.late old.hand new.hand old.lines
+    new.lines (λ (told : TellerView). tells_told same w old new told moment) new.teller
+
+-- of these sources the looks gave that, and something was refused in them, or not; and so much was
+-- told
+pub record HasSeen (end : Sources) (given : Inputs) (refused : Bool) (last : TellerView) : Type 0 where
   pub looks : end.looks.given ≡ given.looks.all
   pub any : end.looks.refused ≡ refused
+  pub teller : end.teller ≡ last
 
 -- The commands are those of looks, in order, this is what the folder gave in each of them, and
 -- something was refused in them, or not; or, with this in hand and so many packets between two
--- reads, those of looks and of lines, and this is what each read of lines gave.
+-- reads, those of looks and of lines, and this is what each read of lines gave. All that is told, in
+-- order: before each packet and after it, and each line with its reply. So who tells became of the
+-- first the last.
+abbrev pub tale_told : Same → Option Watch → (reads : Option (List ℕ × ℕ)) → Manner → Inputs
+    → (refused : Bool) → (first last : TellerView) → Tale
+tale_told same w None how given refused first last limit c stage events commands marks made =
+    (end : Sources) × HasSeen end given refused last × (given.lines.notes.all ≡ [])
+    × AreTold (tells_alone same w) (look_of_feed how) limit (first_sources [] first) c stage events
+    commands marks end made
+tale_told same w (Some (hand, between)) how given refused first last limit c stage events commands
+    marks made =
+    (end : Sources) × HasSeen end given refused last × (end.lines ≡ given.lines.notes.all)
+    × AreTold (tells_lines same between w) (look_of_feed how) limit (first_sources hand first) c
+    stage events commands marks end made
+
+-- the same, whoever tells
 abbrev pub tale_with : Option Watch → (reads : Option (List ℕ × ℕ)) → Manner → Inputs
     → (refused : Bool) → Tale
-tale_with w None how given refused limit c stage events commands marks made =
-    (end : Sources) × HasSeen end given refused × (given.lines.notes.all ≡ [])
-    × AreTold (tells_looks w) (look_of_feed how) limit (first_sources []) c stage events commands
-    marks end made
-tale_with w (Some (hand, between)) how given refused limit c stage events commands marks made =
-    (end : Sources) × HasSeen end given refused × (end.lines ≡ given.lines.notes.all)
-    × AreTold (tells_lines between w) (look_of_feed how) limit (first_sources hand) c stage events
-    commands marks end made
+tale_with w reads how given refused limit c stage events commands marks made =
+    (same : Same) × (first last : TellerView)
+    × tale_told same w reads how given refused first last limit c stage events commands marks made
+
+-- Where playing came to its end, that is told, and then the log has these bytes; else nothing more is
+-- told.
+pub data EndsTelling (ending : Option Refusal) (turns : ℕ) (last : TellerView)
+    (bytes : Option (List ℕ)) : Type 0 where
+  ended : ending ≡ None → (view : RepositoryView) (met : List LookEvent) (end : TellerView)
+      → TellsEnd last view turns met end → bytes ≡ end.log.bytes
+      → EndsTelling ending turns last bytes
+  broken : ending ≢ None → bytes ≡ last.log.bytes → EndsTelling ending turns last bytes
+
+-- The same where files of lines were read: before it what is wrong with them is told.
+abbrev pub EndsLines : (ending : Option Refusal) → (turns : ℕ) → (last : TellerView)
+    → (bytes : Option (List ℕ)) → Type 0
+EndsLines ending turns last bytes =
+    (middle : TellerView) × (entries : List Entry) × AreOfFiles entries
+    × HearsAll Hears Misses last entries middle × EndsTelling ending turns middle bytes
+
+-- with reads of lines, or without
+abbrev pub EndsAs : (reads : Option (List ℕ × ℕ)) → (ending : Option Refusal) → (turns : ℕ)
+    → (last : TellerView) → (bytes : Option (List ℕ)) → Type 0
+EndsAs None ending turns last bytes = EndsTelling ending turns last bytes
+EndsAs (Some reads) ending turns last bytes = EndsLines ending turns last bytes

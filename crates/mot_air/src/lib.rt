@@ -16,4 +16,4 @@ pub use mot_export::Ended;
 pub use mot_outcome::{Exit, UsedDisk};
 pub use mot_status::Telling;
 pub use playing::{Aired, Followed, play_and_answer, play_disk, play_with, sync_disk};
-pub use program::{is_air, run_air_on};
+pub use program::{is_air, run_command};

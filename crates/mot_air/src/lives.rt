@@ -4,10 +4,10 @@ ghost use Rattle.mot_air.specs.Lives.{KeepsDone};
 ghost use Rattle.mot_numbers.specs.declared.geometry.Geometry.{Geometry};
 ghost use Rattle.mot_objects.specs.declared.command.Command.{Command};
 ghost use Rattle.mot_repository.specs.Opening.{IsPassing};
-ghost use Rattle.mot_server.specs.Lives.{HasDone};
+ghost use Rattle.mot_playout.specs.Lives.{HasDone};
 
 use disk_model::Disk;
-use mot_server::{Refused, Server};
+use mot_playout::{Refused, Server};
 use std::alloc::Global;
 
 /// A server's disk keeps what the server has done, if no disk fault has halted it.

@@ -6,10 +6,11 @@ ghost use Rattle.mot_air.specs.Directory.{directory_of, look_of};
 ghost use Rattle.mot_air.specs.Inner.Concluded.{Concludes};
 ghost use Rattle.mot_air.specs.Playing.{Plays};
 ghost use Rattle.mot_air.specs.Program.{Opens, PlaysInto, PlaysTo, is_all_done, played_as};
-ghost use Rattle.mot_air.specs.Telling.{tale_with, watch_in, watched};
+ghost use Rattle.mot_air.specs.Telling.{EndsAs, tale_told, tale_with, watch_in, watched};
 ghost use Rattle.mot_endpoints.specs.Packets.{begun_of, target_of};
 ghost use Rattle.mot_numbers.specs.declared.refusal.Refusal.TheVariants.{DeviceFault, WriteFault};
-ghost use Rattle.mot_server.specs.Attempts.{fault_of};
+ghost use Rattle.mot_playout.specs.Attempts.{fault_of};
+ghost use Rattle.mot_status.specs.Teller.{TellerView, starts};
 
 use crate::Ended;
 use crate::answered::answered;
@@ -19,6 +20,7 @@ use disk_model::Disk;
 use disk_store::Start;
 use mot_cli::PlayTask;
 use mot_endpoints::{Cause, LineFolder, OpenPackets, Station, StatusFile, Taken, Target};
+use mot_events::LookEvent;
 use mot_files::System;
 use mot_numbers::Refusal;
 use mot_outcome::{Beside, Finished, Inputs};
@@ -145,21 +147,29 @@ fn play_into<D: Disk, P: System + Drop, F: Shelf + Drop, Y: System + Drop, W: Wr
 }
 
 /// Plays the disk into the outlet, with looks at the folder and answers to lines, if these are
-/// given.
-fn air<D: Disk, F: Shelf + Drop, Y: System + Drop, O: Outlet, L: Write>(
+/// given. What took the log is handed out: of a borrowed one no clause could say what it has behind
+/// the call.
+fn air<D: Disk, F: Shelf + Drop, Y: System + Drop, O: Outlet, L: Write + Drop>(
     alloc: Global,
     disk: D,
     outlet: &mut O,
     airing: Airing<'_, '_, F, Y>,
-    log: &mut L,
-) -> Aired<D>
-    ensures { let how = played_as airing.entry.task in Plays
-        (tale_with (watched airing.entry.folder (λ followed. watch_in how (F.path followed.shelf)
-        followed.types.now followed.allows_empty followed.every))
-        (option_map (λ lines. (lines.hand, lines.every - 1)) airing.entry.lines) how
-        result.inputs result.any_refused) how (fault_of result.ended.result)
+    log: L,
+) -> Aired<D, L>
+    ensures { let how = played_as airing.entry.task in
+        let same = ⟦<LookEvent as PartialEq>⟧.eq in
+        let reads = option_map (λ lines. (lines.hand, lines.every - 1)) airing.entry.lines in
+        (last : TellerView) × Plays (tale_told same
+        (watched airing.entry.folder (λ followed. watch_in how (F.path followed.shelf)
+        followed.types.now followed.allows_empty followed.every)) reads how result.inputs
+        result.any_refused (starts Y.calls (L.contents log) (record {
+          disk = airing.entry.task.disk;
+          status = airing.entry.status;
+          levels = airing.entry.task.levels;
+        })) last) how (fault_of result.ended.result)
         (O.writes outlet.old) (O.writes outlet.new)
-        (D.state disk) (D.state result.ended.disk) }
+        (D.state disk) (D.state result.ended.disk)
+        × EndsAs reads (fault_of result.ended.result) how.turns last (L.contents result.log) }
 {
     let Airing {
         task,
@@ -210,6 +220,7 @@ fn play_opened<D: Disk, P: System + Drop, F: Shelf + Drop, Y: System + Drop, L: 
         any_refused,
         fault,
         inputs,
+        ..
     } = air(alloc, disk, &mut opened.writer, airing, log);
     let Ended {
         disk,

@@ -1,26 +1,31 @@
 //! Playing a disk, and making its carousel equal to a folder.
-ghost use Rattle.std.specs.Prelude.{◌≡◌, ◌⊎◌, ◌-◌, ℕ, [], IfErr, IsSomeAnd, List, MatchResult};
-ghost use Rattle.std.specs.Prelude.{None, OnOk, Some, false, flat_map};
+ghost use Rattle.std.specs.Prelude.{◌≡◌, ◌≢◌, ◌↔◌, ◌⊎◌, ◌-◌, ℕ, [], IfErr, IsSomeAnd, IsTrue, List};
+ghost use Rattle.std.specs.Prelude.{MatchResult, None, OnOk, Some, false, flat_map, true};
 ghost use Rattle.std.specs.Result.{result_unwrap_or};
 ghost use Rattle.std.specs.Io.KnownBytes.{Appends};
 ghost use Rattle.disk_model.specs.Disk.{KeepsLength};
 ghost use Rattle.mot_air.specs.Lives.{AirsOn, KeepsDone};
 ghost use Rattle.mot_air.specs.Playing.{Plays, manner, tale_of};
 ghost use Rattle.mot_air.specs.Syncing.{Syncs};
-ghost use Rattle.mot_air.specs.Telling.{tale_with, watch_in, watched};
+ghost use Rattle.mot_air.specs.Telling.{EndsLines, EndsTelling, no_looks, tale_told, watch_in, watched};
 ghost use Rattle.mot_air.specs.Inner.Fed.{IsEndOf, disk_of, ending_of};
 ghost use Rattle.mot_air.specs.Inner.Looked.{LooksAndTells};
+ghost use Rattle.mot_endpoints.specs.Spooling.{Finishes};
+ghost use Rattle.mot_events.specs.Log.{AreOfFiles, Entry, HearsAll};
 ghost use Rattle.mot_events.specs.Text.{met_line};
 ghost use Rattle.mot_feed.specs.Feeding.{IsFeedFault};
 ghost use Rattle.mot_folder.specs.Looked.{so_far, watch};
 ghost use Rattle.mot_journal.specs.Image.{Standing};
+ghost use Rattle.mot_lines.specs.Hand.{bytes_in_hand};
 ghost use Rattle.mot_numbers.specs.declared.geometry.Geometry.{Geometry};
 ghost use Rattle.mot_numbers.specs.declared.refusal.Refusal.TheVariants.{WriteFault};
 ghost use Rattle.mot_objects.specs.declared.command.Command.{Command};
 ghost use Rattle.mot_export.specs.Opening.{IsUnopened};
 ghost use Rattle.mot_repository.specs.Repository.{Holds};
-ghost use Rattle.mot_server.specs.Attempts.{fault_of};
+ghost use Rattle.mot_playout.specs.Attempts.{fault_of};
+ghost use Rattle.mot_status.specs.Teller.{TellerView, TellsEnd, starts, teller};
 ghost use Rattle.mot_update.specs.Faults.{StaysCalm};
+ghost use Rattle.mot_update.specs.Watching.{looks_known};
 
 use crate::Ended;
 use disk_model::Disk;
@@ -33,8 +38,8 @@ use mot_folder::{FileTypes, Folder, Looks, look_at_folder};
 use mot_numbers::Refusal;
 use mot_outcome::Inputs;
 use mot_packets::Outlet;
-use mot_reason::open_server;
-use mot_server::Server;
+use mot_playout::Server;
+use mot_reason::{Explained, open_server};
 use mot_shelf::{LookNotes, Shelf};
 use mot_status::{Reporter, Telling};
 use mot_update::{Facts, NoUpdate, Update, Watch};
@@ -56,9 +61,11 @@ pub struct Followed<'a, S: Shelf + Drop> {
 
 /// What playing came to.
 #[derive(Drop)]
-pub struct Aired<D: Disk> {
+pub struct Aired<D: Disk, L: Write + Drop> {
     /// The disk, and how playing ended.
     pub ended: Ended<D, ()>,
+    /// What took the log.
+    pub log: L,
     /// Whether a look at the folder refused a file, or did not list it.
     pub any_refused: bool,
     /// Why the folder was not opened at the last look, if it was not.
@@ -67,16 +74,23 @@ pub struct Aired<D: Disk> {
     pub inputs: Inputs,
 }
 
-impl<D: Disk> Aired<D> {
+impl<D: Disk, L: Write + Drop> Aired<D, L> {
     /// Playing ended so, after these looks and with what these reads of lines gave.
-    fn looking<S: Shelf + Drop>(ended: Ended<D, ()>, looks: Looks<'_, S>, lines: LineNotes) -> Self
+    fn looking<S: Shelf + Drop>(
+        ended: Ended<D, ()>,
+        log: L,
+        looks: Looks<'_, S>,
+        lines: LineNotes,
+    ) -> Self
         ensures ended { result.ended ≡ ended }
+        ensures log { result.log ≡ log }
         ensures looks { result.inputs.looks ≡ looks.entry.looks }
         ensures lines { result.inputs.lines ≡ lines }
         ensures refused { result.any_refused ≡ looks.entry.any_refused }
     {
         Aired {
             ended,
+            log,
             any_refused: looks.any_refused,
             fault: looks.folder.shelf.fault(),
             inputs: Inputs {
@@ -87,14 +101,16 @@ impl<D: Disk> Aired<D> {
     }
 
     /// Playing ended so, without a folder, with what these reads of lines gave.
-    fn unwatched(ended: Ended<D, ()>, lines: LineNotes) -> Self
+    fn unwatched(ended: Ended<D, ()>, log: L, lines: LineNotes) -> Self
         ensures ended { result.ended ≡ ended }
+        ensures log { result.log ≡ log }
         ensures looks { result.inputs.looks.all ≡ [] }
         ensures lines { result.inputs.lines ≡ lines }
         ensures refused { result.any_refused ≡ false }
     {
         Aired {
             ended,
+            log,
             any_refused: false,
             fault: None,
             inputs: Inputs {
@@ -119,12 +135,16 @@ pub fn play_disk<S: Shelf + Drop, F: System + Drop, D: Disk, O: Outlet, L: Write
     turns: u64,
     directory: u32,
     look: u32,
-) -> Aired<D>
-    ensures { let how = manner directory look turns in Plays (tale_with
+) -> Aired<D, L>
+    ensures { let how = manner directory look turns in
+        let same = ⟦<LookEvent as PartialEq>⟧.eq in
+        (last : TellerView) × Plays (tale_told same
         (watched folder.entry (λ followed. watch_in how (S.path followed.shelf)
         followed.types.now followed.allows_empty followed.every)) None how result.inputs
-        result.any_refused) how (fault_of result.ended.result) (O.writes outlet.old) (O.writes outlet.new)
-        (D.state disk) (D.state result.ended.disk) }
+        result.any_refused (starts F.calls (L.contents log) telling.entry) last)
+        how (fault_of result.ended.result) (O.writes outlet.old) (O.writes outlet.new)
+        (D.state disk) (D.state result.ended.disk)
+        × EndsTelling (fault_of result.ended.result) turns last (L.contents result.log) }
 {
     let watch = Reporter::new(alloc, log, telling);
     match folder {
@@ -133,14 +153,16 @@ pub fn play_disk<S: Shelf + Drop, F: System + Drop, D: Disk, O: Outlet, L: Write
             let mut looks = Reported { update, watch };
             let fed = feed_disk(alloc, disk, &mut looks, outlet, turns, directory, look);
             let ended = end_telling(alloc, fed, turns, &mut looks);
-            Aired::looking(ended, looks.into_update(), LineNotes::new())
+            let (looks, watch) = looks.into_parts();
+            Aired::looking(ended, watch.into_log(), looks, LineNotes::new())
         }
         None => {
             let update = NoUpdate;
             let mut none = Reported { update, watch };
             let fed = feed_disk(alloc, disk, &mut none, outlet, turns, directory, look);
             let ended = end_telling(alloc, fed, turns, &mut none);
-            Aired::unwatched(ended, LineNotes::new())
+            let (_, watch) = none.into_parts();
+            Aired::unwatched(ended, watch.into_log(), LineNotes::new())
         }
     }
 }
@@ -160,13 +182,17 @@ pub fn play_and_answer<S: Shelf + Drop, F: System + Drop, D: Disk, O: Outlet, L:
     turns: u64,
     directory: u32,
     look: u32,
-) -> Aired<D>
-    ensures { let how = manner directory look turns in Plays (tale_with
+) -> Aired<D, L>
+    ensures { let how = manner directory look turns in
+        let same = ⟦<LookEvent as PartialEq>⟧.eq in
+        (last : TellerView) × Plays (tale_told same
         (watched folder.entry (λ followed. watch_in how (S.path followed.shelf)
         followed.types.now followed.allows_empty followed.every))
-        (Some (lines.entry.hand, lines.entry.every - 1)) how result.inputs result.any_refused)
+        (Some (lines.entry.hand, lines.entry.every - 1)) how result.inputs result.any_refused
+        (starts F.calls (L.contents log) telling.entry) last)
         how (fault_of result.ended.result) (O.writes outlet.old) (O.writes outlet.new)
-        (D.state disk) (D.state result.ended.disk) }
+        (D.state disk) (D.state result.ended.disk)
+        × EndsLines (fault_of result.ended.result) turns last (L.contents result.log) }
 {
     let watch = Reporter::new(alloc, log, telling);
     match folder {
@@ -175,16 +201,16 @@ pub fn play_and_answer<S: Shelf + Drop, F: System + Drop, D: Disk, O: Outlet, L:
             let mut lines = lines_between(alloc, lines, Reported { update, watch });
             let fed = feed_disk(alloc, disk, &mut lines, outlet, turns, directory, look);
             let ended = end_lines(alloc, fed, turns, &mut lines);
-            let (spool, looks) = lines.into_parts();
-            Aired::looking(ended, looks, spool.into_lines())
+            let (spool, looks, watch) = lines.into_parts();
+            Aired::looking(ended, watch.into_log(), looks, spool.into_lines())
         }
         None => {
             let update = NoUpdate;
             let mut lines = lines_between(alloc, lines, Reported { update, watch });
             let fed = feed_disk(alloc, disk, &mut lines, outlet, turns, directory, look);
             let ended = end_lines(alloc, fed, turns, &mut lines);
-            let (spool, _) = lines.into_parts();
-            Aired::unwatched(ended, spool.into_lines())
+            let (spool, _, watch) = lines.into_parts();
+            Aired::unwatched(ended, watch.into_log(), spool.into_lines())
         }
     }
 }
@@ -201,7 +227,9 @@ fn looks_at<'a, S: Shelf + Drop>(
         result.folder.allows_empty result.every result.within
         ≡ watch_in (manner directory look turns) (S.path followed.entry.shelf)
         followed.entry.types.now followed.entry.allows_empty followed.entry.every }
-    ensures none { so_far result.left result.looks.all result.any_refused ≡ so_far 0 [] false }
+    ensures none { so_far result.left result.looks.all result.any_refused
+        (looks_known result.count result.folder.report.events.items result.before.items)
+        ≡ no_looks }
 {
     let Followed {
         shelf,
@@ -238,7 +266,7 @@ fn lines_between<'a, F: System + Drop, U: Update + Facts + Drop, T: Watch + Drop
 #[derive(Drop)]
 pub(crate) enum Fed<D: Disk> {
     /// It was not opened.
-    Unopened(Ended<D, ()>),
+    Unopened(Explained<D>),
     /// It is open, and feeding came to this.
     Open(Server<D>, Result<(), Refusal>),
 }
@@ -252,9 +280,11 @@ fn end_telling<D: Disk, U: Update + Facts + Drop, F: System + Drop, L: Write + D
 ) -> Ended<D, ()>
     ensures update { reported.new.update ≡ reported.old.update }
     ensures ended { IsEndOf fed result }
+    ensures told { EndsTelling (ending_of fed) turns (teller F.calls L.contents reported.old.watch)
+        (teller F.calls L.contents reported.new.watch).log.bytes }
 {
     match fed {
-        Fed::Unopened(ended) => ended,
+        Fed::Unopened(refused) => Ended::unopened(refused),
         Fed::Open(server, result) => {
             tell_end(alloc, &server, result, turns, reported);
             Ended {
@@ -274,7 +304,11 @@ fn tell_end<D: Disk, U: Update + Facts + Drop, F: System + Drop, L: Write + Drop
     turns: u64,
     reported: &mut Reported<U, Reporter<'_, F, L>>,
 )
-    ensures { reported.new.update ≡ reported.old.update }
+    ensures update { reported.new.update ≡ reported.old.update }
+    ensures quiet { fault_of ended ≢ None → reported.new ≡ reported.old }
+    ensures told { fault_of ended ≡ None → TellsEnd (teller F.calls L.contents reported.old.watch)
+        server.now.view turns (U.known reported.old.update).events
+        (teller F.calls L.contents reported.new.watch) }
 {
     if ended.is_ok() {
         let events = reported.update.events();
@@ -293,16 +327,21 @@ fn end_lines<'a, D: Disk, U: Update + Facts + Drop, F: System + Drop, L: Write +
     ensures lines { lines.new.reader.lines ≡ lines.old.reader.lines }
     ensures update { lines.new.reported.update ≡ lines.old.reported.update }
     ensures ended { IsEndOf fed result }
+    ensures told { EndsLines (ending_of fed) turns
+        (teller F.calls L.contents lines.old.reported.watch)
+        (teller F.calls L.contents lines.new.reported.watch).log.bytes }
 {
     finish(lines, has_ended(&fed));
     end_telling(alloc, fed, turns, &mut lines.reported)
 }
 
 /// Whether feeding has come to its end.
-fn has_ended<D: Disk>(fed: &Fed<D>) -> bool {
+fn has_ended<D: Disk>(fed: &Fed<D>) -> bool
+    ensures { IsTrue result ↔ (ending_of fed.now ≡ None) }
+{
     match fed {
-        Fed::Open(_, Ok(())) => true,
-        _ => false,
+        Fed::Open(_, result) => result.is_ok(),
+        Fed::Unopened(_) => false,
     }
 }
 
@@ -313,8 +352,17 @@ fn finish<'a, F: System + Drop, U: Update + Facts + Drop, T: Watch + Drop>(
 )
     ensures lines { lines.new.reader.lines ≡ lines.old.reader.lines }
     ensures update { lines.new.reported.update ≡ lines.old.reported.update }
+    ensures stays { is_ended ≡ false → lines.new ≡ lines.old }
+    ensures finishes { is_ended ≡ true → lines.old.intake.hand ≡ bytes_in_hand []
+        → Finishes lines.old.reader.«open» (F.calls lines.old.reader.finder.system)
+        (F.calls lines.new.reader.finder.system) }
+    ensures told { (entries : List Entry) × AreOfFiles entries
+        × HearsAll T.hears T.misses lines.old.reported.watch entries lines.new.reported.watch }
 {
-    if is_ended && lines.is_answered() {
+    if !is_ended {
+        return;
+    }
+    if lines.is_answered() {
         lines.reader.finish(&mut lines.reported.watch);
     }
 }
@@ -345,7 +393,7 @@ pub fn play_with<D: Disk, U: Update, O: Outlet>(
         (O.writes outlet.old) (O.writes outlet.new) (D.state disk) (D.state result.disk)) }
 {
     match feed_disk(alloc, disk, update, outlet, turns, directory, look) {
-        Fed::Unopened(ended) => ended,
+        Fed::Unopened(refused) => Ended::unopened(refused),
         Fed::Open(server, result) => Ended {
             disk: server.into_disk(),
             result,
@@ -377,7 +425,7 @@ fn feed_disk<D: Disk, U: Update, O: Outlet>(
 {
     let mut server = match open_server(alloc, disk) {
         Ok(server) => server,
-        Err(refused) => return Fed::Unopened(Ended::unopened(refused)),
+        Err(refused) => return Fed::Unopened(refused),
     };
     // Its sizes are in their ranges: each packet has room. (The line is there for the proof.)
     let _ = server.geometry();

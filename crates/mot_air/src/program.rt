@@ -1,10 +1,10 @@
 //! The commands on air, over any streams and files.
-ghost use Rattle.std.specs.Prelude.{◌≡◌, ◌⊎◌, ◌↔◌, ◌++◌, ◌∷◌, [], map, option_map, unwrap_or};
+ghost use Rattle.std.specs.Prelude.{◌≡◌, ◌⊎◌, ◌↔◌, ◌++◌, ◌∷◌, [], option_map, unwrap_or};
 ghost use Rattle.std.specs.Prelude.{◌≢◌, IsTrue, List, None, Some, codes, false, true};
 ghost use Rattle.clap.specs.Words.{Text, found_of, rows_of, subcommand_of};
 ghost use Rattle.mot_air.specs.Inner.Concluded.{Concludes, ConcludesTask};
 ghost use Rattle.mot_air.specs.Playing.{Manner};
-ghost use Rattle.mot_air.specs.Program.{AskForNothing, Ends, IsBeginningRefusal, LackOption};
+ghost use Rattle.mot_air.specs.Program.{AskForNothing, Ends, IsBeginningRefusal};
 ghost use Rattle.mot_air.specs.Program.{Opens, OpensFor, SyncsTo};
 ghost use Rattle.mot_air.specs.Telling.{watch_in, watched};
 ghost use Rattle.mot_endpoints.specs.Opened.{named};
@@ -22,16 +22,15 @@ use crate::on_air::{Airing, play_file};
 use crate::playing::{Followed, sync_disk};
 use clap::ArgMatches;
 use disk_store::Start;
-use mot_cli::{AirTask, LookRules, PlayTask, air_task, is_whole, motcar_matches};
+use mot_cli::{AirTask, LookRules, PlayTask, air_task, has_levels, is_whole};
 use mot_endpoints::{Cause, Others, Station, StatusFile, file_types, line_folder};
 use mot_export::{export_disk, inspect_disk};
 use mot_files::HostSystem;
 use mot_folder::{FileTypes, Folder};
 use mot_numbers::Refusal;
-use mot_outcome::{Beside, Exit, Finished, UsedDisk, explain, refuse, subject_of};
+use mot_outcome::{Beside, Exit, Finished, UsedDisk, refuse, subject_of};
 use mot_shelf::{Shelf, SystemShelf};
 use std::alloc::Global;
-use std::convert::AsStr;
 use std::io::Write;
 
 /// Whether the word is one of these commands.
@@ -42,44 +41,13 @@ pub fn is_air(word: &str) -> bool
     word == "play" || word == "sync" || word == "export" || word == "inspect"
 }
 
-/// Does what the words after the program's own name ask for, and hands out the disk that it worked
-/// on. The log goes to `writer`, or to `errors` if the packets go to `writer`. Refusals are printed
-/// to `errors`.
+/// Does the task of a command of this name, with these words after it, and hands out the disk that
+/// it worked on. The log goes to `writer`, or to `errors` if the packets go to `writer`. Refusals are
+/// printed to `errors`.
 ///
 /// `start` is for clauses alone: the content of the disk's file when it was opened. A program gives
 /// `Unknown`.
-pub fn run_air_on<'a, S: AsStr, B: Start, W: Write, E: Write>(
-    station: &mut Station<'a>,
-    alloc: Global,
-    words: &'a [S],
-    start: B,
-    writer: &mut W,
-    errors: &mut E,
-) -> Exit<B>
-    // What it came to: the task that the words ask for was done, or ended by a refusal, or not begun;
-    // or help was asked for, or a word is wrong.
-    ensures ended { ComesTo IsAirTask AskForNothing BadNumber IsBeginningRefusal Ends
-        (map S.text words.now) result None None (W.contents writer.old) (W.contents writer.new) }
-
-    // An option of `play` that lacks the one of which it says more is not told as a bad number.
-    ensures lacking { LackOption (map S.text words.now) → result.refusal ≢ Some BadNumber }
-
-    // Nothing was opened but what the words name, each at most once.
-    ensures files { UsesFiles IsAirTask OpensFor (map S.text words.now) result.disk
-        station.old.opened.all station.new.opened.all }
-{
-    let matches = match motcar_matches(alloc, words) {
-        Ok(matches) => matches,
-        Err(error) => return explain(alloc, writer, errors, &error, start),
-    };
-    let Some((name, rest)) = matches.subcommand() else {
-        return Exit::unrefused(2, UsedDisk::Untouched(start));
-    };
-    run_command(station, alloc, name, rest, start, writer, errors)
-}
-
-/// Does the task of a command of this name, with these words after it.
-fn run_command<'a, B: Start, W: Write, E: Write>(
+pub fn run_command<'a, B: Start, W: Write, E: Write>(
     station: &mut Station<'a>,
     alloc: Global,
     name: &str,
@@ -117,6 +85,7 @@ fn run_command<'a, B: Start, W: Write, E: Write>(
         }
         Err(refusal) => refuse(
             errors,
+            has_levels(words),
             refusal,
             subject_of(refusal, words, cause, reason),
             disk,
@@ -146,6 +115,7 @@ fn tell_no_task<B: Start, E: Write>(
     let refusal = Refusal::BadNumber;
     refuse(
         errors,
+        has_levels(words),
         refusal,
         subject_of(refusal, words, None, None),
         disk,

@@ -1,5 +1,5 @@
 //! The words and numbers that were given.
-ghost use Rattle.std.specs.Prelude.{◌≡◌, ℕ, Option, IfNone, IfSome};
+ghost use Rattle.std.specs.Prelude.{◌≡◌, ℕ, Option, IfNone, IfSome, codes};
 ghost use Rattle.clap.specs.Words.{Text, first_of, found_of, rows_of};
 ghost use Rattle.mot_cli.specs.Given.{IsGiven, NameWord, is_set};
 
@@ -41,4 +41,11 @@ pub(crate) fn is_set(words: &ArgMatches<'_>, name: &str) -> bool
         Some(word) => word == "true",
         None => false,
     }
+}
+
+/// Whether lines of the log are to begin with their level.
+pub fn has_levels(words: &ArgMatches<'_>) -> bool
+    ensures { result ≡ is_set (rows_of (found_of words.now)) (codes "levels") }
+{
+    is_set(words, "levels")
 }

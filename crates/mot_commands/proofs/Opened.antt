@@ -13,7 +13,7 @@ use Rattle.mot_export.proofs.Laws.{AllAre, held, openable, opened_throughout}
 use Rattle.mot_repository.specs.OnDisk.{OnDisk}
 use Rattle.mot_repository.specs.Repository.{Agrees, IsOf, Holds}
 use Rattle.mot_repository.specs.Opening.{IsOpened}
-use Rattle.mot_server.specs.Server.{ServerView, place_in}
+use Rattle.mot_playout.specs.Server.{ServerView, place_in}
 
 -- a session on a server that was opened is one from the disk's standing on
 pub opens_to : {D : Type 0} (state : D → State) (start disk : D) (server new : ServerView D)
@@ -24,7 +24,7 @@ pub opens_to : {D : Type 0} (state : D → State) (start disk : D) (server new :
     → IsFalse server.view.halted
     → ((s : Standing) → Agrees server.view s
     → place_in server s ≡ opened_place s.geometry.address (packet_room s.geometry)
-    s.geometry.segment_size (turn_of_carousel s.carousel s.geometry.segment_size))
+    s.geometry.segment (turn_of_carousel s.carousel s.geometry.segment))
     → new.disk ≡ disk → P server new → OpensTo state disk (state start) P
 opens_to state start disk server new P sound opens opened going at_start is p = record {
   first = server;

@@ -6,7 +6,7 @@ use Rattle.mot_numbers.specs.declared.refusal.Refusal.{Refusal}
 use Rattle.mot_numbers.specs.declared.refusal.Refusal.TheVariants.{ReadFault, WriteFault}
 use Rattle.mot_commands.specs.Serving.{OpensTo, Serves, ServesTill}
 use Rattle.mot_commands.specs.Serving.Serves.{opened, unopened}
-use Rattle.mot_server.specs.Server.{ServerView}
+use Rattle.mot_playout.specs.Server.{ServerView}
 use Rattle.mot_session.proofs.Laws.{each-on, server_on, some-on}
 
 module _ {D E : Type 0} (of : D → E) (state : E → State) (disk : D) (start : State)

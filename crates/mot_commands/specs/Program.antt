@@ -11,6 +11,8 @@ use Rattle.disk_store.specs.declared.memory.ram.RamDisk.{RamDisk}
 use Rattle.mot_cli.specs.declared.program.task.Task.{Task}
 use Rattle.mot_cli.specs.declared.program.task.Task.TheVariants.{Memory, Format, Serve, Check}
 use Rattle.mot_cli.specs.declared.program.task.Task.TheVariants.{Migrate}
+use Rattle.mot_devices.specs.Looking.{IsFree, OnlyLooks}
+use Rattle.mot_files.specs.Call.{Call}
 use Rattle.mot_commands.specs.Report.{Checks, Formats, Migrates}
 use Rattle.mot_commands.specs.Serving.{Serves}
 use Rattle.mot_journal.specs.Journal.{IsNewDisk}
@@ -19,7 +21,7 @@ use Rattle.mot_numbers.specs.declared.geometry.Geometry.{Geometry}
 use Rattle.mot_numbers.specs.declared.refusal.Refusal.{Refusal}
 use Rattle.mot_numbers.specs.declared.refusal.Refusal.TheVariants.{BadGeometry, DeviceFault}
 use Rattle.mot_numbers.specs.declared.refusal.Refusal.TheVariants.{OutOfMemory}
-use Rattle.mot_outcome.specs.Outcome.{OnFile, OnOpened}
+use Rattle.mot_outcome.specs.Outcome.{IsUntouched, OnFile, OnOpened}
 use Rattle.mot_outcome.specs.declared.used.UsedDisk.{UsedDisk}
 use Rattle.mot_outcome.specs.declared.used.UsedDisk.TheVariants.{InMemory, OfFile}
 
@@ -79,6 +81,16 @@ module _ {S : Type 0} {start : Ghosts S} where
   UsesFor ending (Serve path) used old new = Opens path.now used old.0 new.0 × (new.1 ≡ old.1)
   UsesFor ending (Check path) used old new = Opens path.now used old.0 new.0 × (new.1 ≡ old.1)
   UsesFor ending (Migrate path) used old new = Opens path.now used old.0 new.0 × (new.1 ≡ old.1)
+
+  -- which calls a task makes of the system that its files do not make: a disk is formatted only if
+  -- what its path names was found free, and that changed nothing
+  abbrev pub LooksFor : Task → UsedDisk S start → (old new : List Call) → Type 0
+  LooksFor (Memory g) used old new = new ≡ old
+  LooksFor (Format path g directory) used old new = OnlyLooks old new
+      × (IsUntouched used ⊎ IsFree path.now old new)
+  LooksFor (Serve path) used old new = new ≡ old
+  LooksFor (Check path) used old new = new ≡ old
+  LooksFor (Migrate path) used old new = new ≡ old
 
 -- the geometry is out of its ranges
 abbrev pub IsBadGeometry : Geometry → Refusal → Type 0

@@ -1,5 +1,5 @@
 //! What `check` does.
-ghost use Rattle.mot_server.specs.Attempts.{fault_of};
+ghost use Rattle.mot_playout.specs.Attempts.{fault_of};
 ghost use Rattle.std.specs.Prelude.{◌≡◌, ◌++◌, List, Option, ℕ};
 ghost use Rattle.mot_cli.specs.declared.program.task.Task.TheVariants.{Check};
 ghost use Rattle.mot_lines.specs.Listing.{listing_text_beside};
@@ -8,6 +8,7 @@ ghost use Rattle.mot_commands.specs.Inner.Finishing.{Finishes};
 ghost use Rattle.mot_commands.specs.Program.{UsesFor};
 ghost use Rattle.mot_commands.specs.Report.{Checks, clean_line, layout_line};
 
+use crate::unfit::clear_unfit;
 use disk_model::Disk;
 use disk_store::{DiskFiles, Start};
 use mot_export::Ended;
@@ -37,6 +38,7 @@ pub(crate) fn check_file<F: DiskFiles, S: Start, W: Write>(
     match files.open_disk(path, start) {
         Ok(disk) => {
             let ended = check_disk(alloc, disk, writer);
+            clear_unfit(files, &ended.result);
             Finished::of_file(ended, Beside::nothing(), None)
         }
         Err(unopened) => Finished::unopened(unopened),

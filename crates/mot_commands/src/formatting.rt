@@ -1,28 +1,35 @@
 //! What `format` does.
-ghost use Rattle.mot_server.specs.Attempts.{fault_of};
+ghost use Rattle.mot_playout.specs.Attempts.{fault_of};
 ghost use Rattle.std.specs.Prelude.{◌≡◌, true, List, Option, Some, ℕ};
 ghost use Rattle.mot_cli.specs.declared.program.task.Task.TheVariants.{Format};
 ghost use Rattle.mot_numbers.specs.Geometry.{IsValid};
 ghost use Rattle.mot_numbers.specs.declared.refusal.Refusal.TheVariants.{DeviceFault};
 ghost use Rattle.mot_outcome.specs.Outcome.{Prints};
 ghost use Rattle.mot_commands.specs.Inner.Finishing.{Finishes};
-ghost use Rattle.mot_commands.specs.Program.{UsesFor};
+ghost use Rattle.mot_commands.specs.Program.{LooksFor, UsesFor};
 ghost use Rattle.mot_commands.specs.Report.{Formats, formatted_line};
 
+use crate::unfit::clear_unfit;
 use disk_model::Disk;
 use disk_store::{DiskFiles, Start, Unopened};
 use itoa::Buffer;
+use mot_devices::use_of;
+use mot_endpoints::Cause;
 use mot_export::Ended;
+use mot_files::System;
 use mot_journal::format_from;
 use mot_numbers::{Geometry, Refusal, TransportId};
 use mot_outcome::{Beside, Finished, write_bytes, write_last};
 use mot_reason::Reason;
+use std::alloc::Global;
 use std::io::Write;
 
-/// Makes a disk of the file at the path. The file is made if it can't be opened, and removed again
-/// if the disk could not be made of it. No file is touched for a geometry out of range.
-pub(crate) fn format_file<F: DiskFiles, S: Start, W: Write>(
+/// Makes a disk of the file at the path, as `format_free` does. No file is touched for a geometry
+/// out of range, or if the path names a device in use.
+pub(crate) fn format_file<F: DiskFiles, Y: System, S: Start, W: Write>(
     files: &mut F,
+    system: &mut Y,
+    alloc: Global,
     path: &str,
     start: S,
     geometry: Geometry,
@@ -35,13 +42,40 @@ pub(crate) fn format_file<F: DiskFiles, S: Start, W: Write>(
     ensures files { UsesFor (fault_of result.result) (Format path.entry geometry directory) result.disk
         (F.opened files.old, F.taken_away files.old)
         (F.opened files.new, F.taken_away files.new) }
+    ensures looked { LooksFor (Format path.entry geometry directory) result.disk
+        (Y.calls system.old) (Y.calls system.new) }
 {
     if !geometry.is_valid() {
         return Finished::unbegun(Refusal::BadGeometry, None, start);
     }
+    match use_of(system, alloc, path) {
+        Some(found) => Finished::unbegun(Refusal::DeviceFault, Some(Cause::from(found)), start),
+        None => format_free(files, path, start, geometry, directory, writer),
+    }
+}
+
+/// Makes a disk of the file at the path. The file is made if it can't be opened, and removed again
+/// if the disk could not be made of it.
+fn format_free<F: DiskFiles, S: Start, W: Write>(
+    files: &mut F,
+    path: &str,
+    start: S,
+    geometry: Geometry,
+    directory: TransportId,
+    writer: &mut W,
+) -> Finished<S, ()>
+    requires { IsValid geometry }
+    ensures ended { (unread : Option (List ℕ))
+        → Finishes (Format path.entry geometry directory) result unread unread
+        (W.contents writer.old) (W.contents writer.new) }
+    ensures files { UsesFor (fault_of result.result) (Format path.entry geometry directory) result.disk
+        (F.opened files.old, F.taken_away files.old)
+        (F.opened files.new, F.taken_away files.new) }
+{
     match files.open_disk(path, start) {
         Ok(mut disk) => {
             let result = format_disk(&mut disk, &geometry, directory, writer);
+            clear_unfit(files, &result);
             let ended = Ended {
                 reason: reason_of(&result, &disk, &geometry),
                 disk,

@@ -6,7 +6,8 @@ mod formatting;
 mod migrating;
 mod program;
 mod serving;
+mod unfit;
 
 pub use mot_cli::{Options, Task};
 pub use mot_outcome::{Exit, UsedDisk};
-pub use program::run_on;
+pub use program::run_command;

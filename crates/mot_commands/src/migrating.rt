@@ -1,11 +1,12 @@
 //! What `migrate` does.
-ghost use Rattle.mot_server.specs.Attempts.{fault_of};
+ghost use Rattle.mot_playout.specs.Attempts.{fault_of};
 ghost use Rattle.std.specs.Prelude.{◌≡◌, List, Option, ℕ};
 ghost use Rattle.mot_cli.specs.declared.program.task.Task.TheVariants.{Migrate};
 ghost use Rattle.mot_commands.specs.Inner.Finishing.{Finishes};
 ghost use Rattle.mot_commands.specs.Program.{UsesFor};
 ghost use Rattle.mot_commands.specs.Report.{Migrates, migrated_line};
 
+use crate::unfit::clear_unfit;
 use disk_model::Disk;
 use disk_store::{DiskFiles, Start};
 use mot_export::Ended;
@@ -32,6 +33,7 @@ pub(crate) fn migrate_file<F: DiskFiles, S: Start, W: Write>(
     match files.open_disk(path, start) {
         Ok(disk) => {
             let ended = migrate_disk(alloc, disk, writer);
+            clear_unfit(files, &ended.result);
             Finished::of_file(ended, Beside::nothing(), None)
         }
         Err(unopened) => Finished::unopened(unopened),

@@ -1,11 +1,11 @@
 //! The program, over any streams and files.
-ghost use Rattle.std.specs.Prelude.{List, map};
-ghost use Rattle.mot_server.specs.Attempts.{fault_of};
+ghost use Rattle.std.specs.Prelude.{List};
+ghost use Rattle.mot_playout.specs.Attempts.{fault_of};
 ghost use Rattle.clap.specs.Words.{Text, found_of, rows_of};
 ghost use Rattle.mot_numbers.specs.declared.refusal.Refusal.TheVariants.{BadGeometry};
 ghost use Rattle.mot_outcome.specs.Outcome.{ComesTo, UsesFiles};
 ghost use Rattle.mot_commands.specs.Inner.Finishing.{Finishes};
-ghost use Rattle.mot_commands.specs.Program.{Ends, IsBeginningRefusal, UsesFor};
+ghost use Rattle.mot_commands.specs.Program.{Ends, IsBeginningRefusal, LooksFor, UsesFor};
 ghost use Rattle.mot_cli.specs.Asked.{AreWrong, AskBy};
 ghost use Rattle.mot_cli.specs.Command.{motcar_app};
 ghost use Rattle.mot_cli.specs.Program.Task.{IsTask};
@@ -17,51 +17,20 @@ use crate::migrating::migrate_file;
 use crate::serving::{serve_file, serve_memory};
 use clap::ArgMatches;
 use disk_store::{DiskFiles, Start};
-use mot_cli::{motcar_matches, program_task};
+use mot_cli::program_task;
+use mot_files::System;
 use mot_numbers::Refusal;
-use mot_outcome::{Exit, Finished, UsedDisk, explain, refuse, subject_of};
+use mot_outcome::{Exit, Finished, UsedDisk, refuse, subject_of};
 use std::alloc::Global;
-use std::convert::AsStr;
 use std::io::{Read, Write};
 
-/// Does what the words after the program's own name ask for, and hands out the disk that it worked
-/// on. What went wrong is printed to `errors`.
+/// Does the task of a command of this name, with these words after it, and hands out the disk that
+/// it worked on. What went wrong is printed to `errors`.
 ///
 /// `start` is for clauses alone: what the file that is opened held then. A program gives `Unknown`.
-pub fn run_on<F: DiskFiles, S: AsStr, B: Start, R: Read, W: Write, E: Write>(
+pub fn run_command<F: DiskFiles, Y: System, B: Start, R: Read, W: Write, E: Write>(
     files: &mut F,
-    alloc: Global,
-    words: &[S],
-    start: B,
-    reader: &mut R,
-    writer: &mut W,
-    errors: &mut E,
-) -> Exit<B>
-    // With status 0 the words asked for a task, and it was done, or for help; with status 1 this
-    // refusal ended it, or it was not begun; with status 2 the words are wrong.
-    ensures ended { ComesTo IsTask (AreWrong motcar_app) BadGeometry IsBeginningRefusal Ends
-        (map S.text words.now) result (R.remaining reader.old) (R.remaining reader.new)
-        (W.contents writer.old) (W.contents writer.new) }
-
-    // No file was opened, made or removed but the one that the words name; and removed was at most
-    // one that was made here and could not be formatted.
-    ensures files { UsesFiles IsTask (UsesFor result.refusal) (map S.text words.now) result.disk
-        (F.opened files.old, F.taken_away files.old)
-        (F.opened files.new, F.taken_away files.new) }
-{
-    let matches = match motcar_matches(alloc, words) {
-        Ok(matches) => matches,
-        Err(error) => return explain(alloc, writer, errors, &error, start),
-    };
-    let Some((name, rest)) = matches.subcommand() else {
-        return Exit::unrefused(2, UsedDisk::Untouched(start));
-    };
-    run_command(files, alloc, name, rest, start, reader, writer, errors)
-}
-
-/// Does the task of a command of this name, with these words after it.
-fn run_command<F: DiskFiles, B: Start, R: Read, W: Write, E: Write>(
-    files: &mut F,
+    system: &mut Y,
     alloc: Global,
     name: &str,
     words: &ArgMatches<'_>,
@@ -80,11 +49,15 @@ fn run_command<F: DiskFiles, B: Start, R: Read, W: Write, E: Write>(
         → UsesFiles IsTask (UsesFor result.refusal) all result.disk
         (F.opened files.old, F.taken_away files.old)
         (F.opened files.new, F.taken_away files.new) }
+    ensures looked { (all : List Text)
+        → AskBy motcar_app IsTask name.now (rows_of (found_of words.now)) all
+        → UsesFiles IsTask LooksFor all result.disk (Y.calls system.old) (Y.calls system.new) }
 {
     let Some(task) = program_task(name, words) else {
         let subject = subject_of(Refusal::BadGeometry, words, None, None);
         return refuse(
             errors,
+            false,
             Refusal::BadGeometry,
             subject,
             UsedDisk::Untouched(start),
@@ -95,11 +68,12 @@ fn run_command<F: DiskFiles, B: Start, R: Read, W: Write, E: Write>(
         disk,
         cause,
         reason,
-    } = execute(files, alloc, task, start, reader, writer);
+    } = execute(files, system, alloc, task, start, reader, writer);
     match result {
         Ok(()) => Exit::unrefused(0, disk),
         Err(refusal) => refuse(
             errors,
+            false,
             refusal,
             subject_of(refusal, words, cause, reason),
             disk,
@@ -108,8 +82,9 @@ fn run_command<F: DiskFiles, B: Start, R: Read, W: Write, E: Write>(
 }
 
 /// Does a task.
-fn execute<F: DiskFiles, B: Start, R: Read, W: Write>(
+fn execute<F: DiskFiles, Y: System, B: Start, R: Read, W: Write>(
     files: &mut F,
+    system: &mut Y,
     alloc: Global,
     task: Task<'_>,
     start: B,
@@ -121,6 +96,7 @@ fn execute<F: DiskFiles, B: Start, R: Read, W: Write>(
     ensures files { UsesFor (fault_of result.result) task.entry result.disk
         (F.opened files.old, F.taken_away files.old)
         (F.opened files.new, F.taken_away files.new) }
+    ensures looked { LooksFor task.entry result.disk (Y.calls system.old) (Y.calls system.new) }
 {
     match task {
         Task::Memory(geometry) => serve_memory(alloc, geometry, start, reader, writer),
@@ -128,7 +104,9 @@ fn execute<F: DiskFiles, B: Start, R: Read, W: Write>(
             path,
             geometry,
             directory,
-        } => format_file(files, path, start, geometry, directory, writer),
+        } => format_file(
+            files, system, alloc, path, start, geometry, directory, writer,
+        ),
         Task::Serve(path) => serve_file(files, alloc, path, start, reader, writer),
         Task::Check(path) => check_file(files, alloc, path, start, writer),
         Task::Migrate(path) => migrate_file(files, alloc, path, start, writer),

@@ -1,5 +1,5 @@
 //! What `memory` and `serve` do.
-ghost use Rattle.mot_server.specs.Attempts.{fault_of};
+ghost use Rattle.mot_playout.specs.Attempts.{fault_of};
 ghost use Rattle.std.specs.Prelude.{◌≡◌};
 ghost use Rattle.disk_model.specs.Disk.{KeepsLength};
 ghost use Rattle.mot_cli.specs.declared.program.task.Task.TheVariants.{Memory, Serve};
@@ -7,6 +7,7 @@ ghost use Rattle.mot_commands.specs.Inner.Finishing.{Finishes};
 ghost use Rattle.mot_commands.specs.Program.{UsesFor};
 ghost use Rattle.mot_commands.specs.Serving.{Serves};
 
+use crate::unfit::clear_unfit;
 use disk_model::Disk;
 use disk_store::{DiskFiles, RamDisk, Start};
 use mot_export::Ended;
@@ -69,6 +70,7 @@ pub(crate) fn serve_file<F: DiskFiles, S: Start, R: Read, W: Write>(
     match files.open_disk(path, start) {
         Ok(disk) => {
             let ended = serve_disk(alloc, disk, reader, writer);
+            clear_unfit(files, &ended.result);
             Finished::of_file(ended, Beside::nothing(), None)
         }
         Err(unopened) => Finished::unopened(unopened),

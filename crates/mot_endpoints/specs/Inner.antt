@@ -1,4 +1,5 @@
 pub mod Finding
 pub mod LineNames
+pub mod Notices
 pub mod Said
 pub mod Texts

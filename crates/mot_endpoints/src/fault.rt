@@ -3,6 +3,7 @@ ghost use Rattle.std.specs.Prelude.{◌≡◌};
 ghost use Rattle.mot_numbers.specs.declared.refusal.Refusal.TheVariants.{OutOfMemory, ReadFault};
 
 use disk_store::OpenFault;
+use mot_devices::DeviceUse;
 use mot_files::Fault;
 use mot_numbers::Refusal;
 use std::alloc::AllocError;
@@ -69,6 +70,8 @@ pub enum LinesFault {
 pub enum Cause {
     /// The disk was not opened.
     Disk(OpenFault),
+    /// The disk is a device in use.
+    Device(DeviceUse),
     /// The file that adds suffixes was not read, or a line of it is wrong.
     Types(TypesFault),
     /// The folder of objects was not opened at the last look.
@@ -112,6 +115,16 @@ impl Unbegun {
     }
 }
 
+impl From<DeviceUse> for Cause {
+    /// One that can't be looked at is told as one that is not opened.
+    fn from(found: DeviceUse) -> Cause {
+        match found {
+            DeviceUse::Unseen(error) => Cause::Disk(OpenFault::System(error)),
+            _ => Cause::Device(found),
+        }
+    }
+}
+
 impl From<PacketsFault> for Cause {
     ghost use Rattle.mot_endpoints.specs.declared.fault.Cause.TheVariants.{Packets};
 
@@ -126,6 +139,7 @@ impl Display for Cause {
     fn fmt<W: fmt::Write>(&self, f: &mut Formatter<W>) -> fmt::Result {
         match self {
             Cause::Disk(fault) => fault.fmt(f),
+            Cause::Device(found) => found.fmt(f),
             Cause::Types(fault) => fault.fmt(f),
             Cause::Folder(error) => OpenFault::System(*error).fmt(f),
             Cause::Lines(fault) => fault.fmt(f),

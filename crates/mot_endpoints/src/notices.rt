@@ -1,6 +1,10 @@
 //! What is to be told of files of lines, until it is.
-ghost use Rattle.std.specs.Prelude.{◌≡◌, [], length};
-ghost use Rattle.mot_events.specs.Log.{HasGrown};
+ghost use Rattle.std.specs.Prelude.{◌≡◌, ◌≢◌, ◌⊎◌, List, None, Some, [], vec_capacity};
+ghost use Rattle.mot_endpoints.specs.Inner.Notices.{Adds, AreEventsOf, IsEventOf, IsOfFile};
+ghost use Rattle.mot_endpoints.specs.declared.notices.Notice.TheVariants as notice;
+ghost use Rattle.mot_events.specs.Log.{AreOfFiles, Entry, HearsAll};
+ghost use Rattle.mot_events.specs.declared.event.Event.{Event};
+ghost use Rattle.mot_numbers.specs.declared.refusal.Refusal.TheVariants.{ReadFault};
 
 use disk_store::OpenFault;
 use mot_events::{Event, Tells, Why, Words};
@@ -36,7 +40,10 @@ pub(crate) struct Notices<'a> {
 
 impl<'a> Notices<'a> {
     /// Nothing is to be told. If there is no memory for notices now, it is taken as they come.
-    pub(crate) fn new(alloc: Global, folder: &'a str) -> Notices<'a> {
+    pub(crate) fn new(alloc: Global, folder: &'a str) -> Notices<'a>
+        ensures folder { result.folder.now ≡ folder.now }
+        ensures none { (result.waiting.items ≡ []) × (result.unread ≡ None) }
+    {
         let waiting = match Vec::with_capacity(alloc, ROOM) {
             Ok(waiting) => waiting,
             Err(AllocError) => Vec::new(alloc),
@@ -50,7 +57,11 @@ impl<'a> Notices<'a> {
     }
 
     /// The file of this name is left there, or is the last one.
-    pub(crate) fn add_file(&mut self, name: &[u8], refusal: Refusal, why: Why) {
+    pub(crate) fn add_file(&mut self, name: &[u8], refusal: Refusal, why: Why)
+        ensures adds { Adds (IsOfFile name.now refusal why) (vec_capacity self.old.waiting)
+            self.old.waiting.items self.new.waiting.items }
+        ensures same { self.new ≡ record self.old { waiting = self.new.waiting } }
+    {
         let notice = match Vec::from_slice(self.alloc, name) {
             Ok(name) => Notice::File(Words::new(name), refusal, why),
             Err(AllocError) => Notice::Folder(Refusal::OutOfMemory, Why::Unsaid),
@@ -59,7 +70,14 @@ impl<'a> Notices<'a> {
     }
 
     /// The folder can't be read, if that is not told already.
-    pub(crate) fn add_unread(&mut self, refusal: Refusal, why: Why) {
+    pub(crate) fn add_unread(&mut self, refusal: Refusal, why: Why)
+        ensures known { self.old.unread ≡ Some refusal → self.new ≡ self.old }
+        ensures adds { (self.old.unread ≡ Some refusal) ⊎ Adds
+            (λ n. n ≡ notice.Folder refusal why) (vec_capacity self.old.waiting)
+            self.old.waiting.items self.new.waiting.items }
+        ensures unread { self.new.unread ≡ Some refusal }
+        ensures folder { self.new.folder ≡ self.old.folder }
+    {
         if self.unread != Some(refusal) {
             self.unread = Some(refusal);
             let _ = self.waiting.push(Notice::Folder(refusal, why));
@@ -67,7 +85,11 @@ impl<'a> Notices<'a> {
     }
 
     /// The system refused to read the folder. Want of memory is told of each call.
-    pub(crate) fn add_unlisted(&mut self, error: io::Error) {
+    pub(crate) fn add_unlisted(&mut self, error: io::Error)
+        ensures unread { (self.new.unread ≡ self.old.unread)
+            ⊎ (self.new.unread ≡ Some ReadFault) }
+        ensures folder { self.new.folder ≡ self.old.folder }
+    {
         if error.kind() != ErrorKind::OutOfMemory {
             let why = words_of(self.alloc, error);
             self.add_unread(Refusal::ReadFault, why);
@@ -75,7 +97,13 @@ impl<'a> Notices<'a> {
     }
 
     /// The folder can be read again, if it could not for this reason.
-    pub(crate) fn add_readable(&mut self, refusal: Refusal) {
+    pub(crate) fn add_readable(&mut self, refusal: Refusal)
+        ensures known { self.old.unread ≢ Some refusal → self.new ≡ self.old }
+        ensures adds { self.old.unread ≡ Some refusal → Adds (λ n. n ≡ notice.Readable)
+            (vec_capacity self.old.waiting) self.old.waiting.items self.new.waiting.items }
+        ensures readable { self.new.unread ≢ Some refusal }
+        ensures folder { self.new.folder ≡ self.old.folder }
+    {
         if self.unread == Some(refusal) {
             self.unread = None;
             let _ = self.waiting.push(Notice::Readable);
@@ -84,15 +112,16 @@ impl<'a> Notices<'a> {
 
     /// Tells all, in their order.
     pub(crate) fn tell<T: Tells>(&mut self, log: &mut T)
-        ensures levels { T.log_has_levels log.new ≡ T.log_has_levels log.old }
-        ensures told { HasGrown (T.log_is_whole log.old) (T.log_is_whole log.new)
-            (T.log_has log.old) (T.log_has log.new) }
+        ensures told { (entries : List Entry)
+            × AreEventsOf self.old.folder.now self.old.waiting.items entries
+            × HearsAll T.hears T.misses log.old entries log.new }
         ensures none { self.new.waiting.items ≡ [] }
+        ensures same { self.new ≡ record self.old { waiting = self.new.waiting } }
     {
-        let mut at = 0;
-        while at < self.waiting.len() {
-            tell_notice(self.folder, &self.waiting[at], log);
-            at += 1;
+        let mut rest = self.waiting.as_slice();
+        while let Some((notice, others)) = rest.split_first() {
+            tell_notice(self.folder, notice, log);
+            rest = others;
         }
         self.waiting.clear();
     }
@@ -100,9 +129,7 @@ impl<'a> Notices<'a> {
 
 /// Tells one.
 fn tell_notice<T: Tells>(folder: &str, notice: &Notice, log: &mut T)
-    ensures levels { T.log_has_levels log.new ≡ T.log_has_levels log.old }
-    ensures told { HasGrown (T.log_is_whole log.old) (T.log_is_whole log.new)
-        (T.log_has log.old) (T.log_has log.new) }
+    ensures { (e : Event) × IsEventOf folder.now notice.now e × T.hears log.old e log.new }
 {
     match notice {
         Notice::File(name, refusal, why) => {

@@ -1,7 +1,7 @@
 //! Files of lines in a folder, read one after the other.
-ghost use Rattle.std.specs.Prelude.{◌≡◌, ◌≤◌, ◌⊎◌, ◌∷◌, ◌++◌, [], ℕ, IfOk, IsErr, List, None, Option};
-ghost use Rattle.std.specs.Prelude.{Result, false, length, string_bytes, take, true};
-ghost use Rattle.mot_events.specs.Log.{HasGrown};
+ghost use Rattle.std.specs.Prelude.{◌≡◌, ◌≤◌, ◌⊎◌, ◌∷◌, ◌++◌, [], ℕ, IfOk, IfSome, IsErr, List, None, Option};
+ghost use Rattle.std.specs.Prelude.{Result, false, length, string_bytes, take, true, vec_capacity};
+ghost use Rattle.mot_events.specs.Log.{AreOfFiles, Entry, HearsAll};
 ghost use Rattle.mot_endpoints.specs.LineFiles.{Leaves, TakesAway};
 ghost use Rattle.mot_endpoints.specs.Inner.Said.{Remembers};
 ghost use Rattle.mot_endpoints.specs.declared.said.Stamp.{Stamp};
@@ -157,11 +157,11 @@ impl<'a, S: System + Drop> Spool<'a, S> {
 
     /// Begins the count of lines anew, if the bytes are the first of a file.
     fn begin_count(&mut self, count: &mut LineCount)
-        ensures finder { self.new.finder ≡ self.old.finder }
-        ensures torn { self.new.is_torn ≡ self.old.is_torn }
-        ensures open { self.new.«open» ≡ self.old.«open» }
-        ensures given { self.new.lines ≡ self.old.lines }
-        ensures next { self.new.is_next ≡ false }
+        ensures same { self.new ≡ record self.old { is_next = false } }
+        ensures begins { self.old.is_next ≡ true → IfSome self.old.«open» (λ lines.
+            (length (string_bytes lines.name) ≤ vec_capacity count.old.file
+            → count.new.file.items ≡ string_bytes lines.name) × (count.new.number ≡ 0)) }
+        ensures goes_on { self.old.is_next ≡ false → count.new ≡ count.old }
     {
         if self.is_next
             && let Some(lines) = &self.open
@@ -217,9 +217,8 @@ impl<'a, S: System + Drop> Spool<'a, S> {
             (S.calls self.new.finder.system) }
         ensures folder { self.new.finder.folder ≡ self.old.finder.folder }
         ensures stops { self.new.is_stopped ≡ true }
-        ensures levels { T.log_has_levels log.new ≡ T.log_has_levels log.old }
-        ensures told { HasGrown (T.log_is_whole log.old) (T.log_is_whole log.new)
-            (T.log_has log.old) (T.log_has log.new) }
+        ensures told { (entries : List Entry) × AreOfFiles entries
+            × HearsAll T.hears T.misses log.old entries log.new }
     {
         self.finish_open();
         self.is_stopped = true;
@@ -266,9 +265,8 @@ impl<'a, S: System + Drop> Inlet for Spool<'a, S> {
         ensures fits { result ≤ length room.new }
         ensures gave { self.new.lines.notes.all
             ≡ self.old.lines.notes.all ++ take result room.new ∷ [] }
-        ensures levels { T.log_has_levels log.new ≡ T.log_has_levels log.old }
-        ensures told { HasGrown (T.log_is_whole log.old) (T.log_is_whole log.new)
-            (T.log_has log.old) (T.log_has log.new) }
+        ensures told { (entries : List Entry) × AreOfFiles entries
+            × HearsAll T.hears T.misses log.old entries log.new }
 
         // What is asked of the system for it.
         ensures serves { ServesCount self.old.finder.folder.now self.old.is_torn

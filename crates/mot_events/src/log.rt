@@ -1,9 +1,11 @@
 //! The log, line by line.
-ghost use Rattle.std.specs.Prelude.{◌≡◌, Bool, List, OnOk, Option, false, true, ℕ};
+ghost use Rattle.std.specs.Prelude.{◌≡◌, OnOk, true};
 ghost use Rattle.std.specs.Io.KnownBytes.{Appends};
-ghost use Rattle.mot_events.specs.Counters.{counted, none_counted};
+ghost use Rattle.mot_events.specs.Counters.{none_counted};
+ghost use Rattle.mot_events.specs.Log.{LeavesOut, Logs, log_view};
 ghost use Rattle.mot_events.specs.Tally.{tally_of};
-ghost use Rattle.mot_events.specs.Text.{level_words, line_of, logged};
+ghost use Rattle.mot_events.specs.Text.{level_words, line_of};
+ghost use Rattle.mot_events.specs.declared.event.Event.{Event};
 
 use crate::counters::Counters;
 use crate::event::Event;
@@ -17,30 +19,22 @@ const MAX_LINE: usize = 8_192;
 /// Room for a level and an end.
 const AROUND: usize = 4;
 
-/// What is told of events, and has a log of them. Who makes events tells them to one of these, and
-/// knows of the log no more than that.
+/// What events are told to, such as a log. Who makes events tells them to one of these, and knows
+/// no more of it than that.
 pub trait Tells {
-    // The bytes that the log has, if they are known.
-    ghost log_has: { Self → Option (List ℕ) };
+    // It was told this event, and so became the other.
+    ghost hears: { Self → Event → Self → Type 0 };
 
-    // Each line was written whole.
-    ghost log_is_whole: { Self → Bool };
+    // It was told that something is left out.
+    ghost misses: { Self → Self → Type 0 };
 
-    // Lines begin with their level.
-    ghost log_has_levels: { Self → Bool };
-
-    /// This happened. If the log is whole afterwards, it has the event's line more, and nothing
-    /// else.
+    /// This happened.
     fn tell(&mut self, event: &Event<'_>)
-        ensures levels { log_has_levels self.new ≡ log_has_levels self.old }
-        ensures whole { log_is_whole self.new ≡ true → log_is_whole self.old ≡ true }
-        ensures told { log_is_whole self.new ≡ true → Appends (log_has self.old)
-            (log_has self.new) (logged (log_has_levels self.old) event.now) };
+        ensures heard { hears self.old event.now self.new };
 
-    /// Something that happened is left out: the log is not whole.
+    /// Something that happened is left out.
     fn leave_out(&mut self)
-        ensures levels { log_has_levels self.new ≡ log_has_levels self.old }
-        ensures left { log_is_whole self.new ≡ false };
+        ensures missed { misses self.old self.new };
 }
 
 /// A log of events, each with its line in one write. What happened is counted, also if its line
@@ -80,6 +74,13 @@ impl<W: Write + Drop> EventLog<W> {
         }
     }
 
+    /// What takes the lines.
+    pub fn into_writer(self) -> W
+        ensures { result ≡ self.writer }
+    {
+        self.writer
+    }
+
     /// Writes the line of an event, and flushes; whether that was done.
     fn write_line(&mut self, event: &Event<'_>) -> bool
         ensures counts { self.new.counters ≡ self.old.counters }
@@ -99,19 +100,21 @@ impl<W: Write + Drop> EventLog<W> {
 }
 
 impl<W: Write + Drop> Tells for EventLog<W> {
-    ghost log_has = { λ log. W.contents log.writer };
+    ghost hears = { λ old event new. Logs
+        (log_view (W.contents old.writer) old.is_whole old.levels old.counters) event
+        (log_view (W.contents new.writer) new.is_whole new.levels new.counters) };
 
-    ghost log_is_whole = { λ log. log.is_whole };
-
-    ghost log_has_levels = { λ log. log.levels };
+    ghost misses = { λ old new. LeavesOut
+        (log_view (W.contents old.writer) old.is_whole old.levels old.counters)
+        (log_view (W.contents new.writer) new.is_whole new.levels new.counters) };
 
     /// Counts an event, and writes its line, if it has one.
     fn tell(&mut self, event: &Event<'_>)
-        ensures counts { self.new.counters ≡ counted self.old.counters (tally_of event.now) }
-        ensures levels { self.new.levels ≡ self.old.levels }
-        ensures whole { self.new.is_whole ≡ true → self.old.is_whole ≡ true }
-        ensures told { self.new.is_whole ≡ true → Appends (W.contents self.old.writer)
-            (W.contents self.new.writer) (logged self.old.levels event.now) }
+        ensures heard { Logs
+            (log_view (W.contents self.old.writer) self.old.is_whole self.old.levels
+            self.old.counters) event.now
+            (log_view (W.contents self.new.writer) self.new.is_whole self.new.levels
+            self.new.counters) }
     {
         let tally = event.tally();
         self.counters.count(tally);
@@ -120,10 +123,13 @@ impl<W: Write + Drop> Tells for EventLog<W> {
         }
     }
 
+    /// The log is not whole.
     fn leave_out(&mut self)
-        ensures levels { self.new.levels ≡ self.old.levels }
-        ensures left { self.new.is_whole ≡ false }
-        ensures counts { self.new.counters ≡ self.old.counters }
+        ensures missed { LeavesOut
+            (log_view (W.contents self.old.writer) self.old.is_whole self.old.levels
+            self.old.counters)
+            (log_view (W.contents self.new.writer) self.new.is_whole self.new.levels
+            self.new.counters) }
     {
         self.is_whole = false;
     }

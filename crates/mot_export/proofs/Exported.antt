@@ -18,8 +18,8 @@ use Rattle.mot_repository.proofs.Laws.{rules_kept, standings-are_sound}
 use Rattle.mot_repository.specs.OnDisk.{OnDisk}
 use Rattle.mot_repository.specs.Opening.{IsOpened}
 use Rattle.mot_repository.specs.Repository.{HasStanding}
-use Rattle.mot_server.proofs.Laws.{syncs_read}
-use Rattle.mot_server.specs.Attempts.{fault_of}
+use Rattle.mot_playout.proofs.Laws.{syncs_read}
+use Rattle.mot_playout.specs.Attempts.{fault_of}
 use Rattle.mot_session.specs.Output.{Writes}
 use Rattle.mot_update.proofs.Laws.{exports_are_taken}
 use Rattle.mot_update.specs.Export.{IsEmpty}

@@ -23,8 +23,6 @@ use Rattle.mot_packets.specs.Cut.{pieces_from}
 use Rattle.mot_packets.specs.Packet.{PacketFields}
 use Rattle.mot_player.specs.Turn.{Turn, bodies_with_ids, segments_of_bodies, turn_of_carousel}
 use Rattle.mot_export.specs.Filling.{lengths_of_group, lengths_of_segments, lengths_of_turn}
-use Rattle.mot_export.specs.Filling.{frames_of, no_frames, with_packet}
-use Rattle.mot_export.specs.declared.filling.Frames.{Frames}
 use Rattle.mot_export.specs.Inspecting.{seconds_line}
 use Rattle.mot_export.specs.Inner.Lengths.{entities_line, entity_lengths, group_lengths, packet_length}
 use Rattle.mot_export.specs.Inner.Lengths.{packet_lengths, segment_lengths, turn_lengths}
@@ -119,7 +117,7 @@ bodies-sizes (o ∷ os) (b ∷ bodies) e =
     ∙ ap (λ l. o.length ∷ l) (bodies-sizes os bodies (others o os b bodies e))
 
 -- the packets of a carousel's turn, by the length of its directory and those of its objects
-carousel-lengths : (room size directory : ℕ) (c : Carousel) (bodies : List (List ℕ))
+pub carousel-lengths : (room size directory : ℕ) (c : Carousel) (bodies : List (List ℕ))
     → AreBodiesOf c bodies
     → directory ≡ length (bytes_of_directory (directory_of (carousel_of c bodies) size))
     → turn_lengths room size (directory ∷ sizes c.objects.items)
@@ -182,59 +180,60 @@ one_less count i lt = omega (arith, lt)
 none_left : (count i : ℕ) → count ≤ i → count - i ≡ 0
 none_left count i le = omega (arith, le)
 
-module _ (size room : ℕ) (end : Frames) where
+module _ {S : Type 0} (with_one : S → ℕ → S) (room : ℕ) (end : S) where
   -- one packet more of a group
-  pub packet-more : (count i rest packet : ℕ) (mid new : Frames) → i < count
-      → fold (with_packet size) mid (packet_lengths (count - i) room rest) ≡ end
-      → packet ≡ packet_length room rest → new ≡ with_packet size mid packet
-      → fold (with_packet size) new (packet_lengths (count - (i + 1)) room (rest - room)) ≡ end
+  pub packet-more : (count i rest packet : ℕ) (mid new : S) → i < count
+      → fold with_one mid (packet_lengths (count - i) room rest) ≡ end
+      → packet ≡ packet_length room rest → new ≡ with_one mid packet
+      → fold with_one new (packet_lengths (count - (i + 1)) room (rest - room)) ≡ end
   packet-more count i rest packet mid new lt is packet_is new_is =
-      ap (λ f. fold (with_packet size) f (packet_lengths (count - (i + 1)) room (rest - room)))
-      (new_is ∙ ap (with_packet size mid) packet_is)
-      ∙ sym (ap (λ n. fold (with_packet size) mid (packet_lengths n room rest))
+      ap (λ f. fold with_one f (packet_lengths (count - (i + 1)) room (rest - room)))
+      (new_is ∙ ap (with_one mid) packet_is)
+      ∙ sym (ap (λ n. fold with_one mid (packet_lengths n room rest))
       (one_less count i lt))
       ∙ is
 
   -- all of them
-  pub packets-all : (count i rest : ℕ) (mid : Frames) → count ≤ i
-      → fold (with_packet size) mid (packet_lengths (count - i) room rest) ≡ end → mid ≡ end
+  pub packets-all : (count i rest : ℕ) (mid : S) → count ≤ i
+      → fold with_one mid (packet_lengths (count - i) room rest) ≡ end → mid ≡ end
   packets-all count i rest mid le is =
-      sym (ap (λ n. fold (with_packet size) mid (packet_lengths n room rest))
+      sym (ap (λ n. fold with_one mid (packet_lengths n room rest))
       (none_left count i le)) ∙ is
 
   -- one segment more of an entity
-  pub segment-more : (full count i rest group : ℕ) (mid new : Frames) → i < count
-      → fold (with_packet size) mid (segment_lengths (count - i) room full rest) ≡ end
+  pub segment-more : (full count i rest group : ℕ) (mid new : S) → i < count
+      → fold with_one mid (segment_lengths (count - i) room full rest) ≡ end
       → group ≡ min full rest + 11
-      → new ≡ fold (with_packet size) mid (group_lengths room group)
-      → fold (with_packet size) new (segment_lengths (count - (i + 1)) room full (rest - full))
+      → new ≡ fold with_one mid (group_lengths room group)
+      → fold with_one new (segment_lengths (count - (i + 1)) room full (rest - full))
       ≡ end
   segment-more full count i rest group mid new lt is group_is new_is =
       let others = segment_lengths (count - (i + 1)) room full (rest - full) in
-      ap (λ f. fold (with_packet size) f others)
-      (new_is ∙ ap (λ n. fold (with_packet size) mid (group_lengths room n)) group_is)
-      ∙ sym (fold-append (with_packet size) mid (group_lengths room (min full rest + 11)) others)
-      ∙ sym (ap (λ n. fold (with_packet size) mid (segment_lengths n room full rest))
+      ap (λ f. fold with_one f others)
+      (new_is ∙ ap (λ n. fold with_one mid (group_lengths room n)) group_is)
+      ∙ sym (fold-append with_one mid (group_lengths room (min full rest + 11)) others)
+      ∙ sym (ap (λ n. fold with_one mid (segment_lengths n room full rest))
       (one_less count i lt))
       ∙ is
 
-  pub segments-all : (full count i rest : ℕ) (mid : Frames) → count ≤ i
-      → fold (with_packet size) mid (segment_lengths (count - i) room full rest) ≡ end
+  pub segments-all : (full count i rest : ℕ) (mid : S) → count ≤ i
+      → fold with_one mid (segment_lengths (count - i) room full rest) ≡ end
       → mid ≡ end
   segments-all full count i rest mid le is =
-      sym (ap (λ n. fold (with_packet size) mid (segment_lengths n room full rest))
+      sym (ap (λ n. fold with_one mid (segment_lengths n room full rest))
       (none_left count i le)) ∙ is
 
 -- one entity more
-pub entity-more : (size room full : ℕ) (before : List ℕ) (len : ℕ) (mid new : Frames)
-    → mid ≡ frames_of size (turn_lengths room full before)
-    → new ≡ fold (with_packet size) mid (entity_lengths room full len)
-    → new ≡ frames_of size (turn_lengths room full (before ++ len ∷ []))
-entity-more size room full before len mid new is new_is =
+pub entity-more : {S : Type 0} (with_one : S → ℕ → S) (none : S) (room full : ℕ)
+    (before : List ℕ) (len : ℕ) (mid new : S)
+    → mid ≡ fold with_one none (turn_lengths room full before)
+    → new ≡ fold with_one mid (entity_lengths room full len)
+    → new ≡ fold with_one none (turn_lengths room full (before ++ len ∷ []))
+entity-more with_one none room full before len mid new is new_is =
     new_is
-    ∙ ap (λ f. fold (with_packet size) f (entity_lengths room full len)) is
-    ∙ sym (fold-append (with_packet size) no_frames (turn_lengths room full before)
+    ∙ ap (λ f. fold with_one f (entity_lengths room full len)) is
+    ∙ sym (fold-append with_one none (turn_lengths room full before)
     (entity_lengths room full len))
-    ∙ ap (λ l. frames_of size (turn_lengths room full before ++ l))
+    ∙ ap (λ l. fold with_one none (turn_lengths room full before ++ l))
     (sym (append-nil (entity_lengths room full len)))
-    ∙ ap (frames_of size) (sym (flat_map-append (entity_lengths room full) before (len ∷ [])))
+    ∙ ap (fold with_one none) (sym (flat_map-append (entity_lengths room full) before (len ∷ [])))

@@ -27,10 +27,10 @@ use Rattle.mot_export.specs.Opening.{OfStanding, first_place}
 use Rattle.mot_export.proofs.Opened.{openable, read_so}
 use Rattle.mot_repository.specs.Opening.{IsOpened}
 use Rattle.mot_repository.specs.Repository.{Agrees, HasStanding, RepositoryView}
-use Rattle.mot_server.specs.Playing.{HasPlayedTurn}
-use Rattle.mot_server.specs.Server.{ServerView, place_in}
-use Rattle.mot_server.specs.Attempts.{fault_of}
-use Rattle.mot_server.proofs.Laws.{syncs_read}
+use Rattle.mot_playout.specs.Playing.{HasPlayedTurn}
+use Rattle.mot_playout.specs.Server.{ServerView, place_in}
+use Rattle.mot_playout.specs.Attempts.{fault_of}
+use Rattle.mot_playout.proofs.Laws.{syncs_read}
 use Rattle.mot_session.specs.Served.{WritesFront}
 
 -- one packet more
@@ -94,15 +94,15 @@ module _ (view : RepositoryView) (s : Standing) (agrees : Agrees view s) where
       → g ≡ view.journal.geometry → count ≡ length packets → bytes ≡ bytes_of_all packets
       → sizes_text g ++ use_text view.journal.geometry view.journal.layout (length items)
       (sum_by (λ (o : beside.Object). o.length) items) gap view.journal.count
-      ++ turn_text count bytes ++ turn_lengths_text rates view.journal.geometry.segment_size
+      ++ turn_text count bytes ++ turn_lengths_text rates view.journal.geometry.segment
       (turn_of_carousel (carousel_of view.carousel agrees.bodies)
-      view.journal.geometry.segment_size)
+      view.journal.geometry.segment)
       ≡ inspection_text s view.journal.layout view.journal.count gap packets rates
   told_text g gap count bytes packets rates sizes counted all =
       same_text (λ a b n u k m e c. sizes_text a
       ++ use_text b view.journal.layout n u gap view.journal.count
       ++ turn_text k m
-      ++ turn_lengths_text rates e.segment_size (turn_of_carousel c e.segment_size))
+      ++ turn_lengths_text rates e.segment (turn_of_carousel c e.segment))
       g view.journal.geometry view.journal.geometry s.geometry
       (length items) (length s.carousel.objects)
       (sum_by (λ (o : beside.Object). o.length) items) (bytes_of_bodies s.carousel.objects)

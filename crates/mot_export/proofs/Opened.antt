@@ -9,7 +9,7 @@ use Rattle.mot_numbers.specs.declared.refusal.Refusal.{Refusal}
 use Rattle.mot_export.specs.Opening.{IsOpenable, IsUnopened}
 use Rattle.mot_repository.specs.Opening.{IsOpened, IsOpeningRefusal}
 use Rattle.mot_repository.specs.Repository.{RepositoryView, HasStanding, IsOf, Holds}
-use Rattle.mot_server.proofs.Laws.{opened_holds, opened_standing}
+use Rattle.mot_playout.proofs.Laws.{opened_holds, opened_standing}
 
 -- each image that a crash may leave stands for this
 abbrev pub AllAre : Standing → State → Type 0

@@ -9,7 +9,7 @@ use Rattle.mot_player.specs.Laws.{IsAtTurnsBeginning}
 use Rattle.mot_player.specs.Place.{Place}
 use Rattle.mot_player.specs.Turn.{Turn, segments_of_turn}
 use Rattle.mot_export.specs.declared.filling.Frames.{Frames}
-use Rattle.mot_server.specs.Playing.{HasPlayedTurn}
+use Rattle.mot_playout.specs.Playing.{HasPlayedTurn}
 
 -- no frame was begun
 abbrev pub no_frames : Frames

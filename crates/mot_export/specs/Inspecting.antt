@@ -22,7 +22,7 @@ use Rattle.mot_export.specs.Filling.{frame_size, frames_of, lengths_of_turn, ten
 use Rattle.mot_export.specs.declared.filling.Frames.{Frames}
 use Rattle.mot_export.specs.Opening.{IsOpenable, IsUnopened, OfStanding, first_place}
 use Rattle.mot_repository.specs.Gap.{IsLongestGap}
-use Rattle.mot_server.specs.Playing.{HasPlayedTurn, IsGoing}
+use Rattle.mot_playout.specs.Playing.{HasPlayedTurn, IsGoing}
 use Rattle.mot_session.specs.Served.{WritesFront}
 
 -- a word and a number
@@ -38,8 +38,8 @@ shares_line word all used =
 -- what the multiplexer and the receiver have to know
 abbrev pub sizes_text : Geometry → List ℕ
 sizes_text g =
-    number_line (codes "address") g.address ++ number_line (codes "packet") g.packet_length
-    ++ number_line (codes "segment") g.segment_size
+    number_line (codes "address") g.address ++ number_line (codes "packet") g.packet
+    ++ number_line (codes "segment") g.segment
 
 -- the bytes for bodies, and the most that lie free in one piece
 abbrev pub data_text : ℕ → ℕ → ℕ → List ℕ
@@ -48,7 +48,7 @@ data_text all used gap = shares_line (codes "data") all used ++ number_line (cod
 -- what is used and free: objects, bytes for bodies, and slots for commands before a rewrite
 abbrev pub use_text : Geometry → Layout → (objects bytes gap records : ℕ) → List ℕ
 use_text g layout objects bytes gap records =
-    shares_line (codes "objects") g.objects objects ++ data_text g.data_area bytes gap
+    shares_line (codes "objects") g.objects objects ++ data_text g.area bytes gap
     ++ shares_line (codes "slots") (slot_count layout g) records
 
 -- how long frames are in seconds and their tenths; or that a packet fits in none, so that the turn
@@ -129,8 +129,8 @@ inspection_text s layout records gap packets rates =
     ++ use_text s.geometry layout (length s.carousel.objects) (bytes_of_bodies s.carousel.objects)
     gap records
     ++ turn_text (length packets) (bytes_of_all packets)
-    ++ turn_lengths_text rates s.geometry.segment_size
-    (turn_of_carousel s.carousel s.geometry.segment_size)
+    ++ turn_lengths_text rates s.geometry.segment
+    (turn_of_carousel s.carousel s.geometry.segment)
 
 -- In these the disk was in a state start and is in a state now, and the writer's known bytes were
 -- old and are new.
@@ -141,7 +141,7 @@ pub record TellsOfDisk (rates : List ℕ) (s : Standing) (bytes : List ℕ)
   pub journal : DiskRecords
   pub read : records_of bytes ≡ Ok journal
   pub gap : ℕ
-  pub longest : IsLongestGap s.extents s.geometry.data_area gap
+  pub longest : IsLongestGap s.extents s.geometry.area gap
   pub packets : List (List ℕ)
   pub place : Place
   pub turn : HasPlayedTurn (first_place s) packets place

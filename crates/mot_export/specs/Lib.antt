@@ -3,3 +3,4 @@ pub mod Filling
 pub mod Inner
 pub mod Inspecting
 pub mod Opening
+pub mod TurnSize

@@ -36,5 +36,5 @@ pub record IsUnopened (refusal : Refusal) (start now : State) : Type 0 where
 -- where a server begins to play that was just opened of a disk that stands for this
 abbrev pub first_place : Standing → Place
 first_place s =
-    opened_place s.geometry.address (packet_room s.geometry) s.geometry.segment_size
-    (turn_of_carousel s.carousel s.geometry.segment_size)
+    opened_place s.geometry.address (packet_room s.geometry) s.geometry.segment
+    (turn_of_carousel s.carousel s.geometry.segment)

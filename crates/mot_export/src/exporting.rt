@@ -10,7 +10,7 @@ ghost use Rattle.mot_objects.specs.Carousel as whole;
 ghost use Rattle.mot_export.specs.Exporting.{Exports};
 ghost use Rattle.mot_export.specs.Inner.Printing.{IsPrintingFault};
 ghost use Rattle.mot_repository.specs.Repository.{HasStanding, object_body};
-ghost use Rattle.mot_server.specs.Attempts.{fault_of};
+ghost use Rattle.mot_playout.specs.Attempts.{fault_of};
 ghost use Rattle.mot_session.specs.Output.{Writes};
 
 use crate::Ended;

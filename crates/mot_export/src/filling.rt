@@ -14,7 +14,7 @@ use mot_objects::Object;
 use mot_packets::packet_count;
 
 /// How many bytes of a group are none of its segment.
-const GROUP_FRAME: usize = 11;
+pub(crate) const GROUP_FRAME: usize = 11;
 
 /// Frames that packets fill, each packet whole in one.
 #[derive(Clone, Copy)]
@@ -119,7 +119,7 @@ fn fill_group(frames: &mut Frames, size: usize, full_length: PacketLength, len: 
 }
 
 /// How many bytes the packet has that carries the next of what is left of a group.
-fn packet_for(rest: usize, full_length: PacketLength) -> usize
+pub(crate) fn packet_for(rest: usize, full_length: PacketLength) -> usize
     ensures { result ≡ packet_length (room_of full_length) rest }
 {
     if rest <= full_length.room() {

@@ -17,8 +17,8 @@ ghost use Rattle.mot_export.specs.Inner.Inspected.{HasInspected, IsCountingFault
 ghost use Rattle.mot_export.specs.Inner.Inspected.{IsInspectingFault, IsTurnSize};
 ghost use Rattle.mot_repository.specs.Gap.{IsLongestGap};
 ghost use Rattle.mot_repository.specs.Repository.{HasStanding};
-ghost use Rattle.mot_server.specs.Attempts.{fault_of};
-ghost use Rattle.mot_server.specs.Server.{place_in};
+ghost use Rattle.mot_playout.specs.Attempts.{fault_of};
+ghost use Rattle.mot_playout.specs.Server.{place_in};
 ghost use Rattle.mot_session.specs.Served.{WritesFront};
 
 use crate::Ended;
@@ -28,8 +28,8 @@ use mot_journal::Layout;
 use mot_numbers::{Geometry, Refusal};
 use mot_objects::Object;
 use mot_player::Played;
+use mot_playout::Server;
 use mot_reason::open_server;
-use mot_server::Server;
 use mot_session::write_whole;
 use std::alloc::Global;
 use std::io::Write;
@@ -113,16 +113,16 @@ fn tell<D: Disk>(
 ) -> Result<(), Refusal>
     ensures { (bodies : List (List ℕ)) → AreBodiesOf server.now.view.carousel bodies
         → OnOk result ((gap : ℕ) × IsLongestGap server.now.view.extents
-        server.now.view.journal.geometry.data_area gap
+        server.now.view.journal.geometry.area gap
         × (text.new.items ≡ text.old.items ++ (sizes_text server.now.view.journal.geometry
         ++ use_text server.now.view.journal.geometry server.now.view.journal.layout
         (length server.now.view.carousel.objects.items)
         (sum_by (λ (o : Object). o.length) server.now.view.carousel.objects.items)
         gap server.now.view.journal.count
         ++ turn_text packets bytes
-        ++ turn_lengths_text (rates_of rate) server.now.view.journal.geometry.segment_size
+        ++ turn_lengths_text (rates_of rate) server.now.view.journal.geometry.segment
         (turn_of_carousel (carousel_of server.now.view.carousel bodies)
-        server.now.view.journal.geometry.segment_size)))) }
+        server.now.view.journal.geometry.segment)))) }
 {
     write_sizes(text, &server.geometry())?;
     write_use(text, server)?;
@@ -187,14 +187,14 @@ fn write_sizes<W: Write>(writer: &mut W, geometry: &Geometry) -> Result<(), Refu
     ensures fault { IfErr result (λ r. r ≡ WriteFault) }
 {
     write_number(writer, "address", u128::from(geometry.address))?;
-    write_number(writer, "packet", u128::from(geometry.packet_length))?;
-    write_number(writer, "segment", u128::from(geometry.segment_size))
+    write_number(writer, "packet", u128::from(geometry.packet))?;
+    write_number(writer, "segment", u128::from(geometry.segment))
 }
 
 /// Writes what is used and free.
 fn write_use<D: Disk, W: Write>(writer: &mut W, server: &Server<D>) -> Result<(), Refusal>
     ensures written { OnOk result ((gap : ℕ) × IsLongestGap server.now.view.extents
-        server.now.view.journal.geometry.data_area gap
+        server.now.view.journal.geometry.area gap
         × Appends (W.contents writer.old) (W.contents writer.new)
         (use_text server.now.view.journal.geometry server.now.view.journal.layout
         (length server.now.view.carousel.objects.items)
@@ -234,12 +234,7 @@ fn write_used<W: Write>(
         u128::from(geometry.objects),
         objects.len() as u128,
     )?;
-    write_data(
-        writer,
-        u128::from(geometry.data_area),
-        used_bytes(objects),
-        gap,
-    )?;
+    write_data(writer, u128::from(geometry.area), used_bytes(objects), gap)?;
     let slots = layout.slot_count(geometry);
     write_shares(writer, "slots", slots as u128, records as u128)
 }

@@ -44,10 +44,10 @@ use Rattle.mot_player.specs.Turn.{Turn, turn_of_carousel}
 use Rattle.mot_objects.specs.Rules.{AllKeepRules}
 use Rattle.mot_repository.specs.Repository.{Holds, RepositoryView}
 use Rattle.mot_repository.proofs.Laws.{rules_kept}
-use Rattle.mot_server.specs.RunEnds.{place_after}
-use Rattle.mot_server.specs.Runs.{accepted_commands}
-use Rattle.mot_server.specs.Server.{ServerView, place_in}
-use Rattle.mot_server.proofs.Laws.{accepted-join, reads_leave, runs_join}
+use Rattle.mot_playout.specs.RunEnds.{place_after}
+use Rattle.mot_playout.specs.Runs.{accepted_commands}
+use Rattle.mot_playout.specs.Server.{ServerView, place_in}
+use Rattle.mot_playout.proofs.Laws.{accepted-join, reads_leave, runs_join}
 use Rattle.mot_update.specs.Between.{IsUpdating, Telling}
 use Rattle.mot_update.specs.HasRun.{HasRun}
 use Rattle.mot_update.proofs.Laws.{same_err, same_ok, same_some}
@@ -373,7 +373,7 @@ module _ {D : Type 0} where
       rest fault first.layout (first.whole refl) first.leaves two.leaves in
       let d : Standing = first.leaves.last in
       let happened = subst (λ (g : Geometry).
-      Happen g.objects g.segment_size d.carousel (place_in mid d)
+      Happen g.objects g.segment d.carousel (place_in mid d)
       more two.leaves.last.carousel (place_in new two.leaves.last)) first.leaves.after.geometry
       two.happened in (
         record {
@@ -385,13 +385,13 @@ module _ {D : Type 0} where
               ∙ ap (λ l. l ++ commands_among more) first.accepted
               ∙ ap (λ l. accepted_commands commands marks ++ l) two.accepted
               ∙ sym (accepted-join commands others marks rest (first.whole refl));
-          happened = subst (λ (l : Standing). Happen s.geometry.objects s.geometry.segment_size
+          happened = subst (λ (l : Standing). Happen s.geometry.objects s.geometry.segment
               s.carousel (place_in old s) (events ++ more) l.carousel (place_in new l))
               (sym joined.1)
-              (happen-join s.geometry.objects s.geometry.segment_size s.carousel d.carousel
+              (happen-join s.geometry.objects s.geometry.segment s.carousel d.carousel
               two.leaves.last.carousel (place_in old s) (place_in mid d)
               (place_in new two.leaves.last) events more first.happened happened);
-          rules = rules-join s.geometry.objects s.geometry.segment_size s.carousel d.carousel
+          rules = rules-join s.geometry.objects s.geometry.segment s.carousel d.carousel
               (place_in old s) (place_in mid d) events more first.rules first.happened
               (subst (λ (g : Geometry). RulesAreKept g.objects d.carousel more)
               first.leaves.after.geometry two.rules);
@@ -412,9 +412,9 @@ module _ {D : Type 0} where
           whole = run.whole;
           layout = run.layout;
           accepted = accepted-map done;
-          happened = subst (λ (p : Place). Happen s.geometry.objects s.geometry.segment_size
+          happened = subst (λ (p : Place). Happen s.geometry.objects s.geometry.segment
               s.carousel (place_in old s) (map Accepted done) last.carousel p) (sym run.place)
-              (happen-commands s.geometry.objects s.geometry.segment_size done s.carousel
+              (happen-commands s.geometry.objects s.geometry.segment done s.carousel
               last.carousel (place_in old s) run.leaves.after.carousel);
           rules = rules-commands s.geometry.objects done s.carousel;
         },
@@ -425,7 +425,7 @@ module _ {D : Type 0} where
   fed-read : (old new : ServerView D) (start now : State) (s : Standing) (fault : Option Refusal)
       (events : List Event) → IsHonestDisk start → new.view ≡ old.view → now.IsHonest
       → IsUnchanged start now → Holds old.view s start → commands_among events ≡ []
-      → Happen s.geometry.objects s.geometry.segment_size s.carousel (place_in old s) events
+      → Happen s.geometry.objects s.geometry.segment s.carousel (place_in old s) events
       s.carousel (place_in new s)
       → FedTo old new start now s [] [] fault events s
   fed-read old new start now s fault events sound view honest still holds none happened =
@@ -436,7 +436,7 @@ module _ {D : Type 0} where
           whole = λ e. refl;
           layout = ap (λ (v : RepositoryView). v.journal.layout) view;
           accepted = none;
-          happened = subst (λ (d : Standing). Happen s.geometry.objects s.geometry.segment_size
+          happened = subst (λ (d : Standing). Happen s.geometry.objects s.geometry.segment
               s.carousel (place_in old s) events d.carousel (place_in new d)) (sym last) happened;
           rules = rules-packets s.geometry.objects events s.carousel none
               (rules_kept start.bytes s (sound.images start.bytes sound.bytes).are_bytes
@@ -738,7 +738,7 @@ module _ {D : Type 0} where
           (still : IsUnchanged between now) where
         -- these were fed behind what was fed so far, and no command
         more_fed : (more : List Event) → commands_among more ≡ []
-            → Happen t.geometry.objects t.geometry.segment_size t.carousel (place_in mid t) more
+            → Happen t.geometry.objects t.geometry.segment t.carousel (place_in mid t) more
             t.carousel (place_in new t)
             → FedTo old new start now s so_far.commands so_far.marks None (so_far.events ++ more) t
         more_fed more none happened = fed-on old mid new start between now s t so_far.commands
@@ -752,7 +752,7 @@ module _ {D : Type 0} where
 
           sent_fed : FedTo old new start now s so_far.commands so_far.marks None sent_events t
           sent_fed = more_fed (Played step.sent ∷ []) refl
-              (played t.geometry.objects t.geometry.segment_size t.carousel (place_in mid t)
+              (played t.geometry.objects t.geometry.segment t.carousel (place_in mid t)
               (place_in new t) packet ends step)
 
           sent_are : AreOf sent_events (so_far.packets ++ packet ∷ [])
@@ -776,7 +776,7 @@ module _ {D : Type 0} where
           asked_fed : FedTo old new start now s so_far.commands so_far.marks None
               (so_far.events ++ asked_for) t
           asked_fed = more_fed asked_for (commands-asked due)
-              (happen-asked t.geometry.objects t.geometry.segment_size t.carousel
+              (happen-asked t.geometry.objects t.geometry.segment t.carousel
               (place_in mid t) (place_in new t) due asked)
 
           told-asked : (d : Bool)

@@ -28,7 +28,7 @@ use Rattle.mot_player.proofs.Laws.{fresh-sent, has-directory}
 use Rattle.mot_player.proofs.Laws.{StandsAt, place-begins, plays-carousel, stands-changed}
 use Rattle.mot_player.proofs.Laws.{stands-heard, stands-opened, stands-sent}
 use Rattle.mot_player.proofs.Laws.{turns-read-with_directories}
-use Rattle.mot_server.proofs.Laws.{followable}
+use Rattle.mot_playout.proofs.Laws.{followable}
 
 -- ---- what holds behind whatever events
 

@@ -11,9 +11,9 @@ use Rattle.mot_numbers.specs.declared.refusal.Refusal.TheVariants.{WriteFault}
 use Rattle.mot_packets.specs.Packet.{PacketFields, read_packet}
 use Rattle.mot_player.specs.PlayerView as player
 use Rattle.mot_repository.specs.Repository.{RepositoryView}
-use Rattle.mot_server.specs.Server.{ServerView, bodies_of, place_in}
-use Rattle.mot_server.specs.Playing.{IsReadRefusal}
-use Rattle.mot_server.specs.Playing as reading
+use Rattle.mot_playout.specs.Server.{ServerView, bodies_of, place_in}
+use Rattle.mot_playout.specs.Playing.{IsReadRefusal}
+use Rattle.mot_playout.specs.Playing as reading
 use Rattle.mot_update.specs.Faults.{StaysCalm, IsUpdateFault}
 use Rattle.mot_update.specs.Faults as update
 use Rattle.mot_update.proofs.Laws.{fault_on}

@@ -15,9 +15,9 @@ use Rattle.mot_player.specs.Laws.{AreSent}
 use Rattle.mot_player.specs.Place.{Place, Sent, changed, hear_directory, opened_place, request}
 use Rattle.mot_player.specs.Sending.{packets_sent}
 use Rattle.mot_player.specs.Turn.{Turn, turn_of_carousel}
-use Rattle.mot_server.specs.RunEnds.{RunLeaves}
-use Rattle.mot_server.specs.Runs.{accepted_commands}
-use Rattle.mot_server.specs.Server.{ServerView, place_in}
+use Rattle.mot_playout.specs.RunEnds.{RunLeaves}
+use Rattle.mot_playout.specs.Runs.{accepted_commands}
+use Rattle.mot_playout.specs.Server.{ServerView, place_in}
 use Rattle.mot_update.specs.Between.{Telling, may_look}
 use Rattle.mot_update.specs.Faults.{IsUpdateFault}
 use Rattle.mot_update.specs.declared.moment.Moment.{Moment}
@@ -154,7 +154,7 @@ pub record HasFed {D : Type 0} (old new : ServerView D) (start now : State) (s :
   pub whole : fault ≡ None → length marks ≡ length commands
   pub layout : new.view.journal.layout ≡ old.view.journal.layout
   pub accepted : commands_among events ≡ accepted_commands commands marks
-  pub happened : Happen s.geometry.objects s.geometry.segment_size s.carousel (place_in old s)
+  pub happened : Happen s.geometry.objects s.geometry.segment s.carousel (place_in old s)
       events leaves.last.carousel (place_in new leaves.last)
   pub rules : RulesAreKept s.geometry.objects s.carousel events
 

@@ -4,7 +4,7 @@ use Rattle.std.specs.Prelude.{◌&&◌, if◌then◌else◌}
 use Rattle.std.specs.Prelude.{List, [], ◌∷◌, Option, Some, None}
 use Rattle.mot_feed.specs.Feeding.{Accepted, Asked, Event, Played}
 use Rattle.mot_player.specs.Place.{Place, directory_packets}
-use Rattle.mot_server.specs.Server.{ServerView}
+use Rattle.mot_playout.specs.Server.{ServerView}
 
 -- how many packets go out before the directory is asked for again, at least ten times those that it
 -- takes itself

@@ -4,14 +4,14 @@ ghost use Rattle.disk_model.specs.Disk.{KeepsLength};
 ghost use Rattle.mot_feed.specs.Feeding.{Feeds, IsFeedFault, moment_at};
 ghost use Rattle.mot_journal.specs.Image.{Standing};
 ghost use Rattle.mot_repository.specs.Repository.{Holds};
-ghost use Rattle.mot_server.specs.Attempts.{fault_of};
+ghost use Rattle.mot_playout.specs.Attempts.{fault_of};
 ghost use Rattle.mot_update.specs.Faults.{StaysCalm};
 
 use crate::Outlet;
 use crate::sending::send_one;
 use disk_model::Disk;
 use mot_numbers::Refusal;
-use mot_server::Server;
+use mot_playout::Server;
 use mot_update::{Moment, Update};
 use std::alloc::Global;
 

@@ -7,8 +7,8 @@ ghost use Rattle.mot_feed.specs.OnAir.{ChangedTurnsOnAirRead, TurnsOnAirRead};
 ghost use Rattle.mot_journal.specs.Image.{Standing};
 ghost use Rattle.mot_player.specs.Place.{hear_directory};
 ghost use Rattle.mot_repository.specs.Repository.{Agrees, Holds};
-ghost use Rattle.mot_server.specs.Attempts.{fault_of};
-ghost use Rattle.mot_server.specs.Server.{following_server, place_in};
+ghost use Rattle.mot_playout.specs.Attempts.{fault_of};
+ghost use Rattle.mot_playout.specs.Server.{following_server, place_in};
 ghost use Rattle.mot_update.specs.Faults.{StaysCalm};
 
 use crate::Outlet;
@@ -16,7 +16,7 @@ use crate::feeding::{feed, moment_at};
 use crate::sending::send_one;
 use disk_model::Disk;
 use mot_numbers::Refusal;
-use mot_server::Server;
+use mot_playout::Server;
 use mot_update::Update;
 use std::alloc::Global;
 

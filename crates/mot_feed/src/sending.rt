@@ -5,13 +5,13 @@ ghost use Rattle.mot_feed.specs.Feeding.{IsFeedFault};
 ghost use Rattle.mot_feed.specs.Sending.{SendsPacket};
 ghost use Rattle.mot_journal.specs.Image.{Standing};
 ghost use Rattle.mot_repository.specs.Repository.{Holds};
-ghost use Rattle.mot_server.specs.Server.{place_in};
+ghost use Rattle.mot_playout.specs.Server.{place_in};
 
 use crate::Outlet;
 use disk_model::Disk;
 use mot_numbers::Refusal;
 use mot_packets::Packet;
-use mot_server::Server;
+use mot_playout::Server;
 
 /// Sends the next packet by the order of sending, in one write; whether it ends a turn. It is
 /// refused by `WriteFault`, if the outlet failed or took less than the packet, and as

@@ -15,11 +15,11 @@ use Rattle.mot_objects.specs.declared.command.Command.{Command}
 use Rattle.mot_objects.specs.declared.command.Done.{Done}
 use Rattle.mot_repository.specs.Answers.{IsAnswered}
 use Rattle.mot_repository.specs.Repository.{RepositoryView}
-use Rattle.mot_server.specs.Attempts as attempts
-use Rattle.mot_server.specs.Runs.{accepted_commands}
-use Rattle.mot_server.specs.Server.{ServerView}
-use Rattle.mot_server.specs.declared.running.Attempt.{Attempt}
-use Rattle.mot_server.specs.declared.running.Attempt.TheVariants.{Accepted, Refused}
+use Rattle.mot_playout.specs.Attempts as attempts
+use Rattle.mot_playout.specs.Runs.{accepted_commands}
+use Rattle.mot_playout.specs.Server.{ServerView}
+use Rattle.mot_playout.specs.declared.running.Attempt.{Attempt}
+use Rattle.mot_playout.specs.declared.running.Attempt.TheVariants.{Accepted, Refused}
 use Rattle.mot_session.specs.OnAnyDisk.{AnswersAnyhow}
 use Rattle.mot_session.proofs.Laws.{anyhow-accepted, anyhow-refused}
 use Rattle.mot_update.specs.Faults.{StaysCalm, IsUpdateFault, TellsFaults}

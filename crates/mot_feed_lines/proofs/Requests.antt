@@ -4,6 +4,7 @@ use Rattle.std.proofs.Common.{◌∷◌, None, Result, Ok, Err, refl, sym, ap, s
 use Rattle.std.specs.Prelude.{if◌then◌else◌}
 use Rattle.disk_model.specs.Disk.{State, IsHonestDisk}
 use Rattle.disk_model.proofs.Laws.{unchanged_none}
+use Rattle.mot_events.specs.Log.{Entry}
 use Rattle.mot_feed_lines.specs.Answering.{asked_here, is_want_of_memory, run_of}
 use Rattle.mot_feed_lines.specs.Inner.Request.{HasAnswered, done_of}
 use Rattle.mot_feed_lines.specs.Logged.{LogHas}
@@ -16,8 +17,8 @@ use Rattle.mot_numbers.specs.declared.refusal.Refusal.{Refusal}
 use Rattle.mot_numbers.specs.declared.refusal.Refusal.TheVariants.{OutOfMemory}
 use Rattle.mot_objects.specs.declared.command.Command.{Command}
 use Rattle.mot_repository.specs.Repository.{RepositoryView}
-use Rattle.mot_server.specs.Runs.{accepted_commands}
-use Rattle.mot_server.specs.Server.{ServerView}
+use Rattle.mot_playout.specs.Runs.{accepted_commands}
+use Rattle.mot_playout.specs.Server.{ServerView}
 use Rattle.mot_session.specs.Life.{is_done}
 use Rattle.mot_session.specs.OnAnyDisk.{AnswersAnyhow, read_only}
 use Rattle.mot_session.specs.OnAnyDisk as anyhow
@@ -61,16 +62,15 @@ runs_none request text =
 
 -- a request that was answered where the server is only read is answered here, with no fault
 pub shown : {D : Type 0} (state : D → State) (server : ServerView D)
-    (request : Result Line Refusal) (hand : List ℕ) (levels was_whole is_whole : Bool)
-    (written now : Option (List ℕ)) → ((state server.disk).IsHonest → IsHonestDisk (state server.disk))
+    (request : Result Line Refusal) (hand : List ℕ) {T : Type 0}
+    (Hears : T → List Entry → T → Type 0) (start now : T) → ((state server.disk).IsHonest → IsHonestDisk (state server.disk))
     → asked_here request ≡ read_only request
     → ((text : List ℕ) × AnswersAnyhow server.view server.view (state server.disk).failures
     (state server.disk).failures (read_only request) text
-    × LogHas levels hand text was_whole is_whole written now)
-    → HasAnswered state server server (asked_here request) hand None levels was_whole is_whole
-    written now
-shown state server request hand levels was_whole is_whole written now sound same told =
-    subst (λ r. HasAnswered state server server r hand None levels was_whole is_whole written now)
+    × LogHas Hears hand text start now)
+    → HasAnswered state server server (asked_here request) hand None Hears start now
+shown state server request hand Hears start now sound same told =
+    subst (λ r. HasAnswered state server server r hand None Hears start now)
     (sym same)
     (record {
       text = told.0;
@@ -145,11 +145,11 @@ same_done old new before now text request asked (inr e) reply =
 
 -- an answer to what was parsed is one to what was asked
 pub parsed : {D : Type 0} (state : D → State) (old new : ServerView D)
-    (request asked : Result Line Refusal) (hand : List ℕ) (fault : Option Refusal)
-    (levels was_whole is_whole : Bool) (written now : Option (List ℕ)) → IsParsed request asked
-    → HasAnswered state old new (asked_here request) hand fault levels was_whole is_whole written now
-    → HasAnswered state old new (asked_here asked) hand fault levels was_whole is_whole written now
-parsed state old new request asked hand fault levels was_whole is_whole written now is a =
+    (request asked : Result Line Refusal) (hand : List ℕ) (fault : Option Refusal) {T : Type 0}
+    (Hears : T → List Entry → T → Type 0) (start now : T) → IsParsed request asked
+    → HasAnswered state old new (asked_here request) hand fault Hears start now
+    → HasAnswered state old new (asked_here asked) hand fault Hears start now
+parsed state old new request asked hand fault Hears start now is a =
     let here = parsed_here request asked is in
     record {
       text = a.text;

@@ -3,12 +3,14 @@ use Rattle.std.proofs.Common.{◌≡◌, ◌∙◌, ℕ, Bool, List, [], ◌∷�
 use Rattle.std.proofs.Common.{refl, sym, ap, subst, append_assoc, append-nil, arith}
 use Rattle.std.specs.Prelude.{if◌then◌else◌, Result, Ok, Err}
 use Rattle.std.specs.List.{flat_map}
-use Rattle.std.proofs.KnownBytes.{Appends-nil, Appends-trans}
 use Rattle.std.proofs.lemmas.Grind.{flat_map-append}
 use Rattle.std.proofs.lemmas.List.{map-append}
 use Rattle.std.proofs.lemmas.List.Concat.{flat_map-cons}
 use Rattle.disk_model.specs.Disk.{State, IsHonestDisk}
 use Rattle.disk_model.proofs.Laws.{unchanged_none}
+use Rattle.mot_events.specs.Log.{Entry, HearsAll}
+use Rattle.mot_events.specs.declared.event.Event.{Event}
+use Rattle.mot_events.proofs.Laws.{hears_on}
 use Rattle.mot_feed_lines.specs.Answering.{AnswersMore, AreLogged, AreReplies, TakesMore}
 use Rattle.mot_feed_lines.specs.Answering.{asked_here, commands_run, run_in}
 use Rattle.mot_feed_lines.specs.Inner.Request.{HasAnswered, done_of}
@@ -20,9 +22,9 @@ use Rattle.mot_lines.proofs.Laws.{whole_lines-end, whole_lines-front}
 use Rattle.mot_lines.specs.declared.line.Line.{Line}
 use Rattle.mot_lines.specs.declared.line.Line.TheVariants as asks
 use Rattle.mot_numbers.specs.declared.refusal.Refusal.{Refusal}
-use Rattle.mot_server.proofs.Laws.{accepted-join}
-use Rattle.mot_server.specs.Runs.{accepted_commands}
-use Rattle.mot_server.specs.Server.{ServerView}
+use Rattle.mot_playout.proofs.Laws.{accepted-join}
+use Rattle.mot_playout.specs.Runs.{accepted_commands}
+use Rattle.mot_playout.specs.Server.{ServerView}
 use Rattle.mot_session.specs.Life.{Told, commands_done, done_in, is_done}
 use Rattle.mot_session.specs.OnAnyDisk.{AnswersAnyhow}
 use Rattle.mot_session.specs.Stored.{command_in}
@@ -87,26 +89,30 @@ done_here : (line text : List ℕ) → done_of (asked_here (line_of line)) text
 done_here line text =
     ap (λ l. if is_done text then l else []) (same_command (line_of line))
 
--- a log of lines and replies, and that of one more
-logged-push : (levels : Bool) (told : List Told) (t : Told) (bytes more : List ℕ)
-    → AreLogged levels told bytes → IsLogged levels (bytes_in_hand t.line) t.text more
-    → AreLogged levels (told ++ t ∷ []) (bytes ++ more)
-logged-push levels [] t bytes more none one = (
+-- what is told of lines and replies, and of one more
+logged-push : (told : List Told) (t : Told) (entries more : List Entry)
+    → AreLogged told entries → IsLogged (bytes_in_hand t.line) t.text more
+    → AreLogged (told ++ t ∷ []) (entries ++ more)
+logged-push [] t entries more none one = (
   more,
   [],
   one,
   refl,
   ap (λ l. l ++ more) none ∙ sym (append-nil more),
 )
-logged-push levels (first ∷ told) t bytes more is one = (
+logged-push (first ∷ told) t entries more is one = (
   is.0,
   is.1 ++ more,
   is.2,
-  logged-push levels told t is.1 more is.3 one,
+  logged-push told t is.1 more is.3 one,
   ap (λ l. l ++ more) is.4 ∙ append_assoc is.0 is.1 more,
 )
 
-module _ {D : Type 0} (state : D → State) where
+module _ {D : Type 0} (state : D → State) {T : Type 0} (hears : T → Event → T → Type 0)
+    (misses : T → T → Type 0) where
+  abbrev Hears : T → List Entry → T → Type 0
+  Hears = HearsAll hears misses
+
   replies-push : (old mid new : ServerView D) (told : List Told) (t : Told)
       → AreReplies state old told mid
       → AnswersAnyhow mid.view new.view (state mid.disk).failures (state new.disk).failures
@@ -124,11 +130,10 @@ module _ {D : Type 0} (state : D → State) where
   )
 
   -- no line has ended
-  pub more_none : (server : ServerView D) (before after : List ℕ) (levels is_whole : Bool)
-      (known : Option (List ℕ)) → ((state server.disk).IsHonest → IsHonestDisk (state server.disk))
+  pub more_none : (server : ServerView D) (before after : List ℕ) (known : T) → ((state server.disk).IsHonest → IsHonestDisk (state server.disk))
       → whole_lines after ≡ whole_lines before
-      → AnswersMore state server server before after None levels is_whole is_whole known known
-  more_none server before after levels is_whole known sound same = record {
+      → AnswersMore state server server before after None Hears known known
+  more_none server before after known sound same = record {
     told = [];
     ended = record {
       unanswered = [];
@@ -143,15 +148,15 @@ module _ {D : Type 0} (state : D → State) where
       (has_read server server (state server.disk) (state server.disk) s None (sound honest) refl
           refl honest (unchanged_none (state server.disk)) holds).0,
     );
-    log = λ e. (e, [], refl, Appends-nil known);
+    log = ([], refl, refl);
   }
 
   -- nor has any behind these
-  pub more_rest : (old new : ServerView D) (before after rest : List ℕ)
-      (levels was_whole is_whole : Bool) (written now : Option (List ℕ)) → whole_lines rest ≡ whole_lines after
-      → AnswersMore state old new before after None levels was_whole is_whole written now
-      → AnswersMore state old new before rest None levels was_whole is_whole written now
-  more_rest old new before after rest levels was_whole is_whole written now same more = record {
+  pub more_rest : (old new : ServerView D) (before after rest : List ℕ) (start now : T)
+      → whole_lines rest ≡ whole_lines after
+      → AnswersMore state old new before after None Hears start now
+      → AnswersMore state old new before rest None Hears start now
+  more_rest old new before after rest start now same more = record {
     told = more.told;
     ended = record {
       unanswered = more.ended.unanswered;
@@ -165,16 +170,15 @@ module _ {D : Type 0} (state : D → State) where
 
   -- one line more
   pub more_one : (old mid new : ServerView D) (before until after line : List ℕ)
-      (extra : List (List ℕ)) (fault : Option Refusal)
-      (levels was_whole whole_so is_whole : Bool) (written between now : Option (List ℕ))
+      (extra : List (List ℕ)) (fault : Option Refusal) (start between now : T)
       → ((state new.disk).IsHonest → (state mid.disk).IsHonest)
       → whole_lines after ≡ whole_lines until ++ line ∷ extra → (fault ≡ None → extra ≡ [])
-      → AnswersMore state old mid before until None levels was_whole whole_so written between
-      → HasAnswered state mid new (asked_here (line_of line)) (bytes_in_hand line) fault levels
-      whole_so is_whole between now
-      → AnswersMore state old new before after fault levels was_whole is_whole written now
-  more_one old mid new before until after line extra fault levels was_whole whole_so is_whole
-      written between now was same none more one =
+      → AnswersMore state old mid before until None Hears start between
+      → HasAnswered state mid new (asked_here (line_of line)) (bytes_in_hand line) fault Hears
+      between now
+      → AnswersMore state old new before after fault Hears start now
+  more_one old mid new before until after line extra fault start between now was same none more
+      one =
       let t : Told = record { line = line; text = one.text } in
       let lines : List (List ℕ) =
       whole_lines before ++ map (λ (u : Told). u.line) more.told in
@@ -205,28 +209,25 @@ module _ {D : Type 0} (state : D → State) where
                   (join old mid new (state old.disk) (state mid.disk) (state new.disk) s
                   (commands_run more.told) (run_in t) first.0 second.0 fault first.2 second.2),
             );
-        log = λ e.
-            let last = one.log e in
-            let first = more.log last.0 in (
-              first.0,
-              first.1 ++ last.1,
-              logged-push levels more.told t first.1 last.1 first.2 last.2,
-              Appends-trans written between now first.1 last.1 first.3 last.3,
-            );
+        log = (
+          more.log.0 ++ one.log.0,
+          logged-push more.told t more.log.0 one.log.0 more.log.1 one.log.1,
+          hears_on hears misses start between now more.log.0 one.log.0 more.log.2 one.log.2,
+        );
       }
 
   -- nothing was taken
-  pub takes_none : (server : ServerView D) (before hand : List ℕ) (levels is_whole : Bool)
-      (known : Option (List ℕ))
+  pub takes_none : (server : ServerView D) (before hand : List ℕ) (known : T)
       → ((state server.disk).IsHonest → IsHonestDisk (state server.disk))
       → hand ≡ bytes_in_hand (rest_of before)
-      → TakesMore state server server before [] None hand levels is_whole is_whole known known
-  takes_none server before hand levels is_whole known sound is = record {
+      → TakesMore state server server before [] None hand Hears known known
+  takes_none server before hand known sound is = record {
     short = omega arith;
-    whole_so = is_whole;
+    notices = [];
+    are_of_files = tt;
     so_far = known;
-    read = λ e. (e, [], Appends-nil known);
-    answers = more_none server before (before ++ []) levels is_whole known sound
+    read = refl;
+    answers = more_none server before (before ++ []) known sound
         (ap whole_lines (append-nil before));
     in_hand = λ e. is ∙ ap (λ l. bytes_in_hand (rest_of l)) (sym (append-nil before));
   }

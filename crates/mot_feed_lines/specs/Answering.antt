@@ -1,11 +1,10 @@
 -- What lines are answered that come between the packets of a feed.
-use Rattle.std.specs.Prelude.{◌≡◌, ◌≢◌, ◌⊎◌, ℕ, ◌<◌, ◌≤◌, Bool, true, bytes_eq, if◌then◌else◌}
+use Rattle.std.specs.Prelude.{◌≡◌, ◌≢◌, ◌⊎◌, ℕ, ◌<◌, ◌≤◌, Bool, bytes_eq, if◌then◌else◌}
 use Rattle.std.specs.Prelude.{List, [], ◌∷◌, ◌++◌}
 use Rattle.std.specs.Prelude.{length, map, Option, None, Result, Ok, zero, suc}
 use Rattle.std.specs.List.{flat_map}
-use Rattle.std.specs.Io.KnownBytes.{Appends}
 use Rattle.disk_model.specs.Disk.{State}
-use Rattle.mot_events.specs.Log.{HasGrown}
+use Rattle.mot_events.specs.Log.{AreOfFiles, Entry}
 use Rattle.mot_feed_lines.specs.Logged.{IsLogged}
 use Rattle.mot_journal.specs.Image.{Standing}
 use Rattle.mot_lines.specs.Hand.{bytes_in_hand}
@@ -19,8 +18,8 @@ use Rattle.mot_numbers.specs.declared.refusal.Refusal.TheVariants.{OutOfMemory}
 use Rattle.mot_objects.specs.Carousel.{Carousel}
 use Rattle.mot_objects.specs.declared.command.Command as command
 use Rattle.mot_repository.specs.Repository.{Holds}
-use Rattle.mot_server.specs.Runs.{accepted_commands}
-use Rattle.mot_server.specs.Server.{ServerView}
+use Rattle.mot_playout.specs.Runs.{accepted_commands}
+use Rattle.mot_playout.specs.Server.{ServerView}
 use Rattle.mot_session.specs.Life.{Told, commands_done}
 use Rattle.mot_session.specs.OnAnyDisk.{AnswersAnyhow, read_only}
 use Rattle.mot_session.specs.Stored.{command_in}
@@ -59,69 +58,85 @@ pub record HaveEnded (before after : List ℕ) (told : List Told) (fault : Optio
 abbrev pub IsInHand : List ℕ → Type 0
 IsInHand hand = hand ≡ bytes_in_hand (rest_of hand)
 
--- Behind what earlier reads gave one more read gave this, and behind what was in hand these lines
--- have ended with it: these are their commands, and those of them were accepted whose replies say
--- so.
-pub record AreOfLines (hand then_hand : List ℕ) (earlier later : List (List ℕ))
-    (commands : List command.Command) (marks : List Bool) (fault : Option Refusal) :
-    Type 0 where
-  pub more : List ℕ
-  pub given : later ≡ earlier ++ more ∷ []
-  pub told : List Told
-  pub ended : HaveEnded hand (hand ++ more) told fault
-  pub are : commands ≡ commands_run told
-  pub accepted : accepted_commands commands marks ≡ commands_done told
-  pub in_hand : fault ≡ None → then_hand ≡ bytes_in_hand (rest_of (hand ++ more))
+-- what is told of these lines and replies, one after the other
+abbrev pub AreLogged : List Told → List Entry → Type 0
+AreLogged [] entries = entries ≡ []
+AreLogged (t ∷ told) entries =
+    (first rest : List Entry) × IsLogged (bytes_in_hand t.line) t.text first
+    × AreLogged told rest × (entries ≡ first ++ rest)
 
--- what is told of lines where the hand has what comes behind a line end
-abbrev pub TellsLines : (hand then_hand : List ℕ) → (earlier later : List (List ℕ))
-    → List command.Command → List Bool → Option Refusal → Type 0
-TellsLines hand then_hand earlier later commands marks fault =
-    IsInHand hand → AreOfLines hand then_hand earlier later commands marks fault
+-- Who is told of lines was before, and is now. By what is told one after the other Hears says.
+module _ {T : Type 0} (Hears : T → List Entry → T → Type 0) where
+  -- First what is wrong with files was told, and then these lines with their replies.
+  pub record TellsRead (told : List Told) (before now : T) : Type 0 where
+    pub notices : List Entry
+    pub are_of_files : AreOfFiles notices
+    pub middle : T
+    pub noticed : Hears before notices middle
+    pub entries : List Entry
+    pub logged : AreLogged told entries
+    pub heard : Hears middle entries now
 
--- What is told of a call before which so many more come: what the other update tells, where that
--- broke off or none of the lines was due, nothing is read, and the hand stays; or that, and behind
--- it what is told of the lines.
-pub data TellsBetween (left : ℕ) (hand then_hand : List ℕ) (earlier later : List (List ℕ))
-    (other : Telling) (c : Carousel) :
-    List command.Command → List Bool → Option Refusal → Type 0 where
-  other_alone : (commands : List command.Command) (marks : List Bool) (fault : Option Refusal)
-      → (0 < left) ⊎ (fault ≢ None) → then_hand ≡ hand → later ≡ earlier
-      → other c commands marks fault
-      → TellsBetween left hand then_hand earlier later other c commands marks fault
-  then_lines : (commands others : List command.Command) (marks rest : List Bool)
-      (fault : Option Refusal) → left ≡ 0 → other c commands marks None
-      → TellsLines hand then_hand earlier later others rest fault
-      → TellsBetween left hand then_hand earlier later other c (commands ++ others)
-      (marks ++ rest) fault
+  -- Behind what earlier reads gave one more read gave this, and behind what was in hand these lines
+  -- have ended with it: these are their commands, and those of them were accepted whose replies say
+  -- so; and that was told.
+  pub record AreOfLines (before now : T) (hand then_hand : List ℕ) (earlier later : List (List ℕ))
+      (commands : List command.Command) (marks : List Bool) (fault : Option Refusal) :
+      Type 0 where
+    pub more : List ℕ
+    pub given : later ≡ earlier ++ more ∷ []
+    pub told : List Told
+    pub ended : HaveEnded hand (hand ++ more) told fault
+    pub are : commands ≡ commands_run told
+    pub accepted : accepted_commands commands marks ≡ commands_done told
+    pub in_hand : fault ≡ None → then_hand ≡ bytes_in_hand (rest_of (hand ++ more))
+    pub tells : TellsRead told before now
+
+  -- what is told of lines where the hand has what comes behind a line end
+  abbrev pub TellsLines : (before now : T) (hand then_hand : List ℕ)
+      → (earlier later : List (List ℕ)) → List command.Command → List Bool → Option Refusal
+      → Type 0
+  TellsLines before now hand then_hand earlier later commands marks fault =
+      IsInHand hand → AreOfLines before now hand then_hand earlier later commands marks fault
+
+  -- What is told of a call before which so many more come: what the other update tells, where that
+  -- broke off or none of the lines was due, nothing is read, and the hand stays; or that, and behind
+  -- it what is told of the lines. The other update tells it of what was told up to there.
+  pub data TellsBetween (left : ℕ) (hand then_hand : List ℕ) (earlier later : List (List ℕ))
+      (other : T → Telling) (now : T) (c : Carousel) :
+      List command.Command → List Bool → Option Refusal → Type 0 where
+    other_alone : (commands : List command.Command) (marks : List Bool) (fault : Option Refusal)
+        → (0 < left) ⊎ (fault ≢ None) → then_hand ≡ hand → later ≡ earlier
+        → other now c commands marks fault
+        → TellsBetween left hand then_hand earlier later other now c commands marks fault
+    then_lines : (middle : T) (commands others : List command.Command) (marks rest : List Bool)
+        (fault : Option Refusal) → left ≡ 0 → other middle c commands marks None
+        → TellsLines middle now hand then_hand earlier later others rest fault
+        → TellsBetween left hand then_hand earlier later other now c (commands ++ others)
+        (marks ++ rest) fault
 
 -- how many come before the next call that reads, behind one before which so many came
 abbrev pub late_behind : (between left : ℕ) → ℕ
 late_behind between zero = between
 late_behind between (suc left) = left
 
--- The same of a call where so many come between two that read, before which so many more came and
--- behind which so many come, up to a fault.
-abbrev pub TellsInTurn : (between left then_left : ℕ) → (hand then_hand : List ℕ)
-    → (earlier later : List (List ℕ)) → (other : Telling) → Telling
-TellsInTurn between left then_left hand then_hand earlier later other c commands marks fault =
-    (fault ≡ None → then_left ≡ late_behind between left)
-    × TellsBetween left hand then_hand earlier later other c commands marks fault
+module _ {T : Type 0} (Hears : T → List Entry → T → Type 0) where
+  -- The same of a call where so many come between two that read, before which so many more came and
+  -- behind which so many come, up to a fault.
+  abbrev pub TellsInTurn : (between left then_left : ℕ) → (hand then_hand : List ℕ)
+      → (earlier later : List (List ℕ)) → (other : T → Telling) → (now : T) → Telling
+  TellsInTurn between left then_left hand then_hand earlier later other now c commands marks fault =
+      (fault ≡ None → then_left ≡ late_behind between left)
+      × TellsBetween Hears left hand then_hand earlier later other now c commands marks fault
 
--- calls that go on, with so many between two that read
-abbrev pub TellsOnTime : (between then_between left then_left : ℕ) → (hand then_hand : List ℕ)
-    → (earlier later : List (List ℕ)) → (other : Telling) → Telling
-TellsOnTime between then_between left then_left hand then_hand earlier later other c commands marks
-    fault =
-    (then_between ≡ between)
-    × TellsInTurn between left then_left hand then_hand earlier later other c commands marks fault
-
--- what a log has of these lines and replies, one after the other
-abbrev pub AreLogged : (levels : Bool) → List Told → (bytes : List ℕ) → Type 0
-AreLogged levels [] bytes = bytes ≡ []
-AreLogged levels (t ∷ told) bytes =
-    (first rest : List ℕ) × IsLogged levels (bytes_in_hand t.line) t.text first
-    × AreLogged levels told rest × (bytes ≡ first ++ rest)
+  -- calls that go on, with so many between two that read
+  abbrev pub TellsOnTime : (between then_between left then_left : ℕ) → (hand then_hand : List ℕ)
+      → (earlier later : List (List ℕ)) → (other : T → Telling) → (now : T) → Telling
+  TellsOnTime between then_between left then_left hand then_hand earlier later other now c commands
+      marks fault =
+      (then_between ≡ between)
+      × TellsInTurn between left then_left hand then_hand earlier later other now c commands marks
+      fault
 
 module _ {D : Type 0} (state : D → State) where
   -- one after the other each reply is, on every disk, right for what the server kept in memory
@@ -134,10 +149,10 @@ module _ {D : Type 0} (state : D → State) where
       × AreReplies mid told new
 
   -- Of an input that was taken before, each line that has ended since was answered, up to a fault;
-  -- their commands were run, of which those were accepted whose replies say so; and, where the log
-  -- is whole, it has each of them with its reply, and nothing else.
+  -- their commands were run, of which those were accepted whose replies say so; and each of them
+  -- was told with its reply, and nothing else.
   pub record AnswersMore (old new : ServerView D) (before after : List ℕ) (fault : Option Refusal)
-      (levels was_whole is_whole : Bool) (written now : Option (List ℕ)) : Type 0 where
+      {T : Type 0} (Hears : T → List Entry → T → Type 0) (start now : T) : Type 0 where
     pub told : List Told
     pub ended : HaveEnded before after told fault
     pub replies : AreReplies old told new
@@ -145,34 +160,32 @@ module _ {D : Type 0} (state : D → State) where
         → (marks : List Bool)
         × (accepted_commands (commands_run told) marks ≡ commands_done told)
         × HasRun old new (state old.disk) (state new.disk) s (commands_run told) marks fault
-    pub log : is_whole ≡ true → (was_whole ≡ true) × (bytes : List ℕ)
-        × AreLogged levels told bytes × Appends written now bytes
+    pub log : (entries : List Entry) × AreLogged told entries × Hears start entries now
 
   -- A read gave so much more of an input, of which the rest behind its last line end was in hand,
   -- and told what is wrong with files; its lines were answered; and then the new rest is in hand.
   pub record TakesMore (old new : ServerView D) (before more : List ℕ) (fault : Option Refusal)
-      (hand : List ℕ) (levels was_whole is_whole : Bool) (written now : Option (List ℕ)) :
+      (hand : List ℕ) {T : Type 0} (Hears : T → List Entry → T → Type 0) (start now : T) :
       Type 0 where
     pub short : length more ≤ READ_SIZE
-    pub whole_so : Bool
-    pub so_far : Option (List ℕ)
-    pub read : HasGrown was_whole whole_so written so_far
-    pub answers : AnswersMore old new before (before ++ more) fault levels whole_so is_whole so_far
-        now
+    pub notices : List Entry
+    pub are_of_files : AreOfFiles notices
+    pub so_far : T
+    pub read : Hears start notices so_far
+    pub answers : AnswersMore old new before (before ++ more) fault Hears so_far now
     pub in_hand : fault ≡ None → hand ≡ bytes_in_hand (rest_of (before ++ more))
 
-  -- Another update was called, and then more was taken of one read, or nothing was read.
-  pub record TakesBetween (other : Telling) (old new : ServerView D) (before : List ℕ)
-      (earlier later : List (List ℕ)) (hand : List ℕ) (is_whole : Bool) (now : Option (List ℕ)) :
-      Type 0 where
+  -- Another update was called, and told up to there, and then more was taken of one read, or nothing
+  -- was read.
+  pub record TakesBetween (old new : ServerView D) (before : List ℕ)
+      (earlier later : List (List ℕ)) (hand : List ℕ) {T : Type 0} (other : T → Telling)
+      (Hears : T → List Entry → T → Type 0) (now : T) : Type 0 where
     pub mid : ServerView D
+    pub start : T
     pub stopped : Option Refusal
     pub updated : (s : Standing) → Holds old.view s (state old.disk) → (state mid.disk).IsHonest
-        → IsUpdating other old mid (state old.disk) (state mid.disk) s stopped
+        → IsUpdating (other start) old mid (state old.disk) (state mid.disk) s stopped
     pub more : List ℕ
     pub given : (later ≡ earlier ++ more ∷ []) ⊎ ((later ≡ earlier) × (more ≡ []))
     pub fault : Option Refusal
-    pub levels : Bool
-    pub was_whole : Bool
-    pub written : Option (List ℕ)
-    pub takes : TakesMore mid new before more fault hand levels was_whole is_whole written now
+    pub takes : TakesMore mid new before more fault hand Hears start now

@@ -1,9 +1,8 @@
--- What a log has of lines and the replies to them.
+-- What is told of lines and the replies to them.
 use Rattle.std.specs.Prelude.{◌≡◌, ℕ, ◌≤◌, Bool, true, false, bytes_eq, nat_eq}
-use Rattle.std.specs.Prelude.{if◌then◌else◌, All, List, [], ◌∷◌, ◌++◌, Option, codes, length}
-use Rattle.std.specs.Io.KnownBytes.{Appends}
-use Rattle.std.specs.List.{flat_map}
-use Rattle.mot_events.specs.Text.{logged}
+use Rattle.std.specs.Prelude.{if◌then◌else◌, All, List, [], ◌∷◌, ◌++◌, codes, length, map}
+use Rattle.mot_events.specs.Log.{Entry, is_complete}
+use Rattle.mot_events.specs.Log.Entry.{of}
 use Rattle.mot_events.specs.declared.event.Asked.{Asked}
 use Rattle.mot_events.specs.declared.event.Asked.TheVariants as asked
 use Rattle.mot_events.specs.declared.event.Event.{Event}
@@ -97,15 +96,14 @@ pub data AreAnswers (line text : List ℕ) : List Event → Type 0 where
       → Answers line (IsRefused refusal) e → AreAnswers line text (e ∷ [])
   shown : (events : List Event) → AreShown line text events → AreAnswers line text events
 
--- what a log has of a line with this reply
-pub record IsLogged (levels : Bool) (line text bytes : List ℕ) : Type 0 where
-  pub events : List Event
-  pub tell : AreAnswers line text events
-  pub lines : bytes ≡ flat_map (logged levels) events
+-- what is told of a line with this reply: that, if nothing is left out
+abbrev pub IsLogged : (line text : List ℕ) → List Entry → Type 0
+IsLogged line text entries = is_complete entries ≡ true
+    → (events : List Event) × (entries ≡ map of events) × AreAnswers line text events
 
--- a log that is whole was whole, and has that of the line, and no more
-abbrev pub LogHas : (levels : Bool) (line text : List ℕ) (was_whole is_whole : Bool)
-    (old new : Option (List ℕ)) → Type 0
-LogHas levels line text was_whole is_whole old new =
-    is_whole ≡ true → (was_whole ≡ true) × (bytes : List ℕ)
-    × IsLogged levels line text bytes × Appends old new bytes
+-- This was told of a line with its reply, and nothing else. By what is told one after the other
+-- Hears says.
+abbrev pub LogHas : {T : Type 0} (Hears : T → List Entry → T → Type 0) (line text : List ℕ)
+    (old new : T) → Type 0
+LogHas Hears line text old new =
+    (entries : List Entry) × IsLogged line text entries × Hears old entries new

@@ -1,10 +1,11 @@
 //! Answering what there is of an inlet.
 ghost use Rattle.std.specs.Prelude.{◌≡◌, ◌++◌, ◌∷◌, ℕ, List, [], Ok, Err, None, IfNone, IfSome, ⊤};
 ghost use Rattle.disk_model.specs.Disk.{KeepsLength};
+ghost use Rattle.mot_events.specs.Log.{HearsAll};
 ghost use Rattle.mot_feed_lines.specs.Answering.{AnswersMore, TakesMore, TellsLines, asked_here};
 ghost use Rattle.mot_feed_lines.specs.Inner.Request.{HasAnswered, end_of};
 ghost use Rattle.mot_update.specs.Between.{IsUpdating};
-ghost use Rattle.mot_server.specs.Attempts.{fault_of};
+ghost use Rattle.mot_playout.specs.Attempts.{fault_of};
 ghost use Rattle.mot_journal.specs.Image.{Standing};
 ghost use Rattle.mot_lines.specs.Hand.{bytes_in_hand};
 ghost use Rattle.mot_lines.specs.Line.{line_of};
@@ -21,7 +22,7 @@ use mot_events::{Tells, Why};
 use mot_lines::{Line, cut_at_line_end, parse_line};
 use mot_numbers::Refusal;
 use mot_objects::Command;
-use mot_server::{Attempt, Server};
+use mot_playout::{Attempt, Server};
 use mot_session::READ_SIZE;
 use mot_shelf::Inlet;
 use std::alloc::Global;
@@ -43,15 +44,14 @@ pub fn answer_there<R: Inlet, T: Tells, D: Disk>(
         (D.state server.old.disk) (D.state server.new.disk) result }
     ensures run { (s : Standing) → Holds server.old.view s (D.state server.old.disk)
         → (D.state server.new.disk).IsHonest
-        → IsUpdating (λ _. TellsLines intake.old.hand intake.new.hand
-        (R.gave reader.old) (R.gave reader.new)) server.old server.new
+        → IsUpdating (λ _. TellsLines (HearsAll T.hears T.misses) log.old log.new
+        intake.old.hand intake.new.hand (R.gave reader.old) (R.gave reader.new))
+        server.old server.new
         (D.state server.old.disk) (D.state server.new.disk) s (fault_of result) }
     ensures answered { (input : List ℕ) → intake.old.hand ≡ bytes_in_hand (rest_of input)
         → (more : List ℕ) × (R.gave reader.new ≡ R.gave reader.old ++ more ∷ [])
         × TakesMore D.state server.old server.new input more (fault_of result) intake.new.hand
-        (T.log_has_levels log.old) (T.log_is_whole log.old)
-        (T.log_is_whole log.new) (T.log_has log.old) (T.log_has log.new) }
-    ensures levels { T.log_has_levels log.new ≡ T.log_has_levels log.old }
+        (HearsAll T.hears T.misses) log.old log.new }
 {
     let mut chunk = [0u8; READ_SIZE];
     let count = reader.read(&mut chunk, &mut intake.count, log);
@@ -75,9 +75,7 @@ fn answer_chunk<T: Tells, D: Disk>(
         (D.state server.old.disk) (D.state server.new.disk) s (fault_of result) }
     ensures answered { (input : List ℕ) → intake.old.hand ≡ bytes_in_hand (rest_of input)
         → AnswersMore D.state server.old server.new input (input ++ chunk.now) (fault_of result)
-        (T.log_has_levels log.old) (T.log_is_whole log.old)
-        (T.log_is_whole log.new) (T.log_has log.old) (T.log_has log.new) }
-    ensures levels { T.log_has_levels log.new ≡ T.log_has_levels log.old }
+        (HearsAll T.hears T.misses) log.old log.new }
     ensures in_hand { fault_of result ≡ None
         → (input : List ℕ) → intake.old.hand ≡ bytes_in_hand (rest_of input)
         → intake.new.hand ≡ bytes_in_hand (rest_of (input ++ chunk.now)) }
@@ -110,9 +108,7 @@ fn answer_line<T: Tells, D: Disk>(
     ensures answered { (line : List ℕ) → intake.old.hand ≡ bytes_in_hand line
         → HasAnswered D.state server.old server.new (asked_here (line_of line))
         (bytes_in_hand line) (fault_of result)
-        (T.log_has_levels log.old) (T.log_is_whole log.old)
-        (T.log_is_whole log.new) (T.log_has log.old) (T.log_has log.new) }
-    ensures levels { T.log_has_levels log.new ≡ T.log_has_levels log.old }
+        (HearsAll T.hears T.misses) log.old log.new }
     ensures hand { intake.new.hand ≡ intake.old.hand }
 {
     intake.count.add();
@@ -132,9 +128,7 @@ fn answer_request<T: Tells, D: Disk>(
     ensures faults { TellsFaults server.old server.new
         (D.state server.old.disk) (D.state server.new.disk) result }
     ensures answered { HasAnswered D.state server.old server.new (asked_here request.now)
-        intake.now.hand (fault_of result) (T.log_has_levels log.old) (T.log_is_whole log.old)
-        (T.log_is_whole log.new) (T.log_has log.old) (T.log_has log.new) }
-    ensures levels { T.log_has_levels log.new ≡ T.log_has_levels log.old }
+        intake.now.hand (fault_of result) (HearsAll T.hears T.misses) log.old log.new }
 {
     match command_of(request) {
         Some(command) => answer_command(alloc, command, intake, log, server),
@@ -182,9 +176,7 @@ fn answer_command<T: Tells, D: Disk>(
     ensures faults { TellsFaults server.old server.new
         (D.state server.old.disk) (D.state server.new.disk) result }
     ensures answered { HasAnswered D.state server.old server.new (Ok (asks.Command command.now))
-        intake.now.hand (fault_of result) (T.log_has_levels log.old) (T.log_is_whole log.old)
-        (T.log_is_whole log.new) (T.log_has log.old) (T.log_has log.new) }
-    ensures levels { T.log_has_levels log.new ≡ T.log_has_levels log.old }
+        intake.now.hand (fault_of result) (HearsAll T.hears T.misses) log.old log.new }
 {
     if server.halted() {
         tell_refused(intake, log, Refusal::Halted, &Why::Unsaid);

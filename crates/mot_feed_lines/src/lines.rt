@@ -1,14 +1,16 @@
 //! Lines between the packets of a feed.
 ghost use Rattle.std.specs.Prelude.{◌≡◌, ◌<◌, ◌-◌, ◌↔◌, [], ℕ, IsTrue, List, true, OnOk};
 ghost use Rattle.disk_model.specs.Disk.{KeepsLength};
+ghost use Rattle.mot_events.specs.Log.{HearsAll};
 ghost use Rattle.mot_feed_lines.specs.Answering.{TakesBetween, TellsOnTime};
 ghost use Rattle.mot_update.specs.Between.{IsUpdating};
-ghost use Rattle.mot_server.specs.Attempts.{fault_of};
+ghost use Rattle.mot_playout.specs.Attempts.{fault_of};
 ghost use Rattle.mot_journal.specs.Image.{Standing};
 ghost use Rattle.mot_lines.specs.Hand.{bytes_in_hand};
 ghost use Rattle.mot_lines.specs.Lines.{rest_of};
 ghost use Rattle.mot_repository.specs.Repository.{Holds};
 ghost use Rattle.mot_update.specs.Faults.{TellsFaults};
+ghost use Rattle.mot_update.specs.Watching.{TellsWatched};
 
 use crate::answering::answer_there;
 use crate::intake::Intake;
@@ -16,7 +18,7 @@ use crate::reported::Reported;
 use disk_model::Disk;
 use mot_lines::Hand;
 use mot_numbers::Refusal;
-use mot_server::Server;
+use mot_playout::Server;
 use mot_shelf::{Inlet, LineCount};
 use mot_update::{Facts, Moment, Update, Watch};
 use std::alloc::Global;
@@ -64,12 +66,14 @@ impl<R: Inlet + Drop, U: Update + Facts + Drop, T: Watch + Drop> Lines<R, U, T> 
         }
     }
 
-    /// What gives the lines, and the other update.
-    pub fn into_parts(self) -> (R, U)
+    /// What gives the lines, the other update, and what was told of both.
+    pub fn into_parts(self) -> (R, U, T)
         ensures reader { result.0 ≡ self.reader }
         ensures update { result.1 ≡ self.reported.update }
+        ensures watch { result.2 ≡ self.reported.watch }
     {
-        (self.reader, self.reported.into_update())
+        let (update, watch) = self.reported.into_parts();
+        (self.reader, update, watch)
     }
 
     /// Whether each line of which something was read was read to its end, and so was answered.
@@ -83,9 +87,11 @@ impl<R: Inlet + Drop, U: Update + Facts + Drop, T: Watch + Drop> Lines<R, U, T> 
 
 impl<R: Inlet + Drop, U: Update + Facts + Drop, T: Watch + Drop> Update for Lines<R, U, T> {
     // What the other update tells; and, where a read was due, what the lines do behind it.
-    ghost tells = { λ old new moment. TellsOnTime old.between new.between old.left new.left
-        old.intake.hand new.intake.hand (R.gave old.reader) (R.gave new.reader)
-        (U.tells old.reported.update new.reported.update moment) };
+    ghost tells = { λ old new moment. TellsOnTime (HearsAll T.hears T.misses)
+        old.between new.between old.left new.left old.intake.hand new.intake.hand
+        (R.gave old.reader) (R.gave new.reader)
+        (λ watch. TellsWatched T.begins T.ends old.reported.watch (U.known new.reported.update) watch
+        moment (U.tells old.reported.update new.reported.update moment)) new.reported.watch };
 
     fn update<D: Disk>(
         &mut self,
@@ -98,11 +104,14 @@ impl<R: Inlet + Drop, U: Update + Facts + Drop, T: Watch + Drop> Update for Line
             (D.state server.old.disk) (D.state server.new.disk) result }
         ensures run { (s : Standing) → Holds server.old.view s (D.state server.old.disk)
             → (D.state server.new.disk).IsHonest
-            → IsUpdating (TellsOnTime self.old.between self.new.between self.old.left self.new.left
+            → IsUpdating (TellsOnTime (HearsAll T.hears T.misses)
+            self.old.between self.new.between self.old.left self.new.left
             self.old.intake.hand self.new.intake.hand (R.gave self.old.reader)
             (R.gave self.new.reader)
+            (λ watch. TellsWatched T.begins T.ends self.old.reported.watch
+            (U.known self.new.reported.update) watch moment
             (U.tells self.old.reported.update self.new.reported.update moment))
-            server.old server.new (D.state server.old.disk) (D.state server.new.disk) s
+            self.new.reported.watch) server.old server.new (D.state server.old.disk) (D.state server.new.disk) s
             (fault_of result) }
 
         // It reads if a read is due, and else it only counts.
@@ -113,10 +122,12 @@ impl<R: Inlet + Drop, U: Update + Facts + Drop, T: Watch + Drop> Update for Line
 
         // What the inlet gave was answered, and nothing else was.
         ensures lines { (input : List ℕ) → self.old.intake.hand ≡ bytes_in_hand (rest_of input)
-            → TakesBetween D.state (U.tells self.old.reported.update self.new.reported.update moment)
-            server.old server.new input
+            → TakesBetween D.state server.old server.new input
             (R.gave self.old.reader) (R.gave self.new.reader) self.new.intake.hand
-            (T.log_is_whole self.new.reported.watch) (T.log_has self.new.reported.watch) }
+            (λ watch. TellsWatched T.begins T.ends self.old.reported.watch
+            (U.known self.new.reported.update) watch moment
+            (U.tells self.old.reported.update self.new.reported.update moment))
+            (HearsAll T.hears T.misses) self.new.reported.watch }
     {
         self.reported.update(server, alloc, moment)?;
         if self.left > 0 {

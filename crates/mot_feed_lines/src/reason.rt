@@ -1,6 +1,7 @@
 //! Why a line is refused, beside the number of the refusal.
 ghost use Rattle.std.specs.Prelude.{◌≡◌, Err, IfSome};
 ghost use Rattle.mot_feed_lines.specs.Inner.Reasons.{IsWhy, IsWrong, ends_with_return};
+ghost use Rattle.mot_feed_lines.specs.Inner.Reasons.{space_count, why_for, word_count, words_asked};
 ghost use Rattle.mot_session.specs.OnAnyDisk.{read_only};
 
 use crate::asked::command_of;
@@ -38,10 +39,48 @@ fn why_in(line: &[u8]) -> Why
         return Why::Return;
     }
     let (asked, _) = command_of(line);
-    match asked {
-        Asked::Other => Why::NoCommand,
-        _ => Why::Unsaid,
+    why_for(asked, word_count(line))
+}
+
+/// Why a line of so many words is wrong that asks for this.
+fn why_for(asked: Asked, count: u64) -> Why
+    ensures { result ≡ why_for asked count }
+{
+    let wanted = words_asked(asked);
+    if wanted == 0 {
+        Why::NoCommand
+    } else if count == wanted {
+        Why::Unsaid
+    } else {
+        Why::WordCount(count, wanted)
     }
+}
+
+/// How many words a command has, its first among them; 0 for what is no command.
+fn words_asked(asked: Asked) -> u64
+    ensures { result ≡ words_asked asked }
+{
+    match asked {
+        Asked::Put | Asked::Replace => 6,
+        Asked::Raw => 4,
+        Asked::Withdraw | Asked::Period | Asked::Next => 2,
+        Asked::List | Asked::Turn => 1,
+        Asked::Other => 0,
+    }
+}
+
+/// How many words a line has: one more than spaces.
+fn word_count(line: &[u8]) -> u64
+    ensures { result ≡ word_count line.now }
+{
+    (space_count(line) as u64).saturating_add(1)
+}
+
+/// How many spaces a line has.
+fn space_count(line: &[u8]) -> usize
+    ensures { result ≡ space_count line.now }
+{
+    line.iter().filter(|byte| **byte == b' ').count()
 }
 
 /// Whether the last byte is a carriage return.

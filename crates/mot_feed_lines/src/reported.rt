@@ -3,13 +3,14 @@ ghost use Rattle.std.specs.Prelude.{◌≡◌};
 ghost use Rattle.disk_model.specs.Disk.{KeepsLength};
 ghost use Rattle.mot_journal.specs.Image.{Standing};
 ghost use Rattle.mot_repository.specs.Repository.{Holds};
-ghost use Rattle.mot_server.specs.Attempts.{fault_of};
+ghost use Rattle.mot_playout.specs.Attempts.{fault_of};
 ghost use Rattle.mot_update.specs.Between.{IsUpdating};
 ghost use Rattle.mot_update.specs.Faults.{TellsFaults};
+ghost use Rattle.mot_update.specs.Watching.{TellsWatched};
 
 use disk_model::Disk;
 use mot_numbers::Refusal;
-use mot_server::Server;
+use mot_playout::Server;
 use mot_update::{Facts, Moment, Update, Watch};
 use std::alloc::Global;
 
@@ -23,17 +24,19 @@ pub struct Reported<U: Update + Facts + Drop, T: Watch + Drop> {
 }
 
 impl<U: Update + Facts + Drop, T: Watch + Drop> Reported<U, T> {
-    /// The updates.
-    pub fn into_update(self) -> U
-        ensures { result ≡ self.update }
+    /// The updates, and what was told of them.
+    pub fn into_parts(self) -> (U, T)
+        ensures update { result.0 ≡ self.update }
+        ensures watch { result.1 ≡ self.watch }
     {
-        self.update
+        (self.update, self.watch)
     }
 }
 
 impl<U: Update + Facts + Drop, T: Watch + Drop> Update for Reported<U, T> {
-    // What the updates tell.
-    ghost tells = { λ old new. U.tells old.update new.update };
+    // What the updates tell, and that who watches them was told of it.
+    ghost tells = { λ old new moment. TellsWatched T.begins T.ends old.watch
+        (U.known new.update) new.watch moment (U.tells old.update new.update moment) };
 
     fn update<D: Disk>(
         &mut self,
@@ -46,8 +49,14 @@ impl<U: Update + Facts + Drop, T: Watch + Drop> Update for Reported<U, T> {
             (D.state server.old.disk) (D.state server.new.disk) result }
         ensures run { (s : Standing) → Holds server.old.view s (D.state server.old.disk)
             → (D.state server.new.disk).IsHonest
-            → IsUpdating (U.tells self.old.update self.new.update moment) server.old server.new
+            → IsUpdating (TellsWatched T.begins T.ends self.old.watch (U.known self.new.update)
+            self.new.watch moment (U.tells self.old.update self.new.update moment))
+            server.old server.new
             (D.state server.old.disk) (D.state server.new.disk) s (fault_of result) }
+
+        // On every disk it was told of the update's beginning and of its end.
+        ensures watched { (begun : T) × T.begins self.old.watch server.old.view moment begun
+            × T.ends begun server.new.view (U.known self.new.update) self.new.watch }
     {
         self.watch.begin(server, alloc, moment);
         let result = self.update.update(server, alloc, moment);

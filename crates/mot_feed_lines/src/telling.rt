@@ -1,7 +1,10 @@
 //! Telling what lines were answered.
-ghost use Rattle.std.specs.Prelude.{◌≡◌, List, ℕ};
-ghost use Rattle.mot_feed_lines.specs.Inner.Request.{ShowsLines, TellsLine, reply_of};
-ghost use Rattle.mot_feed_lines.specs.Logged.{IsShown, LogHas};
+ghost use Rattle.std.specs.Prelude.{List, map, ℕ};
+ghost use Rattle.mot_events.specs.Log.{HearsAll};
+ghost use Rattle.mot_events.specs.Log.Entry.{of};
+ghost use Rattle.mot_events.specs.declared.event.Event.{Event};
+ghost use Rattle.mot_feed_lines.specs.Inner.Request.{reply_of};
+ghost use Rattle.mot_feed_lines.specs.Logged.{Answers, AreShown, IsShown, LogHas};
 ghost use Rattle.mot_lines.specs.Text.{done_line, refusal_line};
 ghost use Rattle.mot_session.specs.OnAnyDisk.{AnswersAnyhow, read_only};
 
@@ -13,15 +16,13 @@ use mot_events::{Event, Reply, Tells, Why};
 use mot_lines::{Line, cut_at_line_end};
 use mot_numbers::Refusal;
 use mot_objects::Done;
-use mot_server::{Attempt, Server};
+use mot_playout::{Attempt, Server};
 use mot_session::answer_reading;
 use std::alloc::Global;
 
 /// Tells that the command in hand was done.
 fn tell_done<T: Tells>(intake: &Intake, log: &mut T, done: Done)
-    ensures levels { T.log_has_levels log.new ≡ T.log_has_levels log.old }
-    ensures told { LogHas (T.log_has_levels log.old) intake.now.hand (done_line done)
-        (T.log_is_whole log.old) (T.log_is_whole log.new) (T.log_has log.old) (T.log_has log.new) }
+    ensures { LogHas (HearsAll T.hears T.misses) intake.now.hand (done_line done) log.old log.new }
 {
     let (asked, subject) = command_of(intake.hand.as_slice());
     let (file, number) = (intake.count.file(), intake.count.number);
@@ -35,9 +36,7 @@ pub(crate) fn tell_refused<'x, T: Tells>(
     refusal: Refusal,
     why: &'x Why,
 )
-    ensures levels { T.log_has_levels log.new ≡ T.log_has_levels log.old }
-    ensures told { LogHas (T.log_has_levels log.old) intake.now.hand (refusal_line refusal)
-        (T.log_is_whole log.old) (T.log_is_whole log.new) (T.log_has log.old) (T.log_has log.new) }
+    ensures { LogHas (HearsAll T.hears T.misses) intake.now.hand (refusal_line refusal) log.old log.new }
 {
     let (asked, subject) = command_of(intake.hand.as_slice());
     let (file, number) = (intake.count.file(), intake.count.number);
@@ -47,9 +46,8 @@ pub(crate) fn tell_refused<'x, T: Tells>(
 
 /// Tells a line that the line in hand asks for.
 fn tell_shown<'x, T: Tells>(intake: &'x Intake, log: &mut T, line: &'x [u8])
-    ensures levels { T.log_has_levels log.new ≡ T.log_has_levels log.old }
-    ensures told { TellsLine (T.log_has_levels log.old) intake.now.hand (IsShown line.now)
-        (T.log_is_whole log.old) (T.log_is_whole log.new) (T.log_has log.old) (T.log_has log.new) }
+    ensures { (e : Event) × Answers intake.now.hand (IsShown line.now) e
+        × T.hears log.old e log.new }
 {
     let (asked, subject) = command_of(intake.hand.as_slice());
     let (file, number) = (intake.count.file(), intake.count.number);
@@ -62,9 +60,7 @@ pub(crate) fn tell_attempt<T: Tells>(
     log: &mut T,
     attempt: &Result<Attempt, Refusal>,
 )
-    ensures levels { T.log_has_levels log.new ≡ T.log_has_levels log.old }
-    ensures told { LogHas (T.log_has_levels log.old) intake.now.hand (reply_of attempt.now)
-        (T.log_is_whole log.old) (T.log_is_whole log.new) (T.log_has log.old) (T.log_has log.new) }
+    ensures { LogHas (HearsAll T.hears T.misses) intake.now.hand (reply_of attempt.now) log.old log.new }
 {
     match attempt {
         Ok(Attempt::Accepted(done)) => tell_done(intake, log, *done),
@@ -81,12 +77,10 @@ pub(crate) fn show<T: Tells, D: Disk>(
     log: &mut T,
     server: &Server<D>,
 )
-    ensures levels { T.log_has_levels log.new ≡ T.log_has_levels log.old }
-    ensures told { (text : List ℕ) × AnswersAnyhow server.now.view server.now.view
+    ensures { (text : List ℕ) × AnswersAnyhow server.now.view server.now.view
         (D.state server.now.disk).failures (D.state server.now.disk).failures
         (read_only request.now) text
-        × LogHas (T.log_has_levels log.old) intake.now.hand text (T.log_is_whole log.old)
-        (T.log_is_whole log.new) (T.log_has log.old) (T.log_has log.new) }
+        × LogHas (HearsAll T.hears T.misses) intake.now.hand text log.old log.new }
 {
     match refusal_of(request) {
         Some(refusal) => {
@@ -105,12 +99,10 @@ fn show_text<T: Tells, D: Disk>(
     log: &mut T,
     server: &Server<D>,
 )
-    ensures levels { T.log_has_levels log.new ≡ T.log_has_levels log.old }
-    ensures told { (text : List ℕ) × AnswersAnyhow server.now.view server.now.view
+    ensures { (text : List ℕ) × AnswersAnyhow server.now.view server.now.view
         (D.state server.now.disk).failures (D.state server.now.disk).failures
         (read_only request.now) text
-        × LogHas (T.log_has_levels log.old) intake.now.hand text (T.log_is_whole log.old)
-        (T.log_is_whole log.new) (T.log_has log.old) (T.log_has log.new) }
+        × LogHas (HearsAll T.hears T.misses) intake.now.hand text log.old log.new }
 {
     let mut text = Vec::new(alloc);
     match answer_reading(alloc, request, &mut text, server) {
@@ -124,9 +116,8 @@ fn show_text<T: Tells, D: Disk>(
 
 /// Tells each line of a text.
 fn show_lines<T: Tells>(intake: &Intake, log: &mut T, text: &[u8])
-    ensures levels { T.log_has_levels log.new ≡ T.log_has_levels log.old }
-    ensures told { ShowsLines (T.log_has_levels log.old) intake.now.hand text.now
-        (T.log_is_whole log.old) (T.log_is_whole log.new) (T.log_has log.old) (T.log_has log.new) }
+    ensures { (events : List Event) × AreShown intake.now.hand text.now events
+        × HearsAll T.hears T.misses log.old (map of events) log.new }
 {
     let mut rest = text;
     while let Some((line, next)) = cut_at_line_end(rest) {

@@ -73,6 +73,7 @@ pub(crate) fn seen(answer: io::Result<Metadata>) -> Result<Seen, Fault>
             len: found.len(),
             written: time(found.mtime(), found.mtime_nsec()),
             changed: time(found.ctime(), found.ctime_nsec()),
+            block: block(&found),
         }),
         Err(error) => Err(fault(error)),
     }
@@ -89,6 +90,14 @@ fn kind(found: &Metadata) -> Kind
         it if it.is_fifo() => Kind::Pipe,
         _ => Kind::Special,
     }
+}
+
+/// The number of the block device that it stands for.
+fn block(found: &Metadata) -> Option<u64> {
+    if !found.file_type().is_block_device() {
+        return None;
+    }
+    Some(found.rdev())
 }
 
 /// The time of day, if it is known.

@@ -121,6 +121,7 @@ impl Folder {
             changed: Time {
                 nanos: node.changed as u128,
             },
+            block: None,
         })
     }
 

@@ -50,6 +50,8 @@ pub struct Seen {
     pub written: Time,
     /// When anything of it was changed last.
     pub changed: Time,
+    /// The number of the block device that it stands for, if it stands for one.
+    pub block: Option<u64>,
 }
 
 /// Why a call was refused.

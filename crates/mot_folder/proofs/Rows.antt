@@ -21,7 +21,7 @@ use Rattle.mot_folder.specs.declared.looking.TheConstants.{PACKETS, SOON}
 use Rattle.mot_numbers.specs.declared.refusal.Refusal.{Refusal}
 use Rattle.mot_numbers.specs.declared.refusal.Refusal.TheVariants.{EmptyBody, Halted, NoRoom}
 use Rattle.mot_numbers.specs.declared.refusal.Refusal.TheVariants.{ReadFault, TooManyObjects}
-use Rattle.mot_server.specs.declared.running.Attempt.TheVariants.{Accepted, Refused}
+use Rattle.mot_playout.specs.declared.running.Attempt.TheVariants.{Accepted, Refused}
 use Rattle.mot_suffixes.specs.Types.{known_types}
 use Rattle.mot_update.specs.Told.{Answer, Put, Replaced, Withdrew}
 

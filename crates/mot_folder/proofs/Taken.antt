@@ -32,7 +32,7 @@ use Rattle.mot_numbers.specs.declared.refusal.Refusal.{Refusal}
 use Rattle.mot_folder.specs.Taken.AreTaken.{no_file, one_refused, one_unread, one_wanted}
 use Rattle.mot_folder.specs.declared.report.Report.{Report}
 use Rattle.mot_objects.specs.Content.{ContentNumbers}
-use Rattle.mot_server.specs.declared.running.Attempt.TheVariants.{Accepted, Refused as WasRefused}
+use Rattle.mot_playout.specs.declared.running.Attempt.TheVariants.{Accepted, Refused as WasRefused}
 use Rattle.mot_shelf.specs.Given.{Given, and_missed, and_read}
 use Rattle.mot_suffixes.specs.Types.{SuffixType}
 use Rattle.mot_objects.specs.declared.command.Command.{Command}

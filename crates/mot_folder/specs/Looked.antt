@@ -1,7 +1,7 @@
 -- What a look at a folder does, and its log.
 use Rattle.std.specs.Prelude.{ℕ, ◌≡◌, ◌≢◌, ◌<◌, ◌≤◌, ◌⊎◌, ◌&&◌, ◌||◌, ◌-◌, nat_eq, nat_le, nat_lt}
 use Rattle.std.specs.Prelude.{Bool, true, false, ◌↔◌, not, if◌then◌else◌, List, [], ◌∷◌, ◌++◌}
-use Rattle.std.specs.Prelude.{length, map, Option, None, Some}
+use Rattle.std.specs.Prelude.{◌+◌, length, map, min, Option, None, Some}
 use Rattle.std.specs.List.{flat_map}
 use Rattle.disk_model.specs.Disk.{State}
 use Rattle.mot_events.specs.Text.{event_of}
@@ -22,7 +22,7 @@ use Rattle.mot_numbers.specs.declared.refusal.Refusal.TheVariants.{OutOfMemory, 
 use Rattle.mot_numbers.specs.declared.refusal.Refusal.TheVariants.{TooManyObjects}
 use Rattle.mot_objects.specs.Carousel.{Carousel}
 use Rattle.mot_objects.specs.declared.command.Command.{Command}
-use Rattle.mot_server.specs.Server.{ServerView}
+use Rattle.mot_playout.specs.Server.{ServerView}
 use Rattle.mot_shelf.specs.Given.{Given}
 use Rattle.mot_suffixes.specs.Types.{AreShown, SuffixType}
 use Rattle.mot_update.specs.Between.{may_look}
@@ -31,6 +31,7 @@ use Rattle.mot_update.specs.Laws.{IsUpdate}
 use Rattle.mot_update.specs.Looking.{AreAccepted}
 use Rattle.mot_update.specs.Told.{Answer, AreAnswers, AreAttemptsOf}
 use Rattle.mot_update.specs.Updating.{updating}
+use Rattle.mot_update.specs.Watching.{LooksKnown, looks_known}
 use Rattle.mot_update.specs.declared.moment.Moment.{Moment}
 use Rattle.mot_update.specs.declared.wanted.Wanted.{Wanted}
 
@@ -143,18 +144,25 @@ abbrev pub watch : List ℕ → List SuffixType → (allows : Bool) → (every :
 watch path types allows every within =
     record { path = path; types = types; allows = allows; every = every; within = within }
 
--- Looks so far: how many packets are to come before the next one, what the folder gave in each, and
--- whether anything was refused in one.
+-- Looks so far: how many packets are to come before the next one, what the folder gave in each,
+-- whether anything was refused in one, and what is known of the last ones.
 pub record LooksSoFar : Type 0 where
   pub left : ℕ
   pub given : List Given
   pub refused : Bool
+  pub known : LooksKnown
 
-abbrev pub so_far : ℕ → List Given → Bool → LooksSoFar
-so_far left given refused = record { left = left; given = given; refused = refused }
+abbrev pub so_far : ℕ → List Given → Bool → LooksKnown → LooksSoFar
+so_far left given refused known =
+    record { left = left; given = given; refused = refused; known = known }
+
+-- one more, which met these
+abbrev pub known_after : LooksKnown → List LookEvent → LooksKnown
+known_after old events =
+    looks_known (min (old.count + 1) 18446744073709551615) events old.events
 
 -- What is told of a call behind these looks, which are those then: no look was due there, and
--- nothing was done; or there was a further one.
+-- nothing was done; or there was a further one, of which all is known if no fault ended it.
 pub data TellsLooks (w : Watch) (moment : Moment) (old new : LooksSoFar) (c : Carousel)
     (commands : List Command) (marks : List Bool) (fault : Option Refusal) : Type 0 where
   no_look : is_look_due old.left (may_look moment) ≡ false
@@ -162,9 +170,9 @@ pub data TellsLooks (w : Watch) (moment : Moment) (old new : LooksSoFar) (c : Ca
       → commands ≡ [] → TellsLooks w moment old new c commands marks fault
   one_look : is_look_due old.left (may_look moment) ≡ true
       → (any_left : Bool) (given : Given) (names : List (List ℕ)) (wanted : List Wanted)
-      (fine : Bool) (entries : List LookEvent)
+      (fine : Bool) (entries met : List LookEvent) → (fault ≡ None → met ≡ entries)
       → new ≡ so_far (packets_left any_left w.every) (old.given ++ given ∷ [])
-      (old.refused || not fine)
+      (old.refused || not fine) (known_after old.known met)
       → IsLook w.types w.allows w.path given c commands marks fault names wanted fine entries
       → TellsLooks w moment old new c commands marks fault
 

@@ -23,7 +23,7 @@ use mot_events::{Deed, Why};
 use mot_files::Unread;
 use mot_numbers::Refusal;
 use mot_objects::{Body, MAX_BODY, Name};
-use mot_server::Attempt;
+use mot_playout::Attempt;
 use mot_shelf::Shelf;
 use mot_suffixes::{FileType, FileTypes};
 use mot_update::{Settled, Source, Wanted};
@@ -59,6 +59,7 @@ impl<'a, S: Shelf + Drop> Folder<'a, S> {
         ensures types { result.types.now ≡ types.now }
         ensures allows { result.allows_empty ≡ allows_empty }
         ensures listed { result.was_listed ≡ true }
+        ensures untold { result.report.events.items ≡ [] }
     {
         Folder {
             shelf,

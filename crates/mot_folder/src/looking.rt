@@ -17,8 +17,9 @@ ghost use Rattle.mot_update.specs.Faults.{TellsFaults};
 ghost use Rattle.mot_shelf.specs.Given.{Given};
 ghost use Rattle.mot_suffixes.specs.Types.{SuffixType};
 ghost use Rattle.mot_update.specs.Told.{Answer, TellsMore};
+ghost use Rattle.mot_update.specs.Watching.{looks_known};
 ghost use Rattle.mot_update.specs.declared.wanted.Wanted.{Wanted};
-ghost use Rattle.mot_server.specs.Attempts.{fault_of};
+ghost use Rattle.mot_playout.specs.Attempts.{fault_of};
 
 use crate::folder::Folder;
 use crate::listing::{FileNames, list, tell_unlisted};
@@ -27,7 +28,7 @@ use disk_model::Disk;
 use mot_events::{LookEvent, is_listed};
 use mot_numbers::Refusal;
 use mot_objects::Carousel;
-use mot_server::Server;
+use mot_playout::Server;
 use mot_shelf::{LookNotes, Shelf};
 use mot_suffixes::FileTypes;
 use mot_update::{Facts, Moment, Update, look};
@@ -255,8 +256,10 @@ impl<'a, S: Shelf + Drop> Update for Looks<'a, S> {
         old.within)
         (watch (S.path new.folder.shelf) new.folder.types.now new.folder.allows_empty new.every
         new.within)
-        moment (so_far old.left old.looks.all old.any_refused)
-        (so_far new.left new.looks.all new.any_refused) };
+        moment (so_far old.left old.looks.all old.any_refused
+        (looks_known old.count old.folder.report.events.items old.before.items))
+        (so_far new.left new.looks.all new.any_refused
+        (looks_known new.count new.folder.report.events.items new.before.items)) };
 
     fn update<D: Disk>(
         &mut self,
@@ -274,8 +277,11 @@ impl<'a, S: Shelf + Drop> Update for Looks<'a, S> {
             self.old.folder.allows_empty self.old.every self.old.within)
             (watch (S.path self.new.folder.shelf) self.new.folder.types.now
             self.new.folder.allows_empty self.new.every self.new.within)
-            moment (so_far self.old.left self.old.looks.all self.old.any_refused)
-            (so_far self.new.left self.new.looks.all self.new.any_refused))
+            moment (so_far self.old.left self.old.looks.all self.old.any_refused
+            (looks_known self.old.count self.old.folder.report.events.items self.old.before.items))
+            (so_far self.new.left self.new.looks.all self.new.any_refused
+            (looks_known self.new.count self.new.folder.report.events.items
+            self.new.before.items)))
             server.old server.new (D.state server.old.disk) (D.state server.new.disk) s
             (fault_of result) }
 
@@ -361,6 +367,9 @@ fn turn_over(report: &mut Report, before: &mut Vec<LookEvent>) -> bool
 }
 
 impl<'a, S: Shelf + Drop> Facts for Looks<'a, S> {
+    ghost known = { λ looks.
+        looks_known looks.count looks.folder.report.events.items looks.before.items };
+
     fn looks(&self) -> u64
         ensures { result ≡ self.now.count }
     {

@@ -8,14 +8,14 @@ ghost use Rattle.mot_folder.specs.Inner.Reasons.{TellsNoMore, TellsUnless, is_co
 ghost use Rattle.mot_folder.specs.Inner.Reasons.{why_not_stored, why_refused};
 ghost use Rattle.mot_folder.specs.Log.{BeginsAnew, ReportTells, TellsOne, answered, met_for};
 ghost use Rattle.mot_numbers.specs.declared.refusal.Refusal.TheVariants.{NoRoom, OutOfMemory};
-ghost use Rattle.mot_server.specs.declared.running.Attempt.TheVariants.{Accepted, Refused};
+ghost use Rattle.mot_playout.specs.declared.running.Attempt.TheVariants.{Accepted, Refused};
 ghost use Rattle.mot_update.specs.Told.{was_accepted};
 
 use disk_store::OpenFault;
 use mot_events::{Deed, LookEvent, Met, Skip, Why, Words};
 use mot_numbers::Refusal;
 use mot_objects::Done;
-use mot_server::Attempt;
+use mot_playout::Attempt;
 use std::alloc::{AllocError, Global};
 use std::io;
 
@@ -60,6 +60,7 @@ impl Report {
         ensures whole { result.any_left_out ≡ false }
         ensures anew { BeginsAnew result }
         ensures told { ReportTells result [] }
+        ensures none { result.events.items ≡ [] }
     {
         Report {
             alloc,

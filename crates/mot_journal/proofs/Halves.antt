@@ -50,36 +50,36 @@ geometry_beside_selector a b agree =
     let name : has_magic b ≡ has_magic a =
     ap (λ l. bytes_eq l magic) (part 8 1 a b agree 0 8 (omega arith)) in
     let of = geometry_at in
-    let all : of (number_at 16 2 b) (number_at 24 4 b) (number_at 18 2 b) (number_at 20 2 b)
-    (number_at 22 2 b)
-    ≡ of (number_at 16 2 a) (number_at 24 4 a) (number_at 18 2 a) (number_at 20 2 a)
-    (number_at 22 2 a) =
-    ap (λ x. of x (number_at 24 4 b) (number_at 18 2 b) (number_at 20 2 b) (number_at 22 2 b))
+    let all : of (number_at 16 2 b) (number_at 18 2 b) (number_at 20 2 b) (number_at 22 2 b)
+    (number_at 24 4 b)
+    ≡ of (number_at 16 2 a) (number_at 18 2 a) (number_at 20 2 a) (number_at 22 2 a)
+    (number_at 24 4 a) =
+    ap (λ x. of x (number_at 18 2 b) (number_at 20 2 b) (number_at 22 2 b) (number_at 24 4 b))
     (same 16 2 (omega arith))
-    ∙ ap (λ x. of (number_at 16 2 a) x (number_at 18 2 b) (number_at 20 2 b) (number_at 22 2 b))
-    (same 24 4 (omega arith))
-    ∙ ap (λ x. of (number_at 16 2 a) (number_at 24 4 a) x (number_at 20 2 b) (number_at 22 2 b))
+    ∙ ap (λ x. of (number_at 16 2 a) x (number_at 20 2 b) (number_at 22 2 b) (number_at 24 4 b))
     (same 18 2 (omega arith))
-    ∙ ap (λ x. of (number_at 16 2 a) (number_at 24 4 a) (number_at 18 2 a) x (number_at 22 2 b))
+    ∙ ap (λ x. of (number_at 16 2 a) (number_at 18 2 a) x (number_at 22 2 b) (number_at 24 4 b))
     (same 20 2 (omega arith))
-    ∙ ap (λ x. of (number_at 16 2 a) (number_at 24 4 a) (number_at 18 2 a) (number_at 20 2 a) x)
-    (same 22 2 (omega arith)) in
+    ∙ ap (λ x. of (number_at 16 2 a) (number_at 18 2 a) (number_at 20 2 a) x (number_at 24 4 b))
+    (same 22 2 (omega arith))
+    ∙ ap (λ x. of (number_at 16 2 a) (number_at 18 2 a) (number_at 20 2 a) (number_at 22 2 a) x)
+    (same 24 4 (omega arith)) in
     geometry_by_places b
     ∙ ap (λ (g : Geometry). geometry_if g
     (has_magic b && is_valid g && nat_le (length_of g) (length b))) all
-    ∙ ap (λ m. geometry_if (of (number_at 16 2 a) (number_at 24 4 a) (number_at 18 2 a)
-    (number_at 20 2 a) (number_at 22 2 a))
-    (m && is_valid (of (number_at 16 2 a) (number_at 24 4 a) (number_at 18 2 a)
-    (number_at 20 2 a) (number_at 22 2 a))
-    && nat_le (length_of (of (number_at 16 2 a) (number_at 24 4 a) (number_at 18 2 a)
-    (number_at 20 2 a) (number_at 22 2 a))) (length b))) name
-    ∙ ap (λ n. geometry_if (of (number_at 16 2 a) (number_at 24 4 a) (number_at 18 2 a)
-    (number_at 20 2 a) (number_at 22 2 a))
+    ∙ ap (λ m. geometry_if (of (number_at 16 2 a) (number_at 18 2 a) (number_at 20 2 a)
+    (number_at 22 2 a) (number_at 24 4 a))
+    (m && is_valid (of (number_at 16 2 a) (number_at 18 2 a) (number_at 20 2 a)
+    (number_at 22 2 a) (number_at 24 4 a))
+    && nat_le (length_of (of (number_at 16 2 a) (number_at 18 2 a) (number_at 20 2 a)
+    (number_at 22 2 a) (number_at 24 4 a))) (length b))) name
+    ∙ ap (λ n. geometry_if (of (number_at 16 2 a) (number_at 18 2 a) (number_at 20 2 a)
+    (number_at 22 2 a) (number_at 24 4 a))
     (has_magic a && is_valid
-    (of (number_at 16 2 a) (number_at 24 4 a) (number_at 18 2 a) (number_at 20 2 a)
-    (number_at 22 2 a)) && nat_le
-    (length_of (of (number_at 16 2 a) (number_at 24 4 a) (number_at 18 2 a) (number_at 20 2 a)
-    (number_at 22 2 a))) n)) agree.len_is
+    (of (number_at 16 2 a) (number_at 18 2 a) (number_at 20 2 a) (number_at 22 2 a)
+    (number_at 24 4 a)) && nat_le
+    (length_of (of (number_at 16 2 a) (number_at 18 2 a) (number_at 20 2 a) (number_at 22 2 a)
+    (number_at 24 4 a))) n)) agree.len_is
     ∙ sym (geometry_by_places a)
 
 -- each value of the selector has a reading

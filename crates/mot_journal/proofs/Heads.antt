@@ -25,35 +25,35 @@ geometry_if g b = if b then Some g else None
 
 -- the geometry of these five numbers
 abbrev pub of : ℕ → ℕ → ℕ → ℕ → ℕ → Geometry
-of n area segment address packet =
+of n segment address packet area =
     record {
       objects = n;
-      data_area = area;
-      segment_size = segment;
+      segment = segment;
       address = address;
-      packet_length = packet;
+      packet = packet;
+      area = area;
     }
 
 -- the geometry made of a geometry's own numbers is that geometry
-pub same-geometry : (g : Geometry) (n area segment address packet : ℕ) → g.objects ≡ n
-    → g.data_area ≡ area → g.segment_size ≡ segment → g.address ≡ address → g.packet_length ≡ packet
-    → of n area segment address packet ≡ g
-same-geometry g n area segment address packet e1 e2 e3 e4 e5 =
-    ap (λ x. of x area segment address packet) (sym e1)
-    ∙ ap (λ x. of g.objects x segment address packet) (sym e2)
-    ∙ ap (λ x. of g.objects g.data_area x address packet) (sym e3)
-    ∙ ap (λ x. of g.objects g.data_area g.segment_size x packet) (sym e4)
-    ∙ ap (λ x. of g.objects g.data_area g.segment_size g.address x) (sym e5)
+pub same-geometry : (g : Geometry) (n segment address packet area : ℕ) → g.objects ≡ n
+    → g.segment ≡ segment → g.address ≡ address → g.packet ≡ packet → g.area ≡ area
+    → of n segment address packet area ≡ g
+same-geometry g n segment address packet area e1 e2 e3 e4 e5 =
+    ap (λ x. of x segment address packet area) (sym e1)
+    ∙ ap (λ x. of g.objects x address packet area) (sym e2)
+    ∙ ap (λ x. of g.objects g.segment x packet area) (sym e3)
+    ∙ ap (λ x. of g.objects g.segment g.address x area) (sym e4)
+    ∙ ap (λ x. of g.objects g.segment g.address g.packet x) (sym e5)
 
 -- an image's geometry is that of the numbers at their places, if three tests hold
 pub geometry_by_places : (image : List ℕ) → geometry_of image
-    ≡ geometry_if (of (number_at 16 2 image) (number_at 24 4 image) (number_at 18 2 image)
-    (number_at 20 2 image) (number_at 22 2 image))
+    ≡ geometry_if (of (number_at 16 2 image) (number_at 18 2 image) (number_at 20 2 image)
+    (number_at 22 2 image) (number_at 24 4 image))
     (has_magic image && is_valid
-    (of (number_at 16 2 image) (number_at 24 4 image) (number_at 18 2 image)
-    (number_at 20 2 image) (number_at 22 2 image))
-    && nat_le (length_of (of (number_at 16 2 image) (number_at 24 4 image) (number_at 18 2 image)
-    (number_at 20 2 image) (number_at 22 2 image))) (length image))
+    (of (number_at 16 2 image) (number_at 18 2 image) (number_at 20 2 image)
+    (number_at 22 2 image) (number_at 24 4 image))
+    && nat_le (length_of (of (number_at 16 2 image) (number_at 18 2 image) (number_at 20 2 image)
+    (number_at 22 2 image) (number_at 24 4 image))) (length image))
 unfolding geometry_of
 geometry_by_places image =
     ap (λ cs. geometry_in cs
@@ -64,20 +64,20 @@ geometry_by_places image =
 -- the geometry of 64 bytes and what follows, by the numbers that were read of the 64
 pub geometry_from : (head rest : List ℕ) (g : Geometry) (len : ℕ) → length head ≡ 64
     → 64 + length rest ≡ len
-    → g.objects ≡ number_at 16 2 head → g.data_area ≡ number_at 24 4 head
-    → g.segment_size ≡ number_at 18 2 head → g.address ≡ number_at 20 2 head
-    → g.packet_length ≡ number_at 22 2 head
+    → g.objects ≡ number_at 16 2 head → g.segment ≡ number_at 18 2 head
+    → g.address ≡ number_at 20 2 head → g.packet ≡ number_at 22 2 head
+    → g.area ≡ number_at 24 4 head
     → geometry_of (head ++ rest)
     ≡ geometry_if g (bytes_eq (take 8 head) magic && is_valid g && nat_le (length_of g) len)
 geometry_from head rest g len whole long e1 e2 e3 e4 e5 =
     let image : List ℕ = head ++ rest in
     let n1 = number_front head rest 16 2 (omega (arith, whole)) in
-    let n2 = number_front head rest 24 4 (omega (arith, whole)) in
-    let n3 = number_front head rest 18 2 (omega (arith, whole)) in
-    let n4 = number_front head rest 20 2 (omega (arith, whole)) in
-    let n5 = number_front head rest 22 2 (omega (arith, whole)) in
-    let same = same-geometry g (number_at 16 2 image) (number_at 24 4 image) (number_at 18 2 image)
-    (number_at 20 2 image) (number_at 22 2 image)
+    let n2 = number_front head rest 18 2 (omega (arith, whole)) in
+    let n3 = number_front head rest 20 2 (omega (arith, whole)) in
+    let n4 = number_front head rest 22 2 (omega (arith, whole)) in
+    let n5 = number_front head rest 24 4 (omega (arith, whole)) in
+    let same = same-geometry g (number_at 16 2 image) (number_at 18 2 image) (number_at 20 2 image)
+    (number_at 22 2 image) (number_at 24 4 image)
     (e1 ∙ sym n1) (e2 ∙ sym n2) (e3 ∙ sym n3) (e4 ∙ sym n4) (e5 ∙ sym n5) in
     let size : length image ≡ len =
     length-append head rest ∙ ap (λ k. k + length rest) whole ∙ long in
@@ -93,8 +93,8 @@ geometry_from head rest g len whole long e1 e2 e3 e4 e5 =
 -- a disk of less than 64 bytes has none
 pub short_has_none : (image : List ℕ) → length image < 64 → geometry_of image ≡ None
 short_has_none image short =
-    let g : Geometry = of (number_at 16 2 image) (number_at 24 4 image) (number_at 18 2 image)
-    (number_at 20 2 image) (number_at 22 2 image) in
+    let g : Geometry = of (number_at 16 2 image) (number_at 18 2 image) (number_at 20 2 image)
+    (number_at 22 2 image) (number_at 24 4 image) in
     let small : nat_le (length_of g) (length image) ≡ false =
     false_from_ne_true (nat_le (length_of g) (length image))
     (λ e. absurd (omega (arith, short, leb-true (length_of g) (length image) e))) in
@@ -126,7 +126,7 @@ pub has_geometry_if : (image : List ℕ)
     → (g : Geometry) × (geometry_of image
     ≡ geometry_if g (has_magic image && is_valid g && nat_le (length_of g) (length image)))
 has_geometry_if image = (
-  of (number_at 16 2 image) (number_at 24 4 image) (number_at 18 2 image)
-      (number_at 20 2 image) (number_at 22 2 image),
+  of (number_at 16 2 image) (number_at 18 2 image) (number_at 20 2 image)
+      (number_at 22 2 image) (number_at 24 4 image),
   geometry_by_places image,
 )

@@ -132,7 +132,7 @@ module _ (at n : ℕ) (a b : List ℕ) (agree : AgreeOutside at n a b) where
 module _ (g : Geometry) (from n : ℕ) (a b : List ℕ)
     (agree : AgreeOutside (area_start g + from) n a b) where
   at-byte : (x : List ℕ) (p : Placed) (i : ℕ) → i < p.object.length
-      → p.start + p.object.length ≤ g.data_area
+      → p.start + p.object.length ≤ g.area
       → get_or (body_in_area (area_of g x) p) i 0 ≡ get_or x (area_start g + (p.start + i)) 0
   at-byte x p i lt fits =
       let area : List ℕ = area_of g x in
@@ -205,13 +205,13 @@ stands_by_parts g j c image same read fold =
 
 -- a change within the data area leaves the bytes after it
 pub rest_stays : (g : Geometry) (from n : ℕ) (a b : List ℕ)
-    → AgreeOutside (area_start g + from) n a b → from + n ≤ g.data_area
+    → AgreeOutside (area_start g + from) n a b → from + n ≤ g.area
     → rest_of g b ≡ rest_of g a
 rest_stays g from n a b agree within =
-    let far : ℕ = area_start g + g.data_area in
-    drop-drop g.data_area (area_start g) b
+    let far : ℕ = area_start g + g.area in
+    drop-drop g.area (area_start g) b
     ∙ drop_behind (area_start g + from) n a b agree far (omega (arith, within))
-    ∙ sym (drop-drop g.data_area (area_start g) a)
+    ∙ sym (drop-drop g.area (area_start g) a)
 
 -- an image after a write into a gap stands for what it stood for before
 pub standing_stays : (g : Geometry) (from n : ℕ) (a b : List ℕ)
@@ -219,7 +219,7 @@ pub standing_stays : (g : Geometry) (from n : ℕ) (a b : List ℕ)
     → (j : DiskRecords) (c : Catalogue) → j.geometry ≡ g → geometry_of a ≡ Some g
     → records_of a ≡ Ok j
     → catalogue_of g.objects j.records ≡ Ok c → AreBeside g from n c.objects
-    → from + n ≤ g.data_area → stands_for b ≡ stands_for a
+    → from + n ≤ g.area → stands_for b ≡ stands_for a
 standing_stays g from n a b agree j c same is read fold beside within =
     let read' = records_stay (area_start g + from) n a b agree g is (omega arith) ∙ read in
     let e : standing_of g c b ≡ standing_of g c a =

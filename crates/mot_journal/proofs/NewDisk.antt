@@ -85,20 +85,20 @@ module _ (g : Geometry) (directory : ℕ) (valid : IsValid g) (c : List ℕ)
   geometry_told =
       let objects : number_at 16 2 c ≡ g.objects =
       number_is 16 2 (omega arith) (omega arith) ∙ number_2 g.objects (omega (arith, valid)) in
-      let segment : number_at 18 2 c ≡ g.segment_size =
+      let segment : number_at 18 2 c ≡ g.segment =
       number_is 18 2 (omega arith) (omega arith)
-      ∙ number_2 g.segment_size (omega (arith, valid)) in
+      ∙ number_2 g.segment (omega (arith, valid)) in
       let address : number_at 20 2 c ≡ g.address =
       number_is 20 2 (omega arith) (omega arith) ∙ number_2 g.address (omega (arith, valid)) in
-      let packet : number_at 22 2 c ≡ g.packet_length =
+      let packet : number_at 22 2 c ≡ g.packet =
       number_is 22 2 (omega arith) (omega arith)
-      ∙ number_2 g.packet_length (omega (arith, valid)) in
-      let area : number_at 24 4 c ≡ g.data_area =
+      ∙ number_2 g.packet (omega (arith, valid)) in
+      let area : number_at 24 4 c ≡ g.area =
       number_is 24 4 (omega arith) (omega arith)
-      ∙ number_4 g.data_area (omega (arith, valid)) in
-      let same = same-geometry g (number_at 16 2 c) (number_at 24 4 c) (number_at 18 2 c)
-      (number_at 20 2 c) (number_at 22 2 c)
-      (sym objects) (sym area) (sym segment) (sym address) (sym packet) in
+      ∙ number_4 g.area (omega (arith, valid)) in
+      let same = same-geometry g (number_at 16 2 c) (number_at 18 2 c) (number_at 20 2 c)
+      (number_at 22 2 c) (number_at 24 4 c)
+      (sym objects) (sym segment) (sym address) (sym packet) (sym area) in
       geometry_by_places c
       ∙ ap (λ (x : Geometry). geometry_if x
       (has_magic c && is_valid x && nat_le (length_of x) (length c))) same

@@ -21,11 +21,11 @@ use Rattle.mot_objects.specs.Carousel.{new_carousel}
 abbrev usual : Geometry
 usual = record {
   objects = 16;
-  data_area = 65536;
-  segment_size = 1024;
+  segment = 1024;
   address = 1;
-  packet_length =
+  packet =
       96;
+  area = 65536;
 }
 
 numbers_at_16 : take 12 (drop 16 (head_bytes usual 0)) ≡

@@ -96,7 +96,7 @@ module _ (g : Geometry) (layout : Layout) (slot : List ℕ) where
     pub subtype : number_at 13 2 slot ≤ 511
     pub some : 1 ≤ number_at 19 4 slot
     pub most : number_at 19 4 slot ≤ 262144
-    pub inside : number_at 15 4 slot + number_at 19 4 slot ≤ g.data_area
+    pub inside : number_at 15 4 slot + number_at 19 4 slot ≤ g.area
     pub name : is_name (longest_name layout) (take (number_at 23 1 slot) (drop 24 slot)) ≡ true
 
   -- a slot whose fields have not all of that sets no object
@@ -137,7 +137,7 @@ module _ (g : Geometry) (layout : Layout) (slot : List ℕ) where
       → tid ≡ number_at 9 2 slot → version ≡ number_at 11 1 slot → content ≡ content_at slot
       → start ≡ number_at 15 4 slot → size ≡ number_at 19 4 slot
       → 1 ≤ tid → number_at 12 1 slot ≤ 63 → number_at 13 2 slot ≤ 511 → 1 ≤ size → size ≤ 262144
-      → start + size ≤ g.data_area
+      → start + size ≤ g.area
       → name_from (longest_name layout) (take (number_at 23 1 slot) (drop 24 slot)) ≡ Some name
       → mime_from (drop (number_at 23 1 slot) (drop 24 slot)) ≡ Some mime
       → if_sound g layout (set_in_slot slot) ≡ Some (Set tid version content start size name mime)
@@ -152,8 +152,8 @@ module _ (g : Geometry) (layout : Layout) (slot : List ℕ) where
       le-leb 1 (number_at 19 4 slot) (omega arith) in
       let b5 : nat_le (number_at 19 4 slot) 262144 ≡ true =
       le-leb (number_at 19 4 slot) 262144 (omega arith) in
-      let b6 : nat_le (number_at 15 4 slot + number_at 19 4 slot) g.data_area ≡ true =
-      le-leb (number_at 15 4 slot + number_at 19 4 slot) g.data_area (omega arith) in
+      let b6 : nat_le (number_at 15 4 slot + number_at 19 4 slot) g.area ≡ true =
+      le-leb (number_at 15 4 slot + number_at 19 4 slot) g.area (omega arith) in
       let all : is_sound_action g layout (set_in_slot slot) ≡ true =
       and_from _ _ (and_from _ _ (and_from _ _ (and_from _ _ (and_from _ _ (and_from _ _ b1 b2) b3) (and_from _ _ b4 b5))
       b6) n.0) m.0 in

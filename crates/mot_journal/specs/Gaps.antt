@@ -6,7 +6,7 @@ use Rattle.mot_numbers.specs.declared.geometry.Geometry.{Geometry}
 
 -- the body lies in the data area, and before the range or after it
 pub record IsBeside (g : Geometry) (from n : ℕ) (p : Placed) : Type 0 where
-  pub within : p.start + p.object.length ≤ g.data_area
+  pub within : p.start + p.object.length ≤ g.area
   pub beside : (p.start + p.object.length ≤ from) ⊎ (from + n ≤ p.start)
 
 -- so does each object's

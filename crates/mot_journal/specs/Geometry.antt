@@ -22,10 +22,10 @@ abbrev pub geometry_in : List ℕ → Option Geometry
 geometry_in (name ∷ selector ∷ unused ∷ objects ∷ segment ∷ address ∷ packet ∷ area ∷ []) =
     Some (record {
       objects = objects;
-      data_area = area;
-      segment_size = segment;
+      segment = segment;
       address = address;
-      packet_length = packet;
+      packet = packet;
+      area = area;
     })
 geometry_in _ = None
 

@@ -95,7 +95,7 @@ abbrev pub area_of : Geometry → List ℕ → List ℕ
 area_of g image = drop (area_start g) image
 
 abbrev pub rest_of : Geometry → List ℕ → List ℕ
-rest_of g image = drop g.data_area (area_of g image)
+rest_of g image = drop g.area (area_of g image)
 
 -- What an image stands for, or why for nothing. A fault of the list is looked for only where no
 -- record has a fault of fields.

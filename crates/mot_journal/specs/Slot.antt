@@ -78,7 +78,7 @@ is_sound_action g layout Nothing = true
 is_sound_action g layout (Remove tid) = nat_lt 0 tid
 is_sound_action g layout (Set tid version content start size name mime) =
     nat_lt 0 tid && nat_le content.content_type MAX_TYPE && nat_le content.subtype MAX_SUBTYPE
-    && is_within 1 MAX_BODY size && nat_le (start + size) g.data_area
+    && is_within 1 MAX_BODY size && nat_le (start + size) g.area
     && is_name (longest_name layout) name && option_map_or is_mime mime true
 
 -- no field of the record is out of its range

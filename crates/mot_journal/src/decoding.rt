@@ -95,7 +95,7 @@ fn read_set(
     let Some(length) = BodyLength::new(number(slot, 19, 4)) else {
         return Ok(None);
     };
-    if u64::from(start) + u64::from(length.get()) > u64::from(geometry.data_area) {
+    if u64::from(start) + u64::from(length.get()) > u64::from(geometry.area) {
         return Ok(None);
     }
     let name_length = number(slot, 23, 1) as usize;

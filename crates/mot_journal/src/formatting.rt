@@ -127,10 +127,10 @@ fn head_behind_magic(geometry: &Geometry) -> ArrayVec<u8, 56>
     let mut head = ArrayVec::new();
     array_append(&mut head, &[0; 8]);
     array_append_number(&mut head, geometry.objects);
-    array_append_number(&mut head, geometry.segment_size);
+    array_append_number(&mut head, geometry.segment);
     array_append_number(&mut head, geometry.address);
-    array_append_number(&mut head, geometry.packet_length);
-    array_append(&mut head, &geometry.data_area.to_be_bytes());
+    array_append_number(&mut head, geometry.packet);
+    array_append(&mut head, &geometry.area.to_be_bytes());
     array_append(&mut head, &[0; 36]);
     head
 }

@@ -26,7 +26,7 @@ use crate::loading::{geometry_of_head, layout_of_half, records_of_half};
 use crate::places::{HEAD_SIZE, half_size, half_start};
 use crate::writing::{fill_half, place_of_slot, publish, write_slot};
 use crate::{Geometry, Layout, Record};
-use disk_model::{Disk, DiskFault};
+use disk_model::Disk;
 use mot_numbers::Refusal;
 use std::alloc::Global;
 use std::marker::Model;
@@ -161,12 +161,13 @@ impl Journal {
     }
 
     /// Whether every gate of the half after the first closed one is closed. It reads the half,
-    /// 4,096 bytes at once, and only reads.
-    pub fn is_clean<D: Disk>(&self, disk: &mut D) -> Result<bool, DiskFault>
+    /// 4,096 bytes at once, and only reads. The only refusal is `DeviceFault`.
+    pub fn is_clean<D: Disk>(&self, disk: &mut D) -> Result<bool, Refusal>
         requires long_enough { length_of self.now.geometry ≤ (D.state disk.old).len }
         ensures only_reads { OnlyReads (D.state disk.old) (D.state disk.new) }
         ensures cause { IsErr result
             → Rises (D.state disk.old).failures (D.state disk.new).failures }
+        ensures fault { IfErr result (λ refusal. refusal ≡ DeviceFault) }
         ensures calm { OnOk result ((D.state disk.new).failures ≡ (D.state disk.old).failures) }
         ensures cost { (D.state disk.new).calls
             ≤ (D.state disk.old).calls + gate_reads self.now.geometry }
@@ -174,7 +175,10 @@ impl Journal {
             → IfOk result (λ clean. clean ≡ has_clean_gates
             (geometry_of (D.state disk.old).bytes) (D.state disk.old).bytes) }
     {
-        are_gates_clean(disk, &self.geometry, self.half, self.layout)
+        let Ok(clean) = are_gates_clean(disk, &self.geometry, self.half, self.layout) else {
+            return Err(Refusal::DeviceFault);
+        };
+        Ok(clean)
     }
 
     /// Where the first closed slot lies.
@@ -187,8 +191,8 @@ impl Journal {
     }
 
     /// Adds a record in the first closed slot: the slot without its gate, a sync, the gate, a sync.
-    /// After an error the journal is spent.
-    pub fn append<D: Disk>(&mut self, disk: &mut D, entry: &Record) -> Result<(), DiskFault>
+    /// After `DeviceFault`, the only refusal, the journal is spent.
+    pub fn append<D: Disk>(&mut self, disk: &mut D, entry: &Record) -> Result<(), Refusal>
         requires not_full { self.old.count < slot_count self.old.layout self.old.geometry }
         requires going { IsFalse self.old.spent }
         requires long_enough { length_of self.old.geometry ≤ (D.state disk.old).len }
@@ -196,6 +200,7 @@ impl Journal {
 
         ensures keeps { Keeps (D.state disk.old) (D.state disk.new) }
         ensures cause { HasCause (D.state disk.old).failures (D.state disk.new).failures result }
+        ensures fault { IfErr result (λ refusal. refusal ≡ DeviceFault) }
         ensures cost { Costs 4 (D.state disk.old) (D.state disk.new) result }
         ensures spent { OnErr result (self.new ≡ record self.old { spent = true }) }
         ensures added { OnOk result (self.new ≡ record self.old { count = self.old.count + 1 }) }
@@ -217,15 +222,17 @@ impl Journal {
         let place = self.next_place();
         let slot = slot_bytes(self.layout, entry);
         self.spent = true;
-        write_slot(disk, place, &slot)?;
+        let Ok(()) = write_slot(disk, place, &slot) else {
+            return Err(Refusal::DeviceFault);
+        };
         self.count += 1;
         self.spent = false;
         Ok(())
     }
 
     /// Writes these records into the other half, in the journal's layout, slot by slot; then a
-    /// sync, the selector, a sync. After an error the journal is spent.
-    pub fn rewrite<D: Disk>(&mut self, disk: &mut D, given: &[Record]) -> Result<(), DiskFault>
+    /// sync, the selector, a sync. After `DeviceFault`, the only refusal, the journal is spent.
+    pub fn rewrite<D: Disk>(&mut self, disk: &mut D, given: &[Record]) -> Result<(), Refusal>
         requires some { 0 < length given.now }
         requires few { length given.now ≤ slot_count self.old.layout self.old.geometry }
         requires going { IsFalse self.old.spent }
@@ -234,6 +241,7 @@ impl Journal {
 
         ensures keeps { Keeps (D.state disk.old) (D.state disk.new) }
         ensures cause { HasCause (D.state disk.old).failures (D.state disk.new).failures result }
+        ensures fault { IfErr result (λ refusal. refusal ≡ DeviceFault) }
         ensures cost { Costs (slot_count self.old.layout self.old.geometry + 3)
             (D.state disk.old) (D.state disk.new) result }
         ensures spent { OnErr result (self.new ≡ record self.old { spent = true }) }
@@ -245,7 +253,7 @@ impl Journal {
     }
 
     /// The same from layout 1 into layout 2.
-    pub fn migrate<D: Disk>(&mut self, disk: &mut D, given: &[Record]) -> Result<(), DiskFault>
+    pub fn migrate<D: Disk>(&mut self, disk: &mut D, given: &[Record]) -> Result<(), Refusal>
         requires first_layout { self.old.layout ≡ One }
         requires some { 0 < length given.now }
         requires few { length given.now ≤ slot_count Two self.old.geometry }
@@ -255,6 +263,7 @@ impl Journal {
 
         ensures keeps { Keeps (D.state disk.old) (D.state disk.new) }
         ensures cause { HasCause (D.state disk.old).failures (D.state disk.new).failures result }
+        ensures fault { IfErr result (λ refusal. refusal ≡ DeviceFault) }
         ensures cost { Costs (slot_count Two self.old.geometry + 3)
             (D.state disk.old) (D.state disk.new) result }
         ensures spent { OnErr result (self.new ≡ record self.old { spent = true }) }
@@ -270,7 +279,7 @@ impl Journal {
         disk: &mut D,
         layout: Layout,
         given: &[Record],
-    ) -> Result<(), DiskFault>
+    ) -> Result<(), Refusal>
         requires some { 0 < length given.now }
         requires few { length given.now ≤ slot_count layout self.old.geometry }
         requires going { IsFalse self.old.spent }
@@ -279,6 +288,7 @@ impl Journal {
 
         ensures keeps { Keeps (D.state disk.old) (D.state disk.new) }
         ensures cause { HasCause (D.state disk.old).failures (D.state disk.new).failures result }
+        ensures fault { IfErr result (λ refusal. refusal ≡ DeviceFault) }
         ensures cost { Costs (slot_count layout self.old.geometry + 3)
             (D.state disk.old) (D.state disk.new) result }
         ensures spent { OnErr result (self.new ≡ record self.old { spent = true }) }
@@ -287,8 +297,12 @@ impl Journal {
     {
         let other = 1 - self.half;
         self.spent = true;
-        fill_half(disk, &self.geometry, other, layout, given)?;
-        publish(disk, SELECTOR, &[other])?;
+        let Ok(()) = fill_half(disk, &self.geometry, other, layout, given) else {
+            return Err(Refusal::DeviceFault);
+        };
+        let Ok(()) = publish(disk, SELECTOR, &[other]) else {
+            return Err(Refusal::DeviceFault);
+        };
         self.half = other;
         self.layout = layout;
         self.count = given.len();

@@ -22,10 +22,10 @@ pub(crate) fn geometry_of_head(head: &[u8], len: u64) -> Option<Geometry>
 {
     let geometry = Geometry {
         objects: number(head, 16, 2) as u16,
-        data_area: number(head, 24, 4),
-        segment_size: number(head, 18, 2) as u16,
+        segment: number(head, 18, 2) as u16,
         address: number(head, 20, 2) as u16,
-        packet_length: number(head, 22, 2) as u16,
+        packet: number(head, 22, 2) as u16,
+        area: number(head, 24, 4),
     };
     if head[..8] != MAGIC[..] {
         return None;

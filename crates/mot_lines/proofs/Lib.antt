@@ -1,5 +1,4 @@
 pub mod Asked
-pub mod Digits
 pub mod Exported
 pub mod Faults
 pub mod Input

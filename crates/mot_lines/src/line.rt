@@ -7,7 +7,6 @@ ghost use Rattle.mot_lines.specs.Inner.Words.{OrOutOfMemory};
 ghost use Rattle.mot_lines.specs.Inner.Words.{words_after};
 
 mod description;
-mod digits;
 mod fields;
 mod words;
 

@@ -1,8 +1,7 @@
 //! The lines of replies, and of an export.
-ghost use Rattle.std.specs.Prelude.{◌≡◌, ℕ, ◌+◌, ◌*◌, ◌<◌, ◌≤◌, List, Option, ◌++◌, length};
-ghost use Rattle.std.specs.Prelude.{slice_index};
+ghost use Rattle.std.specs.Prelude.{◌≡◌, ℕ, ◌+◌, ◌*◌, ◌≤◌, List, Option, ◌++◌, length};
 ghost use Rattle.arrayvec.specs.ArrayVec.{array_vec_len};
-ghost use Rattle.hex.specs.Hex.{encode_lower, lower_digits};
+ghost use Rattle.hex.specs.Hex.{encode_lower};
 ghost use Rattle.mot_lines.specs.Export.{front_words, period_line};
 ghost use Rattle.mot_lines.specs.Listing.{numbers_line, mime_word};
 ghost use Rattle.mot_lines.specs.Listing.{object_line_beside};
@@ -54,32 +53,7 @@ fn append_digits(text: &mut PacketLine, bytes: &[u8])
 {
     let front = text.len();
     array_append(text, &NO_DIGITS[..2 * bytes.len()]);
-    write_digits(bytes, &mut text.as_mut_slice()[front..]);
-}
-
-/// Writes two small digits for each byte. They are sums, not looked up, so that a processor makes
-/// those of many bytes at once.
-fn write_digits(bytes: &[u8], digits: &mut [u8])
-    requires { length digits.old ≡ 2 * length bytes.now }
-    ensures { digits.new ≡ encode_lower bytes.now }
-{
-    for number in 0..bytes.len() {
-        let byte = bytes[number];
-        digits[2 * number] = digit(byte >> 4);
-        digits[2 * number + 1] = digit(byte & 0x0F);
-    }
-}
-
-/// The digit of a number below 16.
-fn digit(number: u8) -> u8
-    requires { number < 16 }
-    ensures { result ≡ slice_index lower_digits number }
-{
-    if number < 10 {
-        b'0' + number
-    } else {
-        b'a' - 10 + number
-    }
+    hex::encode_to_slice(bytes, &mut text.as_mut_slice()[front..]).unwrap();
 }
 
 /// A refusal's line.

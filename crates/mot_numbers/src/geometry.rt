@@ -15,15 +15,15 @@ pub const MAX_DATA_AREA: u32 = 268_435_456;
 pub struct Geometry {
     /// The greatest number of objects, 1 to 250.
     pub objects: u16,
-    /// The bytes that bodies may take together, 1 to 268,435,456.
-    pub data_area: u32,
     /// The bytes of a segment, 64 to 8,189; an entity's last may be shorter (EN 301 234).
-    pub segment_size: u16,
+    pub segment: u16,
     /// The address of the packets, 1 to 1,023 (EN 300 401, clause 5.3.2).
     pub address: u16,
     /// The bytes of a packet, 24, 48, 72 or 96; a group's last may be shorter (EN 300 401, clause
     /// 5.3.2).
-    pub packet_length: u16,
+    pub packet: u16,
+    /// The bytes that bodies may take together, 1 to 268,435,456.
+    pub area: u32,
 }
 
 impl Geometry {
@@ -35,28 +35,28 @@ impl Geometry {
     {
         self.objects >= 1
             && self.objects <= MAX_OBJECTS
-            && self.data_area >= 1
-            && self.data_area <= MAX_DATA_AREA
-            && self.segment_size >= MIN_SEGMENT
-            && self.segment_size <= MAX_SEGMENT
+            && self.area >= 1
+            && self.area <= MAX_DATA_AREA
+            && self.segment >= MIN_SEGMENT
+            && self.segment <= MAX_SEGMENT
             && self.address >= 1
             && self.address <= MAX_ADDRESS
-            && matches!(self.packet_length, 24 | 48 | 72 | 96)
+            && matches!(self.packet, 24 | 48 | 72 | 96)
     }
 
     /// The bytes that a disk of it needs; a longer one does as well.
     pub fn length(&self) -> u64
         ensures { result ≡ length_of self.now }
     {
-        1_024 * u64::from(self.objects) + 2_112 + u64::from(self.data_area)
+        1_024 * u64::from(self.objects) + 2_112 + u64::from(self.area)
     }
 
     /// The size of a valid geometry's segments.
     pub fn size_of_segments(&self) -> SegmentSize
         requires { IsValid self.now }
-        ensures { result ≡ self.now.segment_size }
+        ensures { result ≡ self.now.segment }
     {
-        SegmentSize::new(self.segment_size).unwrap()
+        SegmentSize::new(self.segment).unwrap()
     }
 
     /// The address of a valid geometry's packets.
@@ -72,7 +72,7 @@ impl Geometry {
         requires { IsValid self.now }
         ensures { room_of result ≡ packet_room self.now }
     {
-        PacketLength::new(self.packet_length).unwrap()
+        PacketLength::new(self.packet).unwrap()
     }
 }
 
@@ -86,10 +86,10 @@ impl Default for Geometry {
     fn default() -> Self {
         Geometry {
             objects: 16,
-            data_area: 65_536,
-            segment_size: 1_024,
+            segment: 1_024,
             address: 1,
-            packet_length: 96,
+            packet: 96,
+            area: 65_536,
         }
     }
 }

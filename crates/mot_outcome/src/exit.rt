@@ -1,5 +1,5 @@
 //! How a run of the program ends, and what it prints of that.
-ghost use Rattle.std.specs.Prelude.{ℕ, ◌≡◌, ◌≢◌, ◌⊎◌, List, None, Some, true};
+ghost use Rattle.std.specs.Prelude.{ℕ, ◌≡◌, ◌≢◌, ◌⊎◌, [], List, None, Some, codes, if◌then◌else◌, true};
 ghost use Rattle.std.specs.Io.KnownBytes.{Keeps};
 ghost use Rattle.clap.specs.Words.{kind_of};
 ghost use Rattle.mot_numbers.specs.declared.refusal.Refusal.TheVariants.{OutOfMemory};
@@ -12,6 +12,7 @@ use crate::used::UsedDisk;
 use clap::Error;
 use clap::error::ErrorKind;
 use disk_store::Start;
+use mot_events::Tally;
 use mot_numbers::Refusal;
 use std::alloc::Global;
 use std::io::Write;
@@ -63,36 +64,49 @@ pub fn explain<S: Start, W: Write, E: Write>(
     let kind = error.kind();
     let disk = UsedDisk::Untouched(start);
     if kind == ErrorKind::OutOfMemory {
-        return refuse(errors, Refusal::OutOfMemory, Subject::Nothing, disk);
+        return refuse(errors, false, Refusal::OutOfMemory, Subject::Nothing, disk);
     }
     if kind != ErrorKind::DisplayHelp {
         let _ = write!(errors, "{error}");
         return Exit::unrefused(2, disk);
     }
     let Ok(help) = error.to_string(alloc) else {
-        return refuse(errors, Refusal::OutOfMemory, Subject::Nothing, disk);
+        return refuse(errors, false, Refusal::OutOfMemory, Subject::Nothing, disk);
     };
     match write_last(writer, help.as_bytes()) {
         Ok(()) => Exit::unrefused(0, disk),
-        Err(fault) => refuse(errors, fault, Subject::Nothing, disk),
+        Err(fault) => refuse(errors, false, fault, Subject::Nothing, disk),
     }
 }
 
 /// Ends a run by a refusal that is no line's reply, and prints it, and on a second line what it is
-/// about.
+/// about. Where lines of a log have levels, both begin with theirs.
 pub fn refuse<S: Start, E: Write>(
     errors: &mut E,
+    levels: bool,
     refusal: Refusal,
     subject: Subject<'_>,
     disk: UsedDisk<S>,
 ) -> Exit<S>
     ensures { result ≡ record { status = 1; refusal = Some refusal; disk = disk } }
 {
-    let _ = writeln!(errors, "motcar: {refusal}");
-    tell(errors, subject);
+    let level = level_of(levels, refusal);
+    let _ = writeln!(errors, "{level}motcar: {refusal}");
+    tell(errors, level, subject);
     Exit {
         status: 1,
         refusal: Some(refusal),
         disk,
+    }
+}
+
+/// What a line about the end of the program begins with.
+fn level_of(levels: bool, refusal: Refusal) -> &'static str
+    ensures { result.now ≡ (if levels then codes "<3>" else []) }
+{
+    if levels {
+        Tally::Stop(refusal).level().prefix()
+    } else {
+        ""
     }
 }

@@ -1,6 +1,6 @@
 //! Printing bytes, whole or up to a fault.
 ghost use Rattle.mot_outcome.specs.Outcome.{Prints};
-ghost use Rattle.mot_server.specs.Attempts.{fault_of};
+ghost use Rattle.mot_playout.specs.Attempts.{fault_of};
 
 use mot_numbers::Refusal;
 use mot_session::write_whole;

@@ -2,6 +2,7 @@
 //! number is out of its range. It is printed, and nothing is decided by it.
 use clap::ArgMatches;
 use disk_store::OpenFault;
+use mot_devices::DeviceUse;
 use mot_endpoints::{Cause, OUTPUT, SUFFIX};
 use mot_numbers::Refusal;
 use mot_reason::Reason;
@@ -82,7 +83,7 @@ pub fn subject_of<'a>(
 /// The word that names what the cause is about.
 fn word_of_cause(cause: Cause) -> &'static str {
     match cause {
-        Cause::Disk(_) => "DISK",
+        Cause::Disk(_) | Cause::Device(_) => "DISK",
         Cause::Types(_) => "types",
         Cause::Folder(_) => "folder",
         Cause::Lines(_) => "lines",
@@ -114,24 +115,28 @@ fn is_within(text: &str, least: u32, most: u32, step: u32) -> bool {
     }
 }
 
-/// Prints what a refusal is about, if there is more to say.
-pub(crate) fn tell<E: Write>(errors: &mut E, subject: Subject<'_>) {
+/// Prints what a refusal is about, if there is more to say, in a line that begins with a level.
+pub(crate) fn tell<E: Write>(errors: &mut E, level: &str, subject: Subject<'_>) {
     match subject {
         Subject::Nothing => {}
         Subject::Disk { path, reason } => {
-            let _ = writeln!(errors, "motcar: {path}: {reason}");
+            let _ = writeln!(errors, "{level}motcar: {path}: {reason}");
         }
         Subject::File { path, cause } => {
             let (name, suffix) = shown(path, cause);
             let hint = hint_of(cause);
-            let _ = writeln!(errors, "motcar: {name}{suffix}: {cause}{hint}");
+            let again = again(path, cause);
+            let _ = writeln!(
+                errors,
+                "{level}motcar: {name}{suffix}: {cause}{hint}{again}"
+            );
         }
         Subject::Number {
             option,
             number,
             range,
         } => {
-            let _ = writeln!(errors, "motcar: --{option} {number}: {range}");
+            let _ = writeln!(errors, "{level}motcar: --{option} {number}: {range}");
         }
     }
 }
@@ -182,6 +187,27 @@ fn hint_of(cause: Cause) -> &'static str {
         Cause::Disk(OpenFault::InUse) => "; end that program first",
         Cause::Disk(OpenFault::NoDisk) => "; check the path",
         Cause::Disk(OpenFault::SecondName) => "; remove the other name",
+        Cause::Device(found) => hint_of_use(found),
+        _ => "",
+    }
+}
+
+/// What to do about a device in use.
+fn hint_of_use(found: DeviceUse) -> &'static str {
+    match found {
+        DeviceUse::MountedAt(_) => "; unmount it first",
+        DeviceUse::Swap => "; end that by swapoff first",
+        DeviceUse::HeldBy(_) => "; end that device first",
+        DeviceUse::HasSignature(_) => "; if nobody needs it, clear it: wipefs -a ",
+        DeviceUse::Unknown(_) => "; mount /proc",
+        DeviceUse::Unseen(_) => "",
+    }
+}
+
+/// The path again, if what to do ends with it.
+fn again(path: &str, cause: Cause) -> &str {
+    match cause {
+        Cause::Device(DeviceUse::HasSignature(_)) => path,
         _ => "",
     }
 }

@@ -143,10 +143,25 @@ impl Player {
         self.state.course.queued() > 0
     }
 
-    /// The group under way stays; then the new turn begins. A player that follows goes on instead:
-    /// behind the new directory come the bodies that came, the last one whole, and then the rest of
-    /// the turn. The room for that is this player's, as it stands. It takes no memory.
-    pub fn changed(&mut self, turn: Turn, spare: Spare)
+    /// The group under way stays; then the new turn begins, also where the player follows. It takes
+    /// no memory.
+    pub fn changed(&mut self, turn: Turn)
+        ensures place { (bodies next : List (List ℕ)) → place_of self.new next
+            ≡ change_turn (turn_with turn next) (place_of self.old bodies) }
+
+        // Whatever turn comes, all but what waits stays: the group under way and the indexes.
+        ensures stays { self.new
+            ≡ record self.old { turn = turn; course = self.new.course } }
+        ensures turn { self.new.turn ≡ turn }
+        ensures size { self.new.segment_size ≡ self.old.segment_size }
+    {
+        self.state.begin_turn(turn);
+    }
+
+    /// As `changed`, but a player that follows goes on instead: behind the new directory come the
+    /// bodies that came, the last one whole, and then the rest of the turn. The room for that is
+    /// this player's, as it stands. It takes no memory.
+    pub fn follow(&mut self, turn: Turn, spare: Spare)
         ensures begun { (bodies next : List (List ℕ)) → self.old.follows ≡ false
             → place_of self.new next
             ≡ change_turn (turn_with turn next) (place_of self.old bodies) }

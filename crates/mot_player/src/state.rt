@@ -145,6 +145,24 @@ impl State {
         self.course.pass(self.turn.entity_count(), part);
     }
 
+    /// A changed turn begins behind the group under way.
+    pub fn begin_turn(&mut self, turn: Turn)
+        requires fitted { IsFitted self.old }
+        ensures fitted { IsFitted self.new }
+        ensures begun { (bodies next : List (List ℕ)) → place_with self.new next
+            ≡ change_turn (turn_with turn next) (place_with self.old bodies) }
+        ensures turn { self.new.turn ≡ turn }
+        ensures size { self.new.segment_size ≡ self.old.segment_size }
+        ensures sent { (self.new.sent ≡ self.old.sent) × (self.new.group ≡ self.old.group) }
+        ensures stays { view_of self.new
+            ≡ record (view_of self.old) { turn = turn; course = course_of self.new.course } }
+    {
+        // A turn has a directory and its bodies. (The line is there for the proof.)
+        let _ = turn.entity_count();
+        self.course.begin_turn();
+        self.turn = turn;
+    }
+
     /// A changed turn is followed, or begins, behind the group under way.
     pub fn change(&mut self, turn: Turn, room: Vec<Waiting>)
         requires fitted { IsFitted self.old }

@@ -21,10 +21,10 @@ head_of bytes = slice_range bytes 0 64
 abbrev pub geometry_at : List ℕ → Geometry
 geometry_at head = record {
   objects = number_of_two 16 head;
-  data_area = number_of_four 24 head;
-  segment_size = number_of_two 18 head;
+  segment = number_of_two 18 head;
   address = number_of_two 20 head;
-  packet_length = number_of_two 22 head;
+  packet = number_of_two 22 head;
+  area = number_of_four 24 head;
 }
 
 -- the half that the head selects

@@ -38,7 +38,7 @@ HasFault g layout slot (Length size) =
     IsOfKind layout 2 slot × (number_of_four 19 slot ≡ size) × IsOutside 1 MAX_BODY size
 HasFault g layout slot (Extent end area) =
     IsOfKind layout 2 slot × (number_of_four 15 slot + number_of_four 19 slot ≡ end)
-    × (g.data_area ≡ area) × (area < end)
+    × (g.area ≡ area) × (area < end)
 HasFault g layout slot (Name size) =
     IsOfKind layout 2 slot × (slice_index slot 23 ≡ size)
     × (IsName (slice_range slot 24 (24 + size)) → longest_name layout < size)

@@ -23,10 +23,10 @@ use Rattle.mot_reason.specs.declared.reason.Size.TheVariants.{Data}
 
 abbrev pub number_of : Size → Geometry → ℕ
 number_of Objects g = g.objects
-number_of Segment g = g.segment_size
+number_of Segment g = g.segment
 number_of Address g = g.address
-number_of Packet g = g.packet_length
-number_of Data g = g.data_area
+number_of Packet g = g.packet
+number_of Data g = g.area
 
 abbrev pub IsOutOfRange : Size → ℕ → Type 0
 IsOutOfRange Objects n = IsOutside 1 MAX_OBJECTS n

@@ -18,7 +18,7 @@ use crate::{Explained, Reason};
 use disk_model::{Disk, DiskFault};
 use mot_journal::{Geometry, Layout};
 use mot_numbers::Refusal;
-use mot_server::Refused;
+use mot_playout::Refused;
 use std::alloc::Global;
 
 /// Looks for the reason why a disk was refused. If the disk fails in that, the refusal is

@@ -94,7 +94,7 @@ fn fault_of_object(geometry: &Geometry, layout: Layout, slot: &[u8]) -> Option<F
         return Some(FieldFault::Length { length });
     }
     let end = u64::from(four_bytes(slot, 15)) + u64::from(length);
-    let area = geometry.data_area;
+    let area = geometry.area;
     if end > u64::from(area) {
         return Some(FieldFault::Extent { end, area });
     }

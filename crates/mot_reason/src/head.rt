@@ -37,10 +37,10 @@ pub(crate) fn geometry_of_head(head: &[u8]) -> Geometry
 {
     Geometry {
         objects: two_bytes(head, 16),
-        data_area: four_bytes(head, 24),
-        segment_size: two_bytes(head, 18),
+        segment: two_bytes(head, 18),
         address: two_bytes(head, 20),
-        packet_length: two_bytes(head, 22),
+        packet: two_bytes(head, 22),
+        area: four_bytes(head, 24),
     }
 }
 
@@ -76,7 +76,7 @@ fn out_of_range(geometry: &Geometry) -> Option<(Size, u32)>
     if objects < 1 || objects > 250 {
         return Some((Size::Objects, objects));
     }
-    let segment = u32::from(geometry.segment_size);
+    let segment = u32::from(geometry.segment);
     if segment < 64 || segment > 8_189 {
         return Some((Size::Segment, segment));
     }
@@ -84,11 +84,11 @@ fn out_of_range(geometry: &Geometry) -> Option<(Size, u32)>
     if address < 1 || address > 1_023 {
         return Some((Size::Address, address));
     }
-    let packet = u32::from(geometry.packet_length);
+    let packet = u32::from(geometry.packet);
     if packet != 24 && packet != 48 && packet != 72 && packet != 96 {
         return Some((Size::Packet, packet));
     }
-    let area = geometry.data_area;
+    let area = geometry.area;
     if area < 1 || area > 268_435_456 {
         return Some((Size::Data, area));
     }

@@ -10,14 +10,14 @@ ghost use Rattle.mot_player.specs.Turn.{turn_of_carousel};
 ghost use Rattle.mot_reason.specs.Reason.{HasNoReason, IsReason};
 ghost use Rattle.mot_repository.specs.Opening.{IsOpened, IsOpeningRefusal};
 ghost use Rattle.mot_repository.specs.Repository.{Agrees};
-ghost use Rattle.mot_server.specs.Server.{place_in};
+ghost use Rattle.mot_playout.specs.Server.{place_in};
 
 use crate::Reason;
 use crate::explaining::explain;
 use disk_model::Disk;
 use mot_numbers::Refusal;
+use mot_playout::Server;
 use mot_repository::Repository;
-use mot_server::Server;
 use std::alloc::Global;
 
 /// Why a disk was not opened, and the disk.
@@ -85,8 +85,8 @@ pub fn open_server<D: Disk>(alloc: Global, disk: D) -> Result<Server<D>, Explain
     // Nothing was played of it.
     ensures at_start { IfOk result (λ server. (s : journal.Standing) → Agrees server.view s
         → place_in server s
-        ≡ opened_place s.geometry.address (packet_room s.geometry) s.geometry.segment_size
-        (turn_of_carousel s.carousel s.geometry.segment_size)) }
+        ≡ opened_place s.geometry.address (packet_room s.geometry) s.geometry.segment
+        (turn_of_carousel s.carousel s.geometry.segment)) }
     ensures refused { IfErr result
         (λ e. IsOpeningRefusal (D.state disk) (D.state e.disk) e.refusal) }
 

@@ -87,7 +87,7 @@ extent-lies : (g : Geometry) (layout : Layout) (objects : List Object) (extents 
     → map (λ (e : ℕ × ℕ). e.1) extents ≡ map (λ (o : Object). o.length) objects
     → AllByRecursion (IsSoundPlaced g layout) (objects_in objects extents) → (place : ℕ)
     → place < length extents
-    → (extent_at extents place).0 + (extent_at extents place).1 ≤ g.data_area
+    → (extent_at extents place).0 + (extent_at extents place).1 ≤ g.area
 extent-lies g layout objects [] paired a place lt = absurd (omega (arith, lt))
 extent-lies g layout [] (e ∷ extents) paired a place lt = cc
 extent-lies g layout (o ∷ objects) (e ∷ extents) paired a zero lt =
@@ -111,20 +111,20 @@ extent-lies g layout (o ∷ objects) (e ∷ extents) paired a (suc place) lt =
 pub extent_within : (g : Geometry) (layout : Layout) (carousel : Carousel) (extents : List (ℕ × ℕ))
     → IsWhole g layout (catalogue_with carousel extents) → ArePaired carousel extents → (place : ℕ)
     → place < length extents
-    → (extent_at extents place).0 + (extent_at extents place).1 ≤ g.data_area
+    → (extent_at extents place).0 + (extent_at extents place).1 ≤ g.area
 extent_within g layout carousel extents is paired =
     extent-lies g layout carousel.objects.items extents paired is.each
 
 -- a valid geometry's data area is not large
-pub small_area : (g : Geometry) → is_valid g ≡ true → g.data_area ≤ 268435456
+pub small_area : (g : Geometry) → is_valid g ≡ true → g.area ≤ 268435456
 small_area g valid =
     let b1 = is_within 1 250 g.objects in
-    let b2 = is_within 1 268435456 g.data_area in
-    let b3 = is_within 64 8189 g.segment_size in
+    let b2 = is_within 1 268435456 g.area in
+    let b3 = is_within 64 8189 g.segment in
     let b4 = is_within 1 1023 g.address in
-    let h4 = and_parts (b1 && b2 && b3 && b4) (is_packet_length g.packet_length) valid in
+    let h4 = and_parts (b1 && b2 && b3 && b4) (is_packet_length g.packet) valid in
     let h3 = and_parts (b1 && b2 && b3) b4 h4.0 in
     let h2 = and_parts (b1 && b2) b3 h3.0 in
     let h1 = and_parts b1 b2 h2.0 in
-    leb-true g.data_area 268435456
-    (and_parts (nat_le 1 g.data_area) (nat_le g.data_area 268435456) h1.1).1
+    leb-true g.area 268435456
+    (and_parts (nat_le 1 g.area) (nat_le g.area 268435456) h1.1).1

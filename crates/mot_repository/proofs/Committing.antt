@@ -43,7 +43,7 @@ is_read {mid = mid} wrote = (
 module _ (view : RepositoryView) (s : Standing) (records : List Record) (c : Catalogue) (from n : ℕ)
     (fold : catalogue_of view.journal.geometry.objects records ≡ Ok c)
     (beside : AreBeside view.journal.geometry from n c.objects)
-    (within : from + n ≤ view.journal.geometry.data_area) where
+    (within : from + n ≤ view.journal.geometry.area) where
   pub torn_is_same : (old : State) (b : List ℕ) → ((a : List ℕ) → old.MayLeave a → IsOf s a)
       → ((a : List ℕ) → old.MayLeave a → HasRecords view.journal records a)
       → Torn (area_start view.journal.geometry + from) n old b
@@ -104,7 +104,7 @@ module _ (view : RepositoryView) (s : Standing) (records : List Record) (r : Rec
         geometry = view.journal.geometry;
         carousel = carousel_in area k;
         extents = extents_of k;
-        rest = drop view.journal.geometry.data_area area;
+        rest = drop view.journal.geometry.area area;
       } in t) e
 
   pub outcome_is : (mid : State) (b : List ℕ) → ((a : List ℕ) → mid.MayLeave a → IsOf s a)
@@ -203,7 +203,7 @@ module _ (view : RepositoryView) (s : Standing) (layout : Layout) (records given
         geometry = g;
         carousel = carousel_in l c;
         extents = extents_of c;
-        rest = drop g.data_area l;
+        rest = drop g.area l;
       } in t) area in
       record { stands = here ∙ ap Ok same ∙ sym there ∙ of.stands; clean = has.clean }
 

@@ -33,7 +33,7 @@ placed-in-two : (g : Geometry) (p : Placed) → IsSoundPlaced g One p → IsSoun
 placed-in-two g p is =
     let o = p.object in
     let numbers = nat_lt 0 o.tid && nat_le o.content.content_type 63 && nat_le o.content.subtype 511
-    && is_within 1 262144 o.length && nat_le (p.start + o.length) g.data_area in
+    && is_within 1 262144 o.length && nat_le (p.start + o.length) g.area in
     let mime = option_map_or is_mime o.mime true in
     let h = and_parts (numbers && is_name 100 o.name) mime is.0 in
     let k = and_parts numbers (is_name 100 o.name) h.0 in

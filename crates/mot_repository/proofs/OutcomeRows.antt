@@ -28,7 +28,7 @@ object name version tid body = record {
 -- room for so many objects, and for ten bytes
 abbrev sizes : ℕ → Geometry
 sizes objects =
-    record { objects = objects; data_area = 10; segment_size = 64; address = 1; packet_length = 24 }
+    record { objects = objects; area = 10; segment = 64; address = 1; packet = 24 }
 
 abbrev carousel : ℕ → ℕ → List Object → Carousel
 carousel period last objects =

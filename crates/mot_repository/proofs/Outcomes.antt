@@ -41,7 +41,7 @@ pub record IsAccepted (layout : Layout) (s : Standing) (command : Command) (done
   -- where the body goes
   pub start : ℕ
   -- that is the least gap
-  pub lies : start_of s.extents s.geometry.data_area command ≡ Some start
+  pub lies : start_of s.extents s.geometry.area command ≡ Some start
   -- the geometry stays
   pub geometry : next.geometry ≡ s.geometry
   -- the extents are those after the command
@@ -71,7 +71,7 @@ module _ (layout : Layout) (s : Standing) (command : Command) where
   ruled = change s.carousel s.geometry.objects command
 
   abbrev lying : Option ℕ
-  lying = start_of s.extents s.geometry.data_area command
+  lying = start_of s.extents s.geometry.area command
 
   by-parts : after_command layout s command ≡ whole (has_long_name layout command) ruled lying
   unfolding after_command
@@ -182,10 +182,10 @@ module _ (view : RepositoryView) (s : Standing) (agrees : Agrees view s) (comman
       ∙ ap names_of (sym agrees.carousel)
 
   -- the body goes to the same place by what is kept as by what the disk stands for
-  pub same_start : start_of view.extents view.journal.geometry.data_area command
-      ≡ start_of s.extents s.geometry.data_area command
-  same_start = ap (λ l. start_of l view.journal.geometry.data_area command) agrees.extents
-      ∙ ap (λ (g : Geometry). start_of s.extents g.data_area command) agrees.geometry
+  pub same_start : start_of view.extents view.journal.geometry.area command
+      ≡ start_of s.extents s.geometry.area command
+  same_start = ap (λ l. start_of l view.journal.geometry.area command) agrees.extents
+      ∙ ap (λ (g : Geometry). start_of s.extents g.area command) agrees.geometry
 
   -- the rules say the same of what is kept, with its bodies, as of what the disk stands for
   pub same_rules : change s.carousel s.geometry.objects command

@@ -69,9 +69,9 @@ objects-whole area (o ∷ os) [] = refl
 objects-whole area (o ∷ os) (e ∷ es) =
     ap (λ l. object_of o (body_in_area area (with_extent o e)) ∷ l) (objects-whole area os es)
 
-lengths-whole : (g : Geometry) (area : List ℕ) → g.data_area ≤ length area
+lengths-whole : (g : Geometry) (area : List ℕ) → g.area ≤ length area
     → (os : List Object) (es : List (ℕ × ℕ)) → HaveLengths os es
-    → AllByRecursion (λ (p : Placed). p.start + p.object.length ≤ g.data_area) (objects_in os es)
+    → AllByRecursion (λ (p : Placed). p.start + p.object.length ≤ g.area) (objects_in os es)
     → map length (map (λ (p : Placed). body_in_area area p) (objects_in os es))
     ≡ map (λ (o : Object). o.length) os
 lengths-whole g area long [] es b within = refl
@@ -128,11 +128,11 @@ is_after view command done next from r given prepared valid is paired read =
     let c : Catalogue = catalogue_in view in
     let kept = in_memory view valid is paired in
     let body : List ℕ = body_of command in
-    let area : List ℕ = some-area from body g.data_area in
-    let long = some-length from body g.data_area in
+    let area : List ℕ = some-area from body g.area in
+    let long = some-length from body g.area in
     let m : Made view command done next from r given (records_of_catalogue c) c prepared kept area =
     made view command done next from r given (records_of_catalogue c) c prepared kept area long
-    (some-slice from body g.data_area) in
+    (some-slice from body g.area) in
     let after : Catalogue = m.0 in
     let after_whole : IsWhole g view.journal.layout after =
     whole-step g view.journal.layout c after r read m.1 is in
@@ -175,7 +175,7 @@ mime-is (Some bytes) is = mime_true bytes is
 abbrev Fits : Geometry → Layout → Action → Type 0
 Fits g layout Nothing = Unit {0}
 Fits g layout (Remove tid) = Unit {0}
-Fits g layout (Set tid version content start size name mime) = (start + size ≤ g.data_area)
+Fits g layout (Set tid version content start size name mime) = (start + size ≤ g.area)
     × (length name ≤ longest_name layout)
 
 sound-action : (g : Geometry) (layout : Layout) (a : Action) → HasFields a → Fits g layout a
@@ -187,13 +187,13 @@ sound-action g layout (Set tid version content start size name mime) is fits =
     (and_from _ _ (and_from _ _ (and_from _ _ (and_from _ _ (lt-ltb 0 tid is.id.0)
     (le-leb content.content_type 63 is.kind)) (le-leb content.subtype 511 is.subkind))
     (and_from _ _ (le-leb 1 size is.some) (le-leb size 262144 is.short)))
-    (le-leb (start + size) g.data_area fits.0))
+    (le-leb (start + size) g.area fits.0))
     (name_true (longest_name layout) name is.is_name fits.1)) (mime-is mime is.is_mime)
 
 -- a command's object is set under its name
 set-fits : (g : Geometry) (layout : Layout) (name : List ℕ) (from size : ℕ) (items : List Object)
     (o : Option Object) → kept_object_named name items ≡ o
-    → from + size ≤ g.data_area → length name ≤ longest_name layout
+    → from + size ≤ g.area → length name ≤ longest_name layout
     → Fits g layout (kept_set from size o)
 set-fits g layout name from size items None is le short = tt
 set-fits g layout name from size items (Some o) is le short = (
@@ -208,17 +208,17 @@ remove-fits g layout (Some o) = tt
 
 action-fits : (g : Geometry) (layout : Layout) (extents : List (ℕ × ℕ)) (old next : Carousel)
     (command : Command) (from : ℕ)
-    → start_of extents g.data_area command ≡ Some from → has_long_name layout command ≡ false
+    → start_of extents g.area command ≡ Some from → has_long_name layout command ≡ false
     → Fits g layout (kept_action old next command from)
 action-fits g layout extents old next (Put name content mime body) from lies short =
     set-fits g layout name from (length body) next.objects.items
     (kept_object_named name next.objects.items) refl
-    (gap-fits extents (length body) g.data_area from lies).0
+    (gap-fits extents (length body) g.area from lies).0
     (ltb-false (longest_name layout) (length name) short)
 action-fits g layout extents old next (Replace name content mime body) from lies short =
     set-fits g layout name from (length body) next.objects.items
     (kept_object_named name next.objects.items) refl
-    (gap-fits extents (length body) g.data_area from lies).0
+    (gap-fits extents (length body) g.area from lies).0
     (ltb-false (longest_name layout) (length name) short)
 action-fits g layout extents old next (Withdraw name) from lies short =
     remove-fits g layout (kept_object_named name old.objects.items)
@@ -243,10 +243,10 @@ is_read g layout r typed fits = record {
 -- ---- what is prepared
 
 body-within : (g : Geometry) (extents : List (ℕ × ℕ)) (command : Command) (from : ℕ)
-    → start_of extents g.data_area command ≡ Some from
-    → from + length (body_of command) ≤ g.data_area
+    → start_of extents g.area command ≡ Some from
+    → from + length (body_of command) ≤ g.area
 body-within g extents command from e =
-    (gap-fits extents (length (body_of command)) g.data_area from e).0
+    (gap-fits extents (length (body_of command)) g.area from e).0
 
 all-of : {X : Type 0} (P : X → Type 0) (xs : List X) → AllByRecursion P xs → All P xs
 all-of P [] a = All-nil P
@@ -270,7 +270,7 @@ pub record IsWorkedOut (view : RepositoryView) (command : Command) (next : Carou
   -- the command changes the carousel to the next one
   pub changes : ChangesTo view.carousel view.journal.geometry.objects command next done
   -- the body goes to the least gap
-  pub lies : start_of view.extents view.journal.geometry.data_area command ≡ Some from
+  pub lies : start_of view.extents view.journal.geometry.area command ≡ Some from
   -- the record is that of the command
   pub record_is : r ≡ kept_record view.carousel next command from
   -- the fields of the record are as their types keep them
@@ -377,7 +377,7 @@ module _ (view : RepositoryView) (command : Command) (going : IsFalse view.halte
   pub room_refused : (next : Carousel) (done : Done)
       → has_long_name view.journal.layout command ≡ false
       → ChangesTo view.carousel view.journal.geometry.objects command next done
-      → start_of view.extents view.journal.geometry.data_area command ≡ None
+      → start_of view.extents view.journal.geometry.area command ≡ None
       → IsRefusal view command NoRoom
   room_refused next done short changes none = IsRefusal.by_rules going fits (λ s agrees.
       refused_room view.journal.layout s command

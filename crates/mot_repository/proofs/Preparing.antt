@@ -67,10 +67,10 @@ lengths objects = map (λ (o : Object). o.length) objects
 
 module _ (g : Geometry) where
   abbrev IsWithin : Placed → Type 0
-  IsWithin p = p.start + p.object.length ≤ g.data_area
+  IsWithin p = p.start + p.object.length ≤ g.area
 
   -- a body that lies in the data area has its object's length
-  pub body-length : (area : List ℕ) (p : Placed) → IsWithin p → g.data_area ≤ length area
+  pub body-length : (area : List ℕ) (p : Placed) → IsWithin p → g.area ≤ length area
       → length (body_in_area area p) ≡ p.object.length
   body-length area p within long =
       let k : ℕ = p.start + p.object.length - p.start in
@@ -83,10 +83,10 @@ module _ (g : Geometry) where
     -- the objects that are kept, with these extents, are the placed ones
     pub placed : objects_in vs (extents-in ps) ≡ ps
     -- with the bodies in the area they are the whole objects
-    pub objects : (area : List ℕ) → g.data_area ≤ length area
+    pub objects : (area : List ℕ) → g.area ≤ length area
         → wholes area ps ≡ objects_of vs (bodies_in area ps)
     -- those bodies have the lengths that the kept objects give
-    pub sizes : (area : List ℕ) → g.data_area ≤ length area
+    pub sizes : (area : List ℕ) → g.area ≤ length area
         → map length (bodies_in area ps) ≡ lengths vs
 
   same-head : (o : Object) (b : List ℕ) (p : Placed) (area : List ℕ) (xs ys : List whole.Object)
@@ -98,7 +98,7 @@ module _ (g : Geometry) where
   same-size m n xs ys e = (cc, cc)
 
   -- kept objects that are, with some bodies, the whole ones match the placed ones
-  pub matched : (area : List ℕ) → g.data_area ≤ length area
+  pub matched : (area : List ℕ) → g.area ≤ length area
       → (vs : List Object) (bodies : List (List ℕ)) (ps : List Placed)
       → objects_of vs bodies ≡ wholes area ps → map length bodies ≡ lengths vs
       → AllByRecursion IsWithin ps → IsMatched vs ps
@@ -152,24 +152,24 @@ pub record IsKept (view : RepositoryView) (records : List Record) (c : Catalogue
   -- there is an extent for each object, of its length
   pub paired : ArePaired view.carousel view.extents
   -- with the bodies of any long enough area, the carousel that is kept is the catalogue's
-  pub carousel : (area : List ℕ) → view.journal.geometry.data_area ≤ length area
+  pub carousel : (area : List ℕ) → view.journal.geometry.area ≤ length area
       → carousel_in area c ≡ carousel_of view.carousel
       (map (λ (p : Placed). body_in_area area p) c.objects)
   -- the bodies in such an area are those of the kept carousel
-  pub bodies : (area : List ℕ) → view.journal.geometry.data_area ≤ length area
+  pub bodies : (area : List ℕ) → view.journal.geometry.area ≤ length area
       → AreBodiesOf view.carousel (map (λ (p : Placed). body_in_area area p) c.objects)
 
 -- bodies of objects without faults lie in the data area
 pub all-within : (g : Geometry) (view : RepositoryView) (objects : List Placed)
     → AllByRecursion (IsSoundPlaced g view.journal.layout) objects
-    → AllByRecursion (λ (p : Placed). p.start + p.object.length ≤ g.data_area) objects
+    → AllByRecursion (λ (p : Placed). p.start + p.object.length ≤ g.area) objects
 all-within g view [] a = tt
 all-within g view (p ∷ objects) a =
     ((placed_in g view.journal.layout p a.0).within, all-within g view objects a.1)
 
 -- the lengths of the extents are those of the bodies in the area
-pub sizes-of : (g : Geometry) (area : List ℕ) → g.data_area ≤ length area → (ps : List Placed)
-    → AllByRecursion (λ (p : Placed). p.start + p.object.length ≤ g.data_area) ps
+pub sizes-of : (g : Geometry) (area : List ℕ) → g.area ≤ length area → (ps : List Placed)
+    → AllByRecursion (λ (p : Placed). p.start + p.object.length ≤ g.area) ps
     → map (λ (e : ℕ × ℕ). e.1) (map (λ (p : Placed). (p.start, p.object.length)) ps)
     ≡ map length (map (λ (p : Placed). body_in_area area p) ps)
 sizes-of g area long [] within = refl
@@ -197,7 +197,7 @@ fold-of image s j read stands =
 
 -- the data area of an image that has records
 pub area-long : (image : List ℕ) (j : DiskRecords) → records_of image ≡ Ok j
-    → j.geometry.data_area ≤ length (area_of j.geometry image)
+    → j.geometry.area ≤ length (area_of j.geometry image)
 area-long image j read =
     let g = j.geometry in
     let long = (geometry_is image g (geometry_read image j read)).1 in
@@ -316,11 +316,11 @@ gap-fits extents n size from e =
 
 module _ (view : RepositoryView) (command : Command) (from : ℕ) (c : Catalogue)
     (extents : view.extents ≡ extents_of c) where
-  fits : start_of view.extents view.journal.geometry.data_area command ≡ Some from
-      → (from + length (body_of command) ≤ view.journal.geometry.data_area)
+  fits : start_of view.extents view.journal.geometry.area command ≡ Some from
+      → (from + length (body_of command) ≤ view.journal.geometry.area)
       × (list_all (is_beside from (length (body_of command))) (extents-in c.objects) ≡ true)
   fits lies =
-      let h = gap-fits view.extents (length (body_of command)) view.journal.geometry.data_area from
+      let h = gap-fits view.extents (length (body_of command)) view.journal.geometry.area from
       lies in
       (h.0, ap (λ l. is_free l (length (body_of command)) from) (sym extents) ∙ h.1)
 
@@ -453,7 +453,7 @@ pub record IsReady (view : RepositoryView) (s : Standing) (command : Command) (d
       → catalogue_of view.journal.geometry.objects (given ++ r ∷ []) ≡ Ok after
   -- each body lies in the data area, and beside the place of the command's, which lies there too
   pub beside : AreBeside view.journal.geometry from (length (body_of command)) c.objects
-      × (from + length (body_of command) ≤ view.journal.geometry.data_area)
+      × (from + length (body_of command) ≤ view.journal.geometry.area)
   -- an image of the standing that has the body in its place comes to the standing after
   pub step : (j : JournalView) (list : List Record) (image : List ℕ)
       → j.geometry ≡ view.journal.geometry
@@ -477,7 +477,7 @@ module _ (view : RepositoryView) (command : Command) (done : Done) (next : Carou
       × (extents_of after ≡ placed_extents_after c.objects command from)
 
   -- where an area has the body, the record makes the catalogue that the command asks for
-  pub made : (area : List ℕ) → view.journal.geometry.data_area ≤ length area
+  pub made : (area : List ℕ) → view.journal.geometry.area ≤ length area
       → slice_range area from (from + length (body_of command)) ≡ body_of command → Made area
   made area long lies =
       let bodies : List (List ℕ) = bodies_in area c.objects in
@@ -514,8 +514,8 @@ module _ (view : RepositoryView) (command : Command) (done : Done) (next : Carou
       let g : Geometry = view.journal.geometry in
       let body : List ℕ = body_of command in
       let room = fits view command from c is.extents prepared.lies in
-      let first = made (some-area from body g.data_area) (some-length from body g.data_area)
-      (some-slice from body g.data_area) in
+      let first = made (some-area from body g.area) (some-length from body g.area)
+      (some-slice from body g.area) in
       let lie : extents_of first.0
       ≡ extents_after (names_kept view.carousel) view.extents command from =
       first.3 ∙ ap (λ (d : Catalogue). placed_extents_after d.objects command from) (sym is.is)
@@ -537,8 +537,8 @@ module _ (view : RepositoryView) (command : Command) (done : Done) (next : Carou
         step = λ j list image same fold has of lies.
             let here = stands_by_parts g (with_records j list) c image same has.read fold in
             let standing = same-standing (standing_of g c image) s (sym here ∙ of.stands) in
-            let long : g.data_area ≤ length (area_of g image) =
-            subst (λ (h : Geometry). h.data_area ≤ length (area_of h image)) same
+            let long : g.area ≤ length (area_of g image) =
+            subst (λ (h : Geometry). h.area ≤ length (area_of h image)) same
             (area-long image (with_records j list) has.read) in
             let here_made = made (area_of g image) long
             (area-slice g image body from (length body) lies) in
@@ -586,8 +586,8 @@ objects-of area [] = refl
 objects-of area (p ∷ ps) =
     ap (λ l. object_of p.object (body_in_area area p) ∷ l) (objects-of area ps)
 
-lengths-of : (g : Geometry) (area : List ℕ) → g.data_area ≤ length area → (ps : List Placed)
-    → AllByRecursion (λ (p : Placed). p.start + p.object.length ≤ g.data_area) ps
+lengths-of : (g : Geometry) (area : List ℕ) → g.area ≤ length area → (ps : List Placed)
+    → AllByRecursion (λ (p : Placed). p.start + p.object.length ≤ g.area) ps
     → map length (bodies_in area ps) ≡ lengths (map (λ (p : Placed). p.object) ps)
 lengths-of g area long [] within = refl
 lengths-of g area long (p ∷ ps) within =

@@ -22,7 +22,7 @@ use Rattle.mot_repository.proofs.Soundness.{is_folded, placed_in, whole_fold}
 use Rattle.mot_repository.specs.Inner.Whole.{IsSoundPlaced}
 
 area-length : (g : Geometry) (image : List ℕ) → length_of g ≤ length image
-    → g.data_area ≤ length (area_of g image)
+    → g.area ≤ length (area_of g image)
 area-length g image long =
     omega (
       arith,
@@ -35,9 +35,9 @@ area-bytes : (g : Geometry) (image : List ℕ) → All (λ b. b < 256) image
 area-bytes g image bytes =
     All-drop (λ b. b < 256) (area_start g) image bytes
 
-module _ (g : Geometry) (layout : Layout) (area : List ℕ) (long : g.data_area ≤ length area)
+module _ (g : Geometry) (layout : Layout) (area : List ℕ) (long : g.area ≤ length area)
     (bytes : All (λ b. b < 256) area) where
-  body-length : (p : Placed) → p.start + p.object.length ≤ g.data_area
+  body-length : (p : Placed) → p.start + p.object.length ≤ g.area
       → length (body_in_area area p) ≡ p.object.length
   body-length p within =
       omega (

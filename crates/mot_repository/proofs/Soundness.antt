@@ -137,7 +137,7 @@ pub record IsPlacedIn (g : Geometry) (p : Placed) : Type 0 where
   -- its body is not longer than the longest
   pub short : p.object.length ≤ 262144
   -- its body lies in the data area
-  pub within : p.start + p.object.length ≤ g.data_area
+  pub within : p.start + p.object.length ≤ g.area
 
 -- an object without a fault of fields keeps the rules, and lies in the data area
 pub placed_in : (g : Geometry) (layout : Layout) (p : Placed) → IsSoundPlaced g layout p
@@ -148,7 +148,7 @@ placed_in g layout p is =
     let b2 = nat_le o.content.content_type 63 in
     let b3 = nat_le o.content.subtype 511 in
     let b4 = is_within 1 262144 o.length in
-    let b5 = nat_le (p.start + o.length) g.data_area in
+    let b5 = nat_le (p.start + o.length) g.area in
     let b6 = is_name (longest_name layout) o.name in
     let h6 = and_parts (b1 && b2 && b3 && b4 && b5 && b6) (option_map_or is_mime o.mime true)
     is.0 in
@@ -165,17 +165,17 @@ placed_in g layout p is =
       mime = mime-is o.mime h6.1;
       some = leb-true 1 o.length size.0;
       short = leb-true o.length 262144 size.1;
-      within = leb-true (p.start + o.length) g.data_area h4.1;
+      within = leb-true (p.start + o.length) g.area h4.1;
     }
 
 -- a valid geometry has at most 250 objects
 pub few_objects : (g : Geometry) → is_valid g ≡ true → g.objects ≤ 250
 few_objects g valid =
     let b1 = is_within 1 250 g.objects in
-    let b2 = is_within 1 268435456 g.data_area in
-    let b3 = is_within 64 8189 g.segment_size in
+    let b2 = is_within 1 268435456 g.area in
+    let b3 = is_within 64 8189 g.segment in
     let b4 = is_within 1 1023 g.address in
-    let h4 = and_parts (b1 && b2 && b3 && b4) (is_packet_length g.packet_length) valid in
+    let h4 = and_parts (b1 && b2 && b3 && b4) (is_packet_length g.packet) valid in
     let h3 = and_parts (b1 && b2 && b3) b4 h4.0 in
     let h2 = and_parts (b1 && b2) b3 h3.0 in
     let h1 = and_parts b1 b2 h2.0 in
@@ -225,7 +225,7 @@ module _ (area : List ℕ) where
 
 extents-within : (g : Geometry) (layout : Layout) (objects : List Placed)
     → AllByRecursion (IsSoundPlaced g layout) objects
-    → AllByRecursion (λ (e : ℕ × ℕ). (1 ≤ e.1) × (e.0 + e.1 ≤ g.data_area))
+    → AllByRecursion (λ (e : ℕ × ℕ). (1 ≤ e.1) × (e.0 + e.1 ≤ g.area))
     (map (λ (p : Placed). (p.start, p.object.length)) objects)
 extents-within g layout [] a = tt
 extents-within g layout (p ∷ objects) a = let is = placed_in g layout p a.0 in
@@ -270,7 +270,7 @@ is_folded image s e = record-cases image s (records_of image) refl e
 
 abbrev Sound : Standing → Type 0
 Sound s = IsSound s.carousel × (length s.carousel.objects ≤ s.geometry.objects)
-    × AllByRecursion (λ (e : ℕ × ℕ). (1 ≤ e.1) × (e.0 + e.1 ≤ s.geometry.data_area)) s.extents
+    × AllByRecursion (λ (e : ℕ × ℕ). (1 ≤ e.1) × (e.0 + e.1 ≤ s.geometry.area)) s.extents
 
 -- the bytes after its data area are those of the image
 pub standings_rest : (image : List ℕ) (s : Standing) → stands_for image ≡ Ok s

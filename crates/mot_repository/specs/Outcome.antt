@@ -56,7 +56,7 @@ after_command layout s command =
     if has_long_name layout command then Err BadName
     else (do
       made ← change s.carousel s.geometry.objects command
-      start ← or_no_room (start_of s.extents s.geometry.data_area command)
+      start ← or_no_room (start_of s.extents s.geometry.area command)
       let names = map (λ (o : Object). o.name) s.carousel.objects
       let extents = extents_after names s.extents command start
       Ok (record s { carousel = made.0; extents = extents }, made.1))

@@ -62,10 +62,7 @@ fn make_room<D: Disk>(journal: &mut Journal, disk: &mut D, given: &[Record]) -> 
     if !journal.is_full() {
         return Ok(());
     }
-    let Ok(()) = journal.rewrite(disk, given) else {
-        return Err(Refusal::DeviceFault);
-    };
-    Ok(())
+    journal.rewrite(disk, given)
 }
 
 /// Writes what is prepared for a command: if the half is full, the given records into the other

@@ -11,6 +11,7 @@ mod records;
 mod repository;
 
 pub use gap::{first_fit, longest_gap};
+pub use mot_journal::format;
 pub use opening::Refused;
 pub use prepared::Prepared;
 pub use repository::Repository;

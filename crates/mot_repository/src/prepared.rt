@@ -79,7 +79,7 @@ pub(crate) fn prepare_change<'a>(
         return Err(Refusal::BadName);
     }
     let change = plan(alloc, &inventory.carousel, geometry.objects, command)?;
-    let start = body_start(&inventory.by_start, command, geometry.data_area);
+    let start = body_start(&inventory.by_start, command, geometry.area);
     let Some(start) = start else {
         return Err(Refusal::NoRoom);
     };

@@ -143,10 +143,10 @@ impl<D: Disk> Repository<D> {
 
     /// The most bytes that the body of one object more could have: they lie in one piece.
     pub fn longest_gap(&self) -> u32
-        ensures { IsLongestGap self.now.view.extents self.now.view.journal.geometry.data_area
+        ensures { IsLongestGap self.now.view.extents self.now.view.journal.geometry.area
             result }
     {
-        longest_gap(&self.inventory.extents, self.journal.geometry().data_area)
+        longest_gap(&self.inventory.extents, self.journal.geometry().area)
     }
 
     /// How many records its journal has, each in a slot of the half that is selected.
@@ -347,10 +347,7 @@ impl<D: Disk> Repository<D> {
         if self.halted {
             return Err(Refusal::Halted);
         }
-        let Ok(clean) = self.journal.is_clean(&mut self.disk) else {
-            return Err(Refusal::DeviceFault);
-        };
-        Ok(clean)
+        self.journal.is_clean(&mut self.disk)
     }
 
     /// Rewrites the journal into layout 2; false, with no disk call, if it is of layout 2 already.
@@ -398,10 +395,10 @@ impl<D: Disk> Repository<D> {
             return Ok(false);
         };
         let given = records_of(alloc, &self.inventory)?;
-        let Ok(()) = self.journal.migrate(&mut self.disk, &given) else {
+        if let Err(fault) = self.journal.migrate(&mut self.disk, &given) {
             self.halted = true;
-            return Err(Refusal::DeviceFault);
-        };
+            return Err(fault);
+        }
         Ok(true)
     }
 }

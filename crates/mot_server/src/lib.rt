@@ -1,20 +1,11 @@
-//! A server that keeps a carousel on a disk, and plays it.
+//! The product as one library: a server that keeps a carousel on a disk and plays it, the lines that
+//! it is asked by, and the whole program in one call.
 #![tactic(auto)]
 
-mod beginning;
-mod bodies;
-mod comparing;
-mod headline;
-mod life;
-mod playing;
-mod restarting;
-mod running;
-mod server;
+mod program;
 
-pub use beginning::{Beginning, format_and_restart};
-pub use headline::{Aftermath, run_and_restart};
-pub use life::{FirstTurn, Life, first_turn, format_and_open, format_and_run};
-pub use mot_repository::Refused;
-pub use restarting::{Restarted, restart};
-pub use running::{Attempt, RunEnd};
-pub use server::Server;
+pub use mot_journal::Layout;
+pub use mot_numbers::Geometry;
+pub use mot_playout::{Refused, Restarted, RunEnd, Server, restart};
+pub use mot_session::{Line, ServeEnd, parse_line, serve};
+pub use program::{run_program, run_program_on};

@@ -24,10 +24,10 @@ use Rattle.mot_repository.specs.Answers.{refused}
 use Rattle.mot_repository.specs.Answers as repository
 use Rattle.mot_repository.specs.Outcome.{after_command}
 use Rattle.mot_repository.specs.Repository.{RepositoryView, Agrees, Holds, IsBeforeOrAfter}
-use Rattle.mot_server.specs.Runs.{StandsAfterSome}
-use Rattle.mot_server.specs.Server.{ServerView, place_in, bodies_of}
-use Rattle.mot_server.proofs.Laws.{after_none, before_or_after, holds_still, more}
-use Rattle.mot_server.proofs.Laws.{none_of, not_halted, not_ok, still_agrees}
+use Rattle.mot_playout.specs.Runs.{StandsAfterSome}
+use Rattle.mot_playout.specs.Server.{ServerView, place_in, bodies_of}
+use Rattle.mot_playout.proofs.Laws.{after_none, before_or_after, holds_still, more}
+use Rattle.mot_playout.proofs.Laws.{none_of, not_halted, not_ok, still_agrees}
 use Rattle.mot_session.specs.Raw.{raw_group, packets_at}
 use Rattle.mot_session.specs.Inner.Decision.{Decides, MayWrite, may_be_done, written_by}
 use Rattle.mot_session.specs.Session as session
@@ -59,7 +59,7 @@ module _ {D : Type 0} (old new : ServerView D) (s : Standing) (start now : State
   pub Answers-accepted : (done : Done) → IsAnswered old.view new.view start now c (Ok done)
       → IsFalse old.view.halted → (next : Standing)
       → after_command old.view.journal.layout s c ≡ Ok (next, done) → Holds new.view next now
-      → place_in new next ≡ changed (turn_of_carousel next.carousel next.geometry.segment_size)
+      → place_in new next ≡ changed (turn_of_carousel next.carousel next.geometry.segment)
       (place_in old s)
       → (last : Standing) × StandsFor new.view last now
       × Answers (state_of old s start) (Ok (asks.Command c)) (session.accepted done)

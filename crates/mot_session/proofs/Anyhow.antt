@@ -19,7 +19,7 @@ use Rattle.mot_objects.specs.declared.command.Command.{Command}
 use Rattle.mot_objects.specs.declared.command.Done.{Done}
 use Rattle.mot_repository.specs.Answers.{IsAnswered, accepted, refused, failed}
 use Rattle.mot_repository.specs.Repository.{RepositoryView}
-use Rattle.mot_server.proofs.Laws.{not_ok}
+use Rattle.mot_playout.proofs.Laws.{not_ok}
 use Rattle.mot_session.specs.declared.deciding.Decision.{Decision}
 use Rattle.mot_session.specs.declared.deciding.Decision.TheVariants.{Refused, Accepted, Listing}
 use Rattle.mot_session.specs.declared.deciding.Decision.TheVariants.{Packets, Next, Turn}

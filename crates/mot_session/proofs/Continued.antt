@@ -103,7 +103,7 @@ commanded : (before after : ServerState) (c : Command) (reply : Reply)
     → IsCommandAnswer before c reply after
     → Leads before.place after.place (packets_in reply)
 commanded before after c reply (accepts d next e outcome a) = rw (e, a.place)
-    (Leads-change before.place next.carousel next.geometry.segment_size)
+    (Leads-change before.place next.carousel next.geometry.segment)
 commanded before after c reply (refuses r e why s) =
     stays before after reply (refused r) refl e s.place
 commanded before after c reply (fails e rises h) =
@@ -154,10 +154,10 @@ continuous : (before : ServerState) (after : Place) (sent : List (List ℕ))
     → IsContinuous sent
 continuous before after sent v opened l =
     let g = before.standing.geometry in
-    let turn = turn_of_carousel before.standing.carousel g.segment_size in
-    steps-are-continuous g.address (packet_room g) g.segment_size turn false l.steps l.sents after
+    let turn = turn_of_carousel before.standing.carousel g.segment in
+    steps-are-continuous g.address (packet_room g) g.segment turn false l.steps l.sents after
     sent
-    (some_room g.packet_length v.8)
+    (some_room g.packet v.8)
     (subst (λ (p : Place). sent_by p l.steps ≡ Some (l.sents, after)) opened l.taken) l.read
 
 -- all packets of a session on a server just opened have their indexes

@@ -5,9 +5,9 @@ use Rattle.std.specs.Prelude.{IsTrue, IsFalse}
 use Rattle.mot_journal.specs.Image.{Standing}
 use Rattle.mot_lines.specs.Line.{line_of}
 use Rattle.mot_objects.specs.declared.command.Command.{Command}
-use Rattle.mot_server.specs.Runs.{IsAfter, StandsAfterSome}
-use Rattle.mot_server.proofs.Laws.{after_none, after_one}
-use Rattle.mot_server.proofs.Laws.{after_history_none}
+use Rattle.mot_playout.specs.Runs.{IsAfter, StandsAfterSome}
+use Rattle.mot_playout.proofs.Laws.{after_none, after_one}
+use Rattle.mot_playout.proofs.Laws.{after_history_none}
 use Rattle.mot_session.specs.Session.{Exchange, Session}
 use Rattle.mot_session.specs.State.{ServerState}
 use Rattle.mot_session.specs.Inner.Writes.{accepted_in, failed_in}

@@ -6,7 +6,7 @@ use Rattle.disk_model.specs.Disk.{State, IsHonestDisk}
 use Rattle.mot_lines.specs.Line.{line_of}
 use Rattle.mot_lines.specs.Lines.{whole_lines}
 use Rattle.mot_lines.proofs.Laws.{whole_lines-none}
-use Rattle.mot_server.specs.Server.{ServerView}
+use Rattle.mot_playout.specs.Server.{ServerView}
 use Rattle.mot_session.specs.declared.serving.output.WriteFault.{WriteFault}
 use Rattle.mot_session.specs.Inner.Anyhow.{AnswersWithAnyhow}
 use Rattle.mot_session.specs.Inner.Writes.{AnswersLine}

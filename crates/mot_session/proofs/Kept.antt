@@ -6,7 +6,7 @@ use Rattle.mot_lines.specs.Line.{line_of}
 use Rattle.mot_lines.specs.Text.{refusal_line}
 use Rattle.mot_numbers.specs.declared.refusal.Refusal.TheVariants.{DeviceFault}
 use Rattle.mot_objects.specs.declared.command.Command.{Command}
-use Rattle.mot_server.specs.Server.{ServerView}
+use Rattle.mot_playout.specs.Server.{ServerView}
 use Rattle.mot_session.specs.Kept.{IsToldAndStored}
 use Rattle.mot_session.specs.Life.{Told, done_in, fails_in, is_done}
 use Rattle.mot_session.specs.LineByLine.{BreaksOff, ServesOne}

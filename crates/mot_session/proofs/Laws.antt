@@ -73,7 +73,7 @@ gathered room address group size e low high some =
 -- the packets of a raw reply read as the segment that was asked for
 pub raw_packets-read : RawRepliesRead
 raw_packets-read g kind tid body v low high some short =
-    let size = length_of g.packet_length v.8 in
+    let size = length_of g.packet v.8 in
     let group : GroupFields = raw_group kind tid body in (
       bytes_of_group group,
       gathered (packet_room g) g.address (bytes_of_group group) size.0 size.1 v.6 v.7

@@ -26,11 +26,11 @@ use Rattle.mot_objects.specs.declared.command.Command as command
 use Rattle.mot_player.specs.Reading.{ReadsAs}
 use Rattle.mot_repository.specs.Repository.{IsOf, Holds}
 use Rattle.mot_objects.specs.Carousel.{Carousel, carousel_after}
-use Rattle.mot_server.specs.Life.{AreNumbered, carousel_from}
-use Rattle.mot_server.specs.Runs.{IsAfter, StandsAfterSome}
-use Rattle.mot_server.specs.Server.{ServerView}
-use Rattle.mot_server.proofs.Laws.{more, none_of, not_halted, rises_on}
-use Rattle.mot_server.specs.Lives.{HasDone, LivesOn}
+use Rattle.mot_playout.specs.Life.{AreNumbered, carousel_from}
+use Rattle.mot_playout.specs.Runs.{IsAfter, StandsAfterSome}
+use Rattle.mot_playout.specs.Server.{ServerView}
+use Rattle.mot_playout.proofs.Laws.{more, none_of, not_halted, rises_on}
+use Rattle.mot_playout.specs.Lives.{HasDone, LivesOn}
 use Rattle.mot_session.specs.Inner.Kept.{IsKeptFrom}
 use Rattle.mot_session.specs.Life.{Told, commands_done, done_in}
 use Rattle.mot_session.specs.Life.{AreRightReplies, fails_in, Tells, is_done}
@@ -915,7 +915,7 @@ module _ {D A B : Type 0} (state : D → State) (result : Result A B) (server_of
     (held : (s : Standing) → IsOf s image → IfOk result (λ a. (state (server_of a).disk).IsHonest
     → Holds (server_of a).view s (state (server_of a).disk)))
     (reads : (s : Standing) → IsOf s image → IfOk result (λ a. (state (server_of a).disk).IsHonest
-    → ReadsAs (packets_of a) s.carousel s.geometry.segment_size))
+    → ReadsAs (packets_of a) s.carousel s.geometry.segment))
     (numbers : (s : Standing) → IsOf s image → IfOk result (λ a.
     (state (server_of a).disk).IsHonest → AreNumbered s.geometry 0 (packets_of a))) where
   -- a server that opened what a crash left lives on, with the sure ones and some of the others
@@ -948,7 +948,7 @@ module _ {D A B : Type 0} (state : D → State) (result : Result A B) (server_of
           few = omega arith;
           carousel = last.carousel;
           after = none.carousel;
-          reads = subst (λ (x : Geometry). ReadsAs (packets_of a) last.carousel x.segment_size)
+          reads = subst (λ (x : Geometry). ReadsAs (packets_of a) last.carousel x.segment)
               is.geometry (read honest);
           numbered = subst (λ (x : Geometry). AreNumbered x 0 (packets_of a)) is.geometry
               (numbered honest);

@@ -8,7 +8,7 @@ use Rattle.std.proofs.Math.Seq.{take-append-add}
 use Rattle.mot_numbers.specs.declared.geometry.Geometry.{Geometry}
 use Rattle.mot_objects.specs.declared.command.Command.{Command}
 use Rattle.mot_objects.specs.Carousel.{carousel_after}
-use Rattle.mot_server.specs.Life.{PlaysAfter, carousel_from}
+use Rattle.mot_playout.specs.Life.{PlaysAfter, carousel_from}
 use Rattle.mot_session.specs.Inner.Kept.{IsKeptFrom}
 use Rattle.mot_session.specs.Life.{Told, commands_done, done_in}
 

@@ -10,10 +10,10 @@ use Rattle.mot_lines.specs.Line.{line_of}
 use Rattle.mot_numbers.specs.declared.geometry.Geometry.{Geometry}
 use Rattle.mot_objects.specs.declared.command.Command.{Command}
 use Rattle.mot_objects.specs.Carousel.{Carousel, carousel_after}
-use Rattle.mot_server.specs.Life.{carousel_from}
-use Rattle.mot_server.specs.Lives.{HasDone}
-use Rattle.mot_server.specs.Runs.{IsAfter, StandsAfterSome}
-use Rattle.mot_server.specs.Server.{ServerView}
+use Rattle.mot_playout.specs.Life.{carousel_from}
+use Rattle.mot_playout.specs.Lives.{HasDone}
+use Rattle.mot_playout.specs.Runs.{IsAfter, StandsAfterSome}
+use Rattle.mot_playout.specs.Server.{ServerView}
 use Rattle.mot_session.specs.Life.{AreRightReplies, Told, TellsLine, done_in, fails_in, is_done}
 use Rattle.mot_session.specs.LineByLine.{BreaksOff, ServesOne}
 use Rattle.mot_session.specs.Session.{text_of}

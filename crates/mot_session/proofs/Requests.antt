@@ -11,8 +11,8 @@ use Rattle.mot_packets.specs.Packet.{read_packet}
 use Rattle.mot_packets.specs.Written.{bytes_of_packet}
 use Rattle.mot_player.specs.Laws.{IsStep}
 use Rattle.mot_repository.specs.Repository.{RepositoryView, Agrees, Holds}
-use Rattle.mot_server.specs.Server.{ServerView, place_in}
-use Rattle.mot_server.proofs.Laws.{holds_still}
+use Rattle.mot_playout.specs.Server.{ServerView, place_in}
+use Rattle.mot_playout.proofs.Laws.{holds_still}
 use Rattle.mot_session.specs.declared.serving.output.WriteFault.{WriteFault}
 use Rattle.mot_session.specs.Inner.Writes.{AnswersOne, ReadsAlone, sends}
 use Rattle.mot_session.specs.Output.{Writes}

@@ -22,7 +22,7 @@ use Rattle.mot_objects.specs.declared.command.Command.TheVariants.{Put}
 use Rattle.mot_objects.specs.declared.command.Done.{Done}
 use Rattle.mot_objects.specs.Carousel.{Carousel, change}
 use Rattle.mot_objects.specs.Content.{ContentNumbers}
-use Rattle.mot_server.specs.Life.{carousel_from}
+use Rattle.mot_playout.specs.Life.{carousel_from}
 use Rattle.mot_session.specs.Life.{AreRightReplies, is_done}
 use Rattle.mot_session.specs.Raw.{raw_group}
 use Rattle.mot_session.specs.Replies.{IsReply, IsRightReply, IsShown}

@@ -38,7 +38,7 @@ use Rattle.mot_objects.specs.Name.{is_name}
 use Rattle.mot_objects.specs.Rules.{AllKeepRules}
 use Rattle.mot_repository.specs.Outcome.{after_command, has_long_name}
 use Rattle.mot_repository.proofs.Laws.{accepted_parts}
-use Rattle.mot_server.proofs.Laws.{IsRefused, refused_by}
+use Rattle.mot_playout.proofs.Laws.{IsRefused, refused_by}
 use Rattle.mot_session.specs.Life.{AreRightReplies, Told}
 use Rattle.mot_session.specs.Replies.{IsRightReply, IsShown}
 use Rattle.mot_session.specs.Session.{Answers, IsAnswer, IsCommandAnswer}

@@ -221,7 +221,7 @@ length-group g =
     omega (arith, length-append g.segment.bytes (to_be_bytes w16 (crc_of covered)))
 
 raw-count : (g : Geometry) (kind : GroupKind) (tid : ℕ) (body : List ℕ)
-    → length (raw_packets g kind tid body) ≡ div_ceil (length body + 11) (g.packet_length - 5)
+    → length (raw_packets g kind tid body) ≡ div_ceil (length body + 11) (g.packet - 5)
 raw-count g kind tid body =
     length-packets_of_group (packet_room g) g.address 0 (bytes_of_group (raw_group kind tid body))
     ∙ ap (λ n. div_ceil n (packet_room g)) (length-group (raw_group kind tid body))

@@ -6,7 +6,7 @@ use Rattle.mot_lines.specs.Hand.{bytes_in_hand}
 use Rattle.mot_lines.specs.Line.{line_of}
 use Rattle.mot_lines.specs.Lines.{HasNoLineEnd, whole_lines, rest_of}
 use Rattle.mot_lines.proofs.Laws.{whole_lines-end, whole_lines-front, whole_lines-within}
-use Rattle.mot_server.specs.Server.{ServerView}
+use Rattle.mot_playout.specs.Server.{ServerView}
 use Rattle.mot_session.specs.Inner.InHand.{InHand}
 use Rattle.mot_session.specs.LineByLine.{BreaksOff, ServesEach, ServesOne, ServesSome}
 use Rattle.mot_session.proofs.Each.{each-more, some-here}

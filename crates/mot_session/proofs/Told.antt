@@ -9,9 +9,9 @@ use Rattle.mot_journal.specs.Image.{Standing}
 use Rattle.mot_lines.specs.Line.{line_of}
 use Rattle.mot_objects.specs.declared.command.Command.{Command}
 use Rattle.mot_repository.specs.Repository.{IsOf}
-use Rattle.mot_server.specs.Runs.{IsAfter, StandsAfterSome}
-use Rattle.mot_server.specs.Server.{ServerView}
-use Rattle.mot_server.proofs.Laws.{after_both, more, none_of}
+use Rattle.mot_playout.specs.Runs.{IsAfter, StandsAfterSome}
+use Rattle.mot_playout.specs.Server.{ServerView}
+use Rattle.mot_playout.proofs.Laws.{after_both, more, none_of}
 use Rattle.mot_session.specs.declared.serving.output.WriteFault.{WriteFault}
 use Rattle.mot_session.specs.Inner.Writes.{AnswersLine, Crosses}
 use Rattle.mot_session.specs.Served.{ServedLine, StoppedLine}

@@ -86,7 +86,7 @@ module _ (g : Geometry) where
   says_end l = list_any (λ b. nat_eq b 110) l
 
   abbrev packets_of_raw : List ℕ → ℕ
-  packets_of_raw body = div_ceil (length body + 11) (g.packet_length - 5)
+  packets_of_raw body = div_ceil (length body + 11) (g.packet - 5)
 
   -- whether this line, behind so many, is the last of a reply, if it is no refusal
   abbrev ends_so : Result Line Refusal → ℕ → List ℕ → Bool
@@ -822,7 +822,7 @@ module _ (g : Geometry) where
   count-some None n e = cc
   count-some (Some m) n e = count-by (nat_lt 0 m) m n refl (nat_le m MAX_PACKETS) e
 
-  module _ (is : 0 < g.packet_length - 5) where
+  module _ (is : 0 < g.packet - 5) where
     raw-proper : (words : List (List ℕ)) → IsProper (raw_of words)
     unfolding raw_of
     raw-proper [] = tt
@@ -834,7 +834,7 @@ module _ (g : Geometry) where
         behind (number_to 65535 (number_of_word b)) (λ t.
         segment_in (decode_of c) >>= λ body. Ok (asks.Raw k t body)) (λ t e.
         behind (segment_in (decode_of c)) (λ body. Ok (asks.Raw k t body)) (λ body e.
-        some_pieces (length body + 11) (g.packet_length - 5) (omega arith) is)))
+        some_pieces (length body + 11) (g.packet - 5) (omega arith) is)))
     raw-proper (a ∷ b ∷ c ∷ d ∷ words) = tt
 
     next-proper : (words : List (List ℕ)) → IsProper (next_of words)
@@ -929,5 +929,5 @@ some-room n (inr (inr (inr e))) = omega (arith, e)
 
 pub replies-are_cut_once : RepliesAreCutOnce
 replies-are_cut_once g input left count fault told others flight fly old new valid =
-    told_once g (some-room g.packet_length valid.8) input left count fault told others flight fly
+    told_once g (some-room g.packet valid.8) input left count fault told others flight fly
     old new

@@ -23,7 +23,7 @@ use Rattle.mot_packets.specs.Written.{bytes_of_packet}
 use Rattle.mot_player.specs.Place.{Place, Sent, Step, Request, sent_by}
 use Rattle.mot_player.specs.Sending.{HasSent, packets_sent}
 use Rattle.mot_player.proofs.Laws.{requests-go_on}
-use Rattle.mot_server.proofs.Laws.{rises_on}
+use Rattle.mot_playout.proofs.Laws.{rises_on}
 use Rattle.mot_session.specs.declared.serving.output.WriteFault.{WriteFault}
 use Rattle.mot_session.specs.Inner.Writes.{Answered, AnswersWith, AnswersRequest, FailsToSend}
 use Rattle.mot_session.specs.Inner.Writes.{SendsOne}

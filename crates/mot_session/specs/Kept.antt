@@ -3,7 +3,7 @@ use Rattle.std.specs.Prelude.{ℕ, ◌≡◌, ◌≤◌, List, ◌++◌, IsFalse
 use Rattle.disk_model.specs.Disk.{State, Throughout}
 use Rattle.mot_journal.specs.Image.{Standing}
 use Rattle.mot_objects.specs.declared.command.Command.{Command}
-use Rattle.mot_server.specs.Runs.{IsAfter, StandsAfterSome}
+use Rattle.mot_playout.specs.Runs.{IsAfter, StandsAfterSome}
 use Rattle.mot_session.specs.State.{ServerState}
 
 -- At each moment since that one of the disk's clock, inside a call of the disk or between two, a

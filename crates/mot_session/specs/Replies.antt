@@ -16,7 +16,7 @@ use Rattle.mot_numbers.specs.declared.refusal.Refusal.TheVariants.{DeviceFault, 
 use Rattle.mot_objects.specs.declared.command.Command as command
 use Rattle.mot_objects.specs.declared.command.Done.{Done}
 use Rattle.mot_objects.specs.Carousel.{Carousel, change}
-use Rattle.mot_server.specs.Life.{LacksRoom}
+use Rattle.mot_playout.specs.Life.{LacksRoom}
 
 -- a packet that is shown, and whether it ends a turn
 abbrev pub Shown : Type 0
@@ -34,7 +34,7 @@ ends_of shown = map (λ (p : Shown). p.1) shown
 -- failed behind them, some first ones. A `raw` line's group has 11 bytes more than its body.
 abbrev pub AreAsked : Geometry → Result Line Refusal → Bool → List Bool → Type 0
 AreAsked g (Ok (Raw kind tid body)) false ends =
-    ends ≡ replicate (div_ceil (length body + 11) (g.packet_length - 5)) false
+    ends ≡ replicate (div_ceil (length body + 11) (g.packet - 5)) false
 AreAsked g (Ok (Next count)) false ends = length ends ≡ count
 AreAsked g (Ok (Next count)) true ends = length ends < count
 AreAsked g (Ok Turn) false ends = (n : ℕ) × (ends ≡ replicate n false ++ true ∷ [])
@@ -80,6 +80,6 @@ IsRightReply Cause g (Some c) (Ok (Command x)) text (Some new) =
     ((d : Done) × (change c g.objects x ≡ Ok (new, d)) × (text ≡ done_line d))
     ⊎ ((r : Refusal) × (change c g.objects x ≡ Err r) × (text ≡ refusal_line r) × (new ≡ c))
     ⊎ ((made : Carousel × Done) × (change c g.objects x ≡ Ok made) × (text ≡ refusal_line NoRoom)
-    × (new ≡ c) × LacksRoom g.data_area c.objects x)
+    × (new ≡ c) × LacksRoom g.area c.objects x)
 IsRightReply Cause g (Some c) (Ok request) text new =
     (new ≡ Some c) × IsShown Cause g (Ok request) text

@@ -48,7 +48,7 @@ pub data IsCommandAnswer (s : ServerState) (c : command.Command) (reply : Reply)
     (after : ServerState) : Type 0 where
   accepts : (done : Done) (next : Standing) → reply ≡ accepted done
       → after_command s.layout s.standing c ≡ Ok (next, done)
-      → Becomes s next (changed (turn_of_carousel next.carousel next.geometry.segment_size) s.place)
+      → Becomes s next (changed (turn_of_carousel next.carousel next.geometry.segment) s.place)
       s.halted after → IsCommandAnswer s c reply after
   refuses : (refusal : Refusal) → reply ≡ refused refusal
       → after_command s.layout s.standing c ≡ Err refusal → Stays s after

@@ -7,7 +7,7 @@ use Rattle.mot_numbers.specs.Geometry.{packet_room}
 use Rattle.mot_player.specs.Place.{Place, opened_place}
 use Rattle.mot_player.specs.Turn.{turn_of_carousel}
 use Rattle.mot_repository.specs.Repository.{RepositoryView, Agrees, Holds}
-use Rattle.mot_server.specs.Server.{ServerView, place_in}
+use Rattle.mot_playout.specs.Server.{ServerView, place_in}
 
 pub record ServerState : Type 0 where
   -- its geometry, its carousel with the bodies, and where they lie
@@ -67,5 +67,5 @@ Stays before after = Becomes before before.standing before.place before.halted a
 abbrev pub HasJustOpened : ServerState → Type 0
 HasJustOpened state =
     let g = state.standing.geometry in
-    state.place ≡ opened_place g.address (packet_room g) g.segment_size
-    (turn_of_carousel state.standing.carousel g.segment_size)
+    state.place ≡ opened_place g.address (packet_room g) g.segment
+    (turn_of_carousel state.standing.carousel g.segment)

@@ -11,7 +11,7 @@ pub(crate) use group::group_of;
 use mot_lines::Line;
 use mot_numbers::Refusal;
 use mot_objects::{Command, Done};
-use mot_server::Server;
+use mot_playout::Server;
 use std::alloc::{AllocError, Global};
 
 /// The answer to a line, before it is written. A list and packets are shown as the server has them

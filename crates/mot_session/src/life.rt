@@ -13,9 +13,9 @@ ghost use Rattle.mot_numbers.specs.declared.refusal.Refusal.TheVariants.{OutOfMe
 ghost use Rattle.mot_objects.specs.declared.command.Command.{Command};
 ghost use Rattle.mot_repository.specs.Opening.{IsPassing};
 ghost use Rattle.mot_objects.specs.Carousel.{carousel_after};
-ghost use Rattle.mot_server.specs.Life.{IsBlank, IsUnmade, carousel_from};
-ghost use Rattle.mot_server.specs.Lives.{HasDone, KeepsCommands, LivesOn};
-ghost use Rattle.mot_server.specs.Playing.{bytes_of_packets};
+ghost use Rattle.mot_playout.specs.Life.{IsBlank, IsUnmade, carousel_from};
+ghost use Rattle.mot_playout.specs.Lives.{HasDone, KeepsCommands, LivesOn};
+ghost use Rattle.mot_playout.specs.Playing.{bytes_of_packets};
 ghost use Rattle.mot_session.specs.Life.{AreRightReplies, Told, Tells, TellsLine, commands_done};
 ghost use Rattle.mot_session.specs.Life.{fails_in};
 ghost use Rattle.mot_session.specs.Served.{EndsServing, TakesInput};
@@ -23,7 +23,7 @@ ghost use Rattle.mot_session.specs.Served.{EndsServing, TakesInput};
 use crate::{Geometry, MAX_READS, ServeEnd, WriteFault, serve, serve_line};
 use disk_model::Disk;
 use mot_numbers::TransportId;
-use mot_server::{Refused, Restarted, Server, format_and_open, restart};
+use mot_playout::{Refused, Restarted, Server, format_and_open, restart};
 use std::alloc::Global;
 use std::io::{Read, Write};
 
@@ -41,7 +41,7 @@ pub struct ServedLife<D: Disk> {
 /// keeps a beginning of the commands whose replies say `done`, with at most the one in flight; or
 /// it has no magic, if the crash came before that. After the call it keeps all of them.
 ///
-/// The operator's promise, with `mot_server::first_turn`: for every input, whatever disk reads as
+/// The operator's promise, with `mot_playout::first_turn`: for every input, whatever disk reads as
 /// such an image, the packets of its first turn read, by the standards' grammars, as exactly the
 /// carousel after the commands that the image keeps.
 /// (`serve_line_and_restart` has it line by line: there the return is the moment from which on a

@@ -1,6 +1,6 @@
 //! What a program has to come to lines by that are given while it works.
 ghost use Rattle.std.specs.Prelude.{◌≡◌, ◌≤◌, ℕ, List, [], ◌∷◌, ◌++◌, length, take};
-ghost use Rattle.mot_events.specs.Log.{HasGrown};
+ghost use Rattle.mot_events.specs.Log.{AreOfFiles, Entry, HearsAll};
 
 use crate::line_count::LineCount;
 use mot_events::Tells;
@@ -15,7 +15,6 @@ pub trait Inlet {
     fn read<T: Tells>(&mut self, room: &mut [u8], count: &mut LineCount, log: &mut T) -> usize
         ensures fits { result ≤ length room.new }
         ensures gave { gave self.new ≡ gave self.old ++ take result room.new ∷ [] }
-        ensures levels { T.log_has_levels log.new ≡ T.log_has_levels log.old }
-        ensures told { HasGrown (T.log_is_whole log.old) (T.log_is_whole log.new)
-            (T.log_has log.old) (T.log_has log.new) };
+        ensures told { (entries : List Entry) × AreOfFiles entries
+            × HearsAll T.hears T.misses log.old entries log.new };
 }

@@ -1,5 +1,5 @@
 //! Which line of which file is answered.
-ghost use Rattle.std.specs.Prelude.{◌≡◌, ◌⊎◌, ◌+◌, min};
+ghost use Rattle.std.specs.Prelude.{◌≡◌, ◌⊎◌, ◌+◌, ◌≤◌, [], length, min, vec_capacity};
 
 use std::alloc::{AllocError, Global};
 
@@ -10,7 +10,8 @@ const NAME: usize = 255;
 /// when it is made.
 #[derive(Drop)]
 pub struct LineCount {
-    file: Vec<u8>,
+    /// The name of the file.
+    pub file: Vec<u8>,
     /// How many lines of the file were answered.
     pub number: u64,
 }
@@ -18,7 +19,7 @@ pub struct LineCount {
 impl LineCount {
     /// No file. If there is no memory for a name now, it is taken as a name comes.
     pub fn new(alloc: Global) -> LineCount
-        ensures { result.number ≡ 0 }
+        ensures none { (result.number ≡ 0) × (result.file.items ≡ []) }
     {
         let file = match Vec::with_capacity(alloc, NAME) {
             Ok(file) => file,
@@ -30,6 +31,9 @@ impl LineCount {
     /// A further file, of this name. If there is no memory for the name, it is told as an empty one.
     pub fn begin(&mut self, name: &[u8])
         ensures none { self.new.number ≡ 0 }
+        ensures named { length name.now ≤ vec_capacity self.old.file
+            → self.new.file.items ≡ name.now }
+        ensures nameless { (self.new.file.items ≡ name.now) ⊎ (self.new.file.items ≡ []) }
     {
         self.number = 0;
         self.file.clear();

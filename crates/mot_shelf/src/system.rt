@@ -1,6 +1,6 @@
 //! A folder of a system of files.
 ghost use Rattle.std.specs.Prelude.{◌≡◌, ◌≢◌, ◌<◌, ◌≤◌, ◌++◌, ◌∷◌, [], ℕ, Err, IfErr, IfOk};
-ghost use Rattle.std.specs.Prelude.{IfSome, MatchResult, Ok, Some, length, take, true};
+ghost use Rattle.std.specs.Prelude.{IfSome, MatchResult, None, Ok, Some, length, take, true};
 ghost use Rattle.mot_files.specs.Call.{opened};
 ghost use Rattle.mot_files.specs.declared.system.Fault.{Fault};
 ghost use Rattle.mot_files.specs.declared.system.Handle.{Handle};
@@ -39,6 +39,8 @@ impl<'a, S: System + Drop> SystemShelf<'a, S> {
         ensures system { result.system ≡ system }
         ensures path { result.path.now ≡ path.now }
         ensures rule { result.at_once ≡ at_once }
+        ensures none { (result.listing ≡ None) × (result.fault ≡ None)
+            × (given_of result.seen ≡ nothing) }
     {
         SystemShelf {
             system,
@@ -86,6 +88,7 @@ impl<'a, S: System + Drop> Shelf for SystemShelf<'a, S> {
         ensures gave { given_of self.new.seen ≡ nothing }
         ensures calls { FolderIsClosed self.old.listing (S.calls self.old.system)
             (S.calls self.new.system) }
+        ensures anew { (self.new.listing ≡ None) × (self.new.fault ≡ None) }
     {
         close_listing(&mut self.system, self.listing);
         self.listing = None;
@@ -105,6 +108,8 @@ impl<'a, S: System + Drop> Shelf for SystemShelf<'a, S> {
             (S.calls self.new.system))
             (λ error. FolderIsOpened self.old.path.now (Err error) (S.calls self.old.system)
             (S.calls self.new.system)) }
+        ensures fault { MatchResult result (λ _. self.new.fault ≡ self.old.fault)
+            (λ error. self.new.fault ≡ Some error) }
     {
         match open_folder(&mut self.system, alloc, self.path) {
             Ok(handle) => {
@@ -120,7 +125,9 @@ impl<'a, S: System + Drop> Shelf for SystemShelf<'a, S> {
         }
     }
 
-    fn fault(&self) -> Option<io::Error> {
+    fn fault(&self) -> Option<io::Error>
+        ensures { result ≡ self.now.fault }
+    {
         self.fault
     }
 

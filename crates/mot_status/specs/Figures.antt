@@ -5,7 +5,7 @@ use Rattle.mot_objects.specs.declared.object.Object.{Object}
 use Rattle.mot_repository.specs.Gap.{IsLongestGap}
 use Rattle.mot_repository.specs.Repository.{RepositoryView}
 use Rattle.mot_status.specs.declared.figures.TheConstants.{VERSION}
-use Rattle.mot_status.specs.declared.turn.TurnSize.{TurnSize}
+use Rattle.mot_export.specs.declared.turn.TurnSize.{TurnSize}
 
 -- the bytes of the bodies of these objects together
 abbrev pub bytes_of : List Object → ℕ
@@ -21,8 +21,8 @@ pub record AreFigures (path : List ℕ) (view : RepositoryView) (size : TurnSize
   pub directory : f.directory ≡ view.carousel.directory
   pub turn_packets : f.turn_packets ≡ size.packets
   pub turn_bytes : f.turn_bytes ≡ size.bytes
-  pub free : f.free ≡ view.journal.geometry.data_area - bytes_of view.carousel.objects.items
-  pub gap : IsLongestGap view.extents view.journal.geometry.data_area f.gap
+  pub free : f.free ≡ view.journal.geometry.area - bytes_of view.carousel.objects.items
+  pub gap : IsLongestGap view.extents view.journal.geometry.area f.gap
   pub objects_limit : f.objects_limit ≡ view.journal.geometry.objects
-  pub data_bytes : f.data_bytes ≡ view.journal.geometry.data_area
+  pub data_bytes : f.data_bytes ≡ view.journal.geometry.area
   pub last_change : f.last_change ≡ seconds

@@ -1,3 +1,5 @@
 pub mod Clock
 pub mod Figures
 pub mod Told
+pub mod Teller
+pub mod Measured

@@ -20,9 +20,9 @@ use Rattle.mot_repository.specs.Repository.{RepositoryView}
 use Rattle.mot_status.specs.Clock.{seconds_or}
 use Rattle.mot_status.specs.Figures.{AreFigures}
 use Rattle.mot_status.specs.declared.figures.TheConstants.{VERSION}
-use Rattle.mot_status.specs.declared.reporter.Looked.{Looked}
 use Rattle.mot_status.specs.declared.turn.Measured.{Measured}
-use Rattle.mot_status.specs.declared.turn.TurnSize.{TurnSize}
+use Rattle.mot_export.specs.declared.turn.TurnSize.{TurnSize}
+use Rattle.mot_update.specs.Watching.{LooksKnown}
 use Rattle.mot_update.specs.declared.moment.Moment.{Moment}
 use Rattle.mot_update.specs.declared.moment.Moment.TheVariants.{BetweenTurns}
 
@@ -58,21 +58,21 @@ logged_before levels false disk objects packets =
     logged_as levels News (began_text VERSION.now disk objects packets)
 
 -- After an update: what a look met that the look before it had not, if there was one.
-abbrev pub is_new_look : (looks : ℕ) → Looked → Bool
+abbrev pub is_new_look : (looks : ℕ) → LooksKnown → Bool
 is_new_look looks looked = not (looked.count == looks)
 
-abbrev pub counted_after : (same : LookEvent → LookEvent → Bool) → (looks : ℕ) → Looked → Counters
+abbrev pub counted_after : (same : LookEvent → LookEvent → Bool) → (looks : ℕ) → LooksKnown → Counters
     → Counters
 counted_after same looks looked c =
     if is_new_look looks looked
-    then counted_look c (new_events same looked.before.now looked.events.now)
+    then counted_look c (new_events same looked.before looked.events)
     else c
 
 abbrev pub logged_after : (same : LookEvent → LookEvent → Bool) → (levels : Bool) → (looks : ℕ)
-    → Looked → List ℕ
+    → LooksKnown → List ℕ
 logged_after same levels looks looked =
     if is_new_look looks looked
-    then flat_map (logged_met levels) (new_events same looked.before.now looked.events.now) else []
+    then flat_map (logged_met levels) (new_events same looked.before looked.events) else []
 
 -- At the end: the last packet, with which the last turn has ended, if there was one, and how many
 -- turns and packets there were.

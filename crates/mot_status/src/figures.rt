@@ -2,11 +2,11 @@
 ghost use Rattle.std.specs.Prelude.{◌≡◌, ◌^◌, ◌-◌, min, sum_by};
 ghost use Rattle.mot_status.specs.Figures.{AreFigures, bytes_of};
 
-use crate::turn::TurnSize;
 use disk_model::Disk;
 use mot_events::Figures;
+use mot_export::TurnSize;
 use mot_objects::Object;
-use mot_server::Server;
+use mot_playout::Server;
 
 /// The version of the program, which `motcar --version` prints, too.
 pub(crate) const VERSION: &str = "0.2.0";
@@ -24,7 +24,7 @@ pub(crate) fn figures_of<'a, D: Disk>(
 {
     let carousel = server.carousel();
     let geometry = server.geometry();
-    let data = u64::from(geometry.data_area);
+    let data = u64::from(geometry.area);
     let objects = carousel.objects.as_slice();
     Figures {
         disk,

@@ -8,5 +8,5 @@ mod reporter;
 mod told;
 mod turn;
 
-pub use reporter::{Looked, Reporter, Telling};
-pub use turn::{Measured, TurnSize, turn_size};
+pub use reporter::{Reporter, Telling};
+pub use turn::Measured;

@@ -1,12 +1,14 @@
 //! What is told of a disk while it is played: packets, turns, looks, the start and the end, and the
 //! status.
-ghost use Rattle.std.specs.Prelude.{◌≡◌, ◌++◌, ◌==◌, [], List, false, flat_map, if◌then◌else◌, not};
+ghost use Rattle.std.specs.Prelude.{◌≡◌, ◌++◌, ◌==◌, [], IfSome, List, None, false, flat_map, if◌then◌else◌, not};
 ghost use Rattle.std.specs.Prelude.{option_map, string_bytes, true, vec_len, ℕ};
 ghost use Rattle.std.specs.Io.KnownBytes.{Appends};
 ghost use Rattle.mot_events.specs.Counters.{counted, none_counted};
 ghost use Rattle.mot_events.specs.Look.{counted_look, logged_met, new_events};
 ghost use Rattle.mot_events.specs.Tally.{tally_of};
 ghost use Rattle.mot_events.specs.Text.{logged};
+ghost use Rattle.mot_status.specs.Measured.{IsMeasured};
+ghost use Rattle.mot_status.specs.Teller.{Hears, Misses, TellsAfter, TellsBefore, starts, teller};
 ghost use Rattle.mot_status.specs.Told.{Asks, AsksTime, Reports, WritesIf, counted_after};
 ghost use Rattle.mot_status.specs.Told.{counted_before, counted_end};
 ghost use Rattle.mot_status.specs.Told.{ends_turn, is_due, is_new_look, known, logged_after};
@@ -17,12 +19,13 @@ ghost use Rattle.mot_status.specs.Told.{turn_of, turn_packets};
 use crate::clock::seconds_or;
 use crate::figures::{VERSION, figures_of};
 use crate::told::{hand, tell_written};
-use crate::turn::{Measured, TurnSize, measure};
+use crate::turn::{Measured, measure};
 use disk_model::Disk;
 use mot_endpoints::StatusFile;
 use mot_events::{Event, EventLog, LookEvent, Tells};
+use mot_export::TurnSize;
 use mot_files::System;
-use mot_server::Server;
+use mot_playout::Server;
 use mot_update::{Facts, Moment, Watch};
 use std::alloc::{AllocError, Global};
 use std::io::Write;
@@ -42,32 +45,6 @@ pub struct Telling<'a, S: System + Drop> {
     pub status: Option<StatusFile<'a, S>>,
     /// Whether lines of the log begin with their level.
     pub levels: bool,
-}
-
-/// What is known of looks at a folder.
-#[derive(Clone, Copy)]
-pub struct Looked<'e> {
-    /// How many looks there were.
-    pub count: u64,
-    /// What the last one met.
-    pub events: &'e [LookEvent],
-    /// What the one before it met.
-    pub before: &'e [LookEvent],
-}
-
-impl Looked<'_> {
-    /// There is no folder.
-    pub fn none() -> Looked<'static>
-        ensures count { result.count ≡ 0 }
-        ensures events { result.events.now ≡ [] }
-        ensures before { result.before.now ≡ [] }
-    {
-        Looked {
-            count: 0,
-            events: &[],
-            before: &[],
-        }
-    }
 }
 
 /// What tells of a disk while it is played.
@@ -107,8 +84,10 @@ impl<'a, S: System + Drop, W: Write + Drop> Reporter<'a, S, W> {
         ensures given { (result.disk ≡ telling.entry.disk)
             × (result.status ≡ telling.entry.status) }
         ensures none { (result.has_begun ≡ false) × (result.looks ≡ 0) × (result.next ≡ 0)
-            × (result.changes ≡ 0) × (result.last_change ≡ 0)
+            × (result.size ≡ None) × (result.changes ≡ 0) × (result.last_change ≡ 0)
             × (result.is_unwritten ≡ false) }
+        ensures starts { teller S.calls W.contents result
+            ≡ starts S.calls (W.contents log) telling.entry }
     {
         let Telling {
             disk,
@@ -132,6 +111,13 @@ impl<'a, S: System + Drop, W: Write + Drop> Reporter<'a, S, W> {
             last_change: 0,
             is_unwritten: false,
         }
+    }
+
+    /// What took the log.
+    pub fn into_log(self) -> W
+        ensures { result ≡ self.entry.log.writer }
+    {
+        self.log.into_writer()
     }
 
     /// Tells what is due before an update: at the first that playing begins, and at each other one
@@ -185,6 +171,8 @@ impl<'a, S: System + Drop, W: Write + Drop> Reporter<'a, S, W> {
             (W.contents self.new.log.writer)
             (logged_before self.old.log.levels false self.old.disk.now
             (vec_len server.now.view.carousel.objects) (turn_packets self.new.size)) }
+        ensures measured { IfSome self.new.size (λ m.
+            IsMeasured self.old.size server.now.view m) }
         ensures begun { self.new.has_begun ≡ true }
         ensures same { self.new ≡ record self.old {
           log = self.new.log;
@@ -204,10 +192,10 @@ impl<'a, S: System + Drop, W: Write + Drop> Reporter<'a, S, W> {
     /// Tells what is due after an update: what the last look met, if there was one since, and the
     /// status after a look and after each 1,000 packets.
     #[inline(always)]
-    pub fn tell_after<D: Disk>(&mut self, server: &Server<D>, alloc: Global, looked: Looked<'_>)
+    pub fn tell_after<D: Disk, U: Facts>(&mut self, server: &Server<D>, alloc: Global, update: &U)
         ensures counts { let same = ⟦<LookEvent as PartialEq>⟧.eq in
             self.new.log.counters ≡ status_counted self.old.is_unwritten self.new.is_unwritten
-            (counted_after same self.old.looks looked.entry self.old.log.counters) }
+            (counted_after same self.old.looks (U.known update.now) self.old.log.counters) }
         ensures log { (self.new.log.levels ≡ self.old.log.levels)
             × (self.new.log.is_whole ≡ true → self.old.log.is_whole ≡ true) }
         ensures told { let same = ⟦<LookEvent as PartialEq>⟧.eq in
@@ -216,19 +204,19 @@ impl<'a, S: System + Drop, W: Write + Drop> Reporter<'a, S, W> {
             self.old.status in
             self.new.log.is_whole ≡ true → (reason : List ℕ) × Appends
             (W.contents self.old.log.writer) (W.contents self.new.log.writer)
-            (logged_after same self.old.log.levels self.old.looks looked.entry
+            (logged_after same self.old.log.levels self.old.looks (U.known update.now)
             ++ status_line self.old.log.levels (path_of file)
             self.old.is_unwritten self.new.is_unwritten reason) }
         ensures status { let same = ⟦<LookEvent as PartialEq>⟧.eq in
-            let counters = counted_after same self.old.looks looked.entry self.old.log.counters in
+            let counters = counted_after same self.old.looks (U.known update.now) self.old.log.counters in
             Reports (option_map (λ f. place f.path.now f.disk.now
             (option_map string_bytes f.beside))
             self.old.status)
             (matter self.old.disk.now server.now.view (turn_of self.new.size) counters
-            looked.entry.events.now)
+            (U.known update.now).events)
             (not (counters.changes == self.old.changes))
             (is_due self.old.next self.old.log.counters.packets
-            (is_new_look self.old.looks looked.entry))
+            (is_new_look self.old.looks (U.known update.now)))
             (known self.old.last_change self.old.is_unwritten
             (option_map (λ f. S.calls f.system) self.old.status))
             (known self.new.last_change self.new.is_unwritten
@@ -240,52 +228,52 @@ impl<'a, S: System + Drop, W: Write + Drop> Reporter<'a, S, W> {
             self.old.status }
         ensures same { let same = ⟦<LookEvent as PartialEq>⟧.eq in
             let packets = self.old.log.counters.packets in
-            let is_new = is_new_look self.old.looks looked.entry in
+            let is_new = is_new_look self.old.looks (U.known update.now) in
             self.new ≡ record self.old {
               log = self.new.log;
               status = self.new.status;
               text = self.new.text;
-              looks = looked.entry.count;
+              looks = (U.known update.now).count;
               next = if is_due self.old.next packets is_new then next_after packets
                   else self.old.next;
               size = self.new.size;
-              changes = (counted_after same self.old.looks looked.entry
+              changes = (counted_after same self.old.looks (U.known update.now)
                   self.old.log.counters).changes;
               last_change = self.new.last_change;
               is_unwritten = self.new.is_unwritten;
             } }
     {
         let packets = self.log.counters.packets;
-        let is_due = is_due(self.next, packets, looked.count != self.looks);
+        let is_due = is_due(self.next, packets, update.looks() != self.looks);
         self.next = next_if(is_due, self.next, packets);
-        self.tell_looked(looked);
+        self.tell_looked(update);
         self.note_changes();
         if is_due {
-            self.tell_status(server, alloc, looked.events);
+            self.tell_status(server, alloc, update.events());
         }
     }
 
     /// Tells what the last look met, if there was one since the last call.
-    fn tell_looked(&mut self, looked: Looked<'_>)
+    fn tell_looked<U: Facts>(&mut self, update: &U)
         ensures counts { let same = ⟦<LookEvent as PartialEq>⟧.eq in
             self.new.log.counters
-            ≡ counted_after same self.old.looks looked.entry self.old.log.counters }
+            ≡ counted_after same self.old.looks (U.known update.now) self.old.log.counters }
         ensures log { (self.new.log.levels ≡ self.old.log.levels)
             × (self.new.log.is_whole ≡ true → self.old.log.is_whole ≡ true) }
         ensures told { let same = ⟦<LookEvent as PartialEq>⟧.eq in
             self.new.log.is_whole ≡ true → Appends
             (W.contents self.old.log.writer) (W.contents self.new.log.writer)
-            (logged_after same self.old.log.levels self.old.looks looked.entry) }
-        ensures looks { self.new.looks ≡ looked.entry.count }
+            (logged_after same self.old.log.levels self.old.looks (U.known update.now)) }
+        ensures looks { self.new.looks ≡ (U.known update.now).count }
         ensures same { self.new ≡ record self.old {
           log = self.new.log;
           looks = self.new.looks;
         } }
     {
-        let is_new = looked.count != self.looks;
-        self.looks = looked.count;
+        let is_new = update.looks() != self.looks;
+        self.looks = update.looks();
         if is_new {
-            self.tell_look(looked.events, looked.before);
+            self.tell_look(update.events(), update.events_before());
         }
     }
 
@@ -352,6 +340,8 @@ impl<'a, S: System + Drop, W: Write + Drop> Reporter<'a, S, W> {
             (option_map (λ f. S.calls f.system) self.old.status))
             (known self.new.last_change self.new.is_unwritten
             (option_map (λ f. S.calls f.system) self.new.status)) }
+        ensures measured { IfSome self.new.size (λ m.
+            IsMeasured self.old.size server.now.view m) }
         ensures place { option_map (λ f. place f.path.now f.disk.now
             (option_map string_bytes f.beside))
             self.new.status
@@ -463,50 +453,52 @@ impl<'a, S: System + Drop, W: Write + Drop> Reporter<'a, S, W> {
 }
 
 impl<'a, S: System + Drop, W: Write + Drop> Tells for Reporter<'a, S, W> {
-    ghost log_has = { λ reporter. W.contents reporter.log.writer };
+    ghost hears = { λ old event new. Hears (teller S.calls W.contents old) event
+        (teller S.calls W.contents new) };
 
-    ghost log_is_whole = { λ reporter. reporter.log.is_whole };
-
-    ghost log_has_levels = { λ reporter. reporter.log.levels };
+    ghost misses = { λ old new. Misses (teller S.calls W.contents old)
+        (teller S.calls W.contents new) };
 
     /// Counts an event, and writes its line to the log, if it has one.
     fn tell(&mut self, event: &Event<'_>)
-        ensures counts { self.new.log.counters
-            ≡ counted self.old.log.counters (tally_of event.now) }
-        ensures levels { self.new.log.levels ≡ self.old.log.levels }
-        ensures whole { self.new.log.is_whole ≡ true → self.old.log.is_whole ≡ true }
-        ensures told { self.new.log.is_whole ≡ true → Appends (W.contents self.old.log.writer)
-            (W.contents self.new.log.writer) (logged self.old.log.levels event.now) }
-        ensures same { self.new ≡ record self.old { log = self.new.log } }
+        ensures heard { Hears (teller S.calls W.contents self.old) event.now
+            (teller S.calls W.contents self.new) }
     {
         self.log.tell(event);
     }
 
     /// Something that happened is left out of the log.
     fn leave_out(&mut self)
-        ensures levels { self.new.log.levels ≡ self.old.log.levels }
-        ensures left { self.new.log.is_whole ≡ false }
-        ensures counts { self.new.log.counters ≡ self.old.log.counters }
-        ensures same { self.new ≡ record self.old { log = self.new.log } }
+        ensures missed { Misses (teller S.calls W.contents self.old)
+            (teller S.calls W.contents self.new) }
     {
         self.log.leave_out();
     }
 }
 
 impl<'a, S: System + Drop, W: Write + Drop> Watch for Reporter<'a, S, W> {
+    ghost begins = { λ old view moment new. TellsBefore (teller S.calls W.contents old) view moment
+        (teller S.calls W.contents new) };
+
+    ghost ends = { λ old view known new. let same = ⟦<LookEvent as PartialEq>⟧.eq in
+        TellsAfter same (teller S.calls W.contents old) view known
+        (teller S.calls W.contents new) };
+
     /// Tells what is due before an update.
-    fn begin<D: Disk>(&mut self, server: &Server<D>, alloc: Global, moment: Moment) {
+    fn begin<D: Disk>(&mut self, server: &Server<D>, alloc: Global, moment: Moment)
+        ensures begun { TellsBefore (teller S.calls W.contents self.old) server.now.view moment
+            (teller S.calls W.contents self.new) }
+    {
         self.tell_before(server, alloc, moment);
     }
 
     /// Tells what is due after an update.
-    fn end<D: Disk, U: Facts>(&mut self, server: &Server<D>, alloc: Global, update: &U) {
-        let looked = Looked {
-            count: update.looks(),
-            events: update.events(),
-            before: update.events_before(),
-        };
-        self.tell_after(server, alloc, looked);
+    fn end<D: Disk, U: Facts>(&mut self, server: &Server<D>, alloc: Global, update: &U)
+        ensures ended { let same = ⟦<LookEvent as PartialEq>⟧.eq in
+            TellsAfter same (teller S.calls W.contents self.old) server.now.view
+            (U.known update.now) (teller S.calls W.contents self.new) }
+    {
+        self.tell_after(server, alloc, update);
     }
 }
 
@@ -526,10 +518,7 @@ fn turn_of(size: Option<Measured>) -> TurnSize
 {
     match size {
         Some(measured) => measured.turn,
-        None => TurnSize {
-            packets: 0,
-            bytes: 0,
-        },
+        None => TurnSize::none(),
     }
 }
 

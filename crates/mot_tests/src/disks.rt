@@ -6,21 +6,21 @@ use mot_journal::{Geometry, format};
 use std::alloc::Global;
 
 /// A server on a disk in memory.
-pub type Server = mot_server::Server<MemoryDisk>;
+pub type Server = mot_playout::Server<MemoryDisk>;
 
 /// Sizes for one object and a body of 8 bytes: 3 slots in a half of layout 2, 6 of layout 1.
 pub const ONE: Geometry = Geometry {
     objects: 1,
-    data_area: 8,
-    segment_size: 64,
+    segment: 64,
     address: 1,
-    packet_length: 24,
+    packet: 24,
+    area: 8,
 };
 
 /// Sizes for three objects and 300 bytes: 5 slots in a half of layout 2, 10 of layout 1.
 pub const THREE: Geometry = Geometry {
     objects: 3,
-    data_area: 300,
+    area: 300,
     ..ONE
 };
 
@@ -50,13 +50,13 @@ pub fn write_at(disk: &mut MemoryDisk, at: u16, bytes: &[u8]) -> Result<(), Refu
 
 /// An empty disk of layout 1, with segments of 64 bytes and packets of 24: a head, and halves
 /// without records.
-pub fn old_disk(alloc: Global, objects: u8, data_area: u32) -> Result<MemoryDisk, Refusal> {
+pub fn old_disk(alloc: Global, objects: u8, area: u32) -> Result<MemoryDisk, Refusal> {
     let geometry = Geometry {
         objects: u16::from(objects),
-        data_area,
+        area,
         ..ONE
     };
-    let [highest, higher, high, low] = data_area.to_be_bytes();
+    let [highest, higher, high, low] = area.to_be_bytes();
     let head = [
         0x4D, 0x4F, 0x54, 0x43, 0x41, 0x52, 0x30, 0x31, 0, 0, 0, 0, 0, 0, 0, 0, 0, objects, 0, 64,
         0, 1, 0, 24, highest, higher, high, low,

@@ -16,7 +16,7 @@ fn take_away(rt: &HostRuntime, name: &str) {
 
 // Whether a new file is made at a path.
 fn is_made(rt: &HostRuntime, path: &str, len: u64) -> bool {
-    FileDisk::create(rt, path, len).is_ok()
+    FileDisk::create(rt, rt.alloc(), path, len).is_ok()
 }
 
 // What has the name already is left as it is, a link to nothing among it.

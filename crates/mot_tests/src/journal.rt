@@ -5,7 +5,7 @@ ghost use Rattle.mot_journal.specs.declared.record.Action.TheVariants.{Nothing};
 
 use crate::disks::{self, ONE, blank_disk, image_of, new_disk, write_at};
 use crate::expecting::expect;
-use disk_model::{Disk, DiskFault};
+use disk_model::Disk;
 use disk_store::MemoryDisk;
 use mot_base::{Refusal, TransportId};
 use mot_journal::{Action, Journal, Layout, Record, format, load};
@@ -25,16 +25,14 @@ fn record_of(period: u32) -> Result<Record, Refusal>
 }
 
 // Adds a record that does nothing to the objects, where the journal takes one.
-fn add<D: Disk>(journal: &mut Journal, disk: &mut D, period: u32) -> Result<(), DiskFault> {
+fn add<D: Disk>(journal: &mut Journal, disk: &mut D, period: u32) -> Result<(), Refusal> {
     let full = journal.is_full();
     let spent = journal.is_spent();
     let long = disk.len() >= journal.geometry().length();
     if full || spent || !long {
-        return Err(DiskFault);
+        return Err(Refusal::BadLine);
     }
-    let Ok(entry) = record_of(period) else {
-        return Err(DiskFault);
-    };
+    let entry = record_of(period)?;
     journal.append(disk, &entry)
 }
 
@@ -66,14 +64,12 @@ fn old_disk(alloc: Global) -> Result<MemoryDisk, Refusal> {
 }
 
 // Writes one record, with this period, into the other half, where the journal can be rewritten.
-fn rewrite<D: Disk>(journal: &mut Journal, disk: &mut D, period: u32) -> Result<(), DiskFault> {
+fn rewrite<D: Disk>(journal: &mut Journal, disk: &mut D, period: u32) -> Result<(), Refusal> {
     let spent = journal.is_spent();
     let long = disk.len() >= journal.geometry().length();
-    let Ok(entry) = record_of(period) else {
-        return Err(DiskFault);
-    };
+    let entry = record_of(period)?;
     if spent || !long {
-        return Err(DiskFault);
+        return Err(Refusal::BadLine);
     }
     match journal.layout() {
         Layout::One => journal.migrate(disk, &[entry]),

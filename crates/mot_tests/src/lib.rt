@@ -25,6 +25,8 @@ mod reads;
 #[cfg(test)]
 mod receiver;
 #[cfg(test)]
+mod refusals;
+#[cfg(test)]
 mod serving;
 #[cfg(test)]
 mod stops;

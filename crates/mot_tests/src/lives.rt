@@ -5,7 +5,7 @@ use crate::expecting::expect;
 use disk_store::MemoryDisk;
 use mot_base::{Refusal, TransportId};
 use mot_objects::{Command, Period};
-use mot_server::{
+use mot_playout::{
     Aftermath, Refused, Restarted, first_turn, format_and_restart, format_and_run, run_and_restart,
 };
 use mot_session::{format_and_serve, serve_and_restart, serve_line_and_restart};

@@ -4,9 +4,9 @@ use Rattle.std.proofs.Common.{arith}
 use Rattle.std.proofs.Common.{append_assoc, append-nil}
 use Rattle.mot_objects.specs.declared.command.Command.{Command}
 use Rattle.mot_objects.specs.declared.command.Command.TheVariants as command
-use Rattle.mot_server.specs.Attempts as attempts
-use Rattle.mot_server.specs.declared.running.Attempt.{Attempt}
-use Rattle.mot_server.specs.declared.running.Attempt.TheVariants.{Accepted, Refused}
+use Rattle.mot_playout.specs.Attempts as attempts
+use Rattle.mot_playout.specs.declared.running.Attempt.{Attempt}
+use Rattle.mot_playout.specs.declared.running.Attempt.TheVariants.{Accepted, Refused}
 use Rattle.mot_update.specs.HasRun.{marks_of_settling}
 use Rattle.mot_update.specs.Told.{Answer, AreAnswers, TellsBoth, TellsMore, Withdrew}
 use Rattle.mot_update.specs.Told.{answers_of, commands_of}

@@ -5,12 +5,12 @@ use Rattle.disk_model.specs.Disk.{State}
 use Rattle.disk_model.specs.Failures.{Rises}
 use Rattle.mot_numbers.specs.declared.refusal.Refusal.{Refusal}
 use Rattle.mot_numbers.specs.declared.refusal.Refusal.TheVariants.{DeviceFault, Halted, OutOfMemory}
-use Rattle.mot_server.specs.Playing.{IsReadRefusal}
-use Rattle.mot_server.specs.Playing as reading
-use Rattle.mot_server.specs.RunEnds.{IsRunFault}
-use Rattle.mot_server.specs.RunEnds as run
-use Rattle.mot_server.specs.Server.{ServerView}
-use Rattle.mot_server.specs.declared.running.Attempt.{Attempt}
+use Rattle.mot_playout.specs.Playing.{IsReadRefusal}
+use Rattle.mot_playout.specs.Playing as reading
+use Rattle.mot_playout.specs.RunEnds.{IsRunFault}
+use Rattle.mot_playout.specs.RunEnds as run
+use Rattle.mot_playout.specs.Server.{ServerView}
+use Rattle.mot_playout.specs.declared.running.Attempt.{Attempt}
 use Rattle.mot_update.specs.Faults.{StaysCalm, IsUpdateFault, TellsFaults}
 use Rattle.mot_update.specs.Faults as fault
 

@@ -23,11 +23,11 @@ use Rattle.mot_objects.specs.declared.command.Command.{Command}
 use Rattle.mot_objects.specs.declared.command.Command.TheVariants.{Withdraw}
 use Rattle.mot_objects.specs.declared.object.Object.{Object}
 use Rattle.mot_repository.specs.Repository.{RepositoryView, Agrees, Holds}
-use Rattle.mot_server.specs.Runs.{accepted_commands}
-use Rattle.mot_server.specs.Server.{ServerView}
-use Rattle.mot_server.specs.Attempts as attempts
-use Rattle.mot_server.specs.declared.running.Attempt.{Attempt}
-use Rattle.mot_server.specs.declared.running.Attempt.TheVariants.{Accepted, Refused}
+use Rattle.mot_playout.specs.Runs.{accepted_commands}
+use Rattle.mot_playout.specs.Server.{ServerView}
+use Rattle.mot_playout.specs.Attempts as attempts
+use Rattle.mot_playout.specs.declared.running.Attempt.{Attempt}
+use Rattle.mot_playout.specs.declared.running.Attempt.TheVariants.{Accepted, Refused}
 use Rattle.mot_update.specs.declared.wanted.Wanted.{Wanted}
 use Rattle.mot_update.specs.HasRun.{HasRun}
 use Rattle.mot_update.specs.Laws.{names_of}

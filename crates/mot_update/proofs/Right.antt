@@ -12,11 +12,11 @@ use Rattle.mot_objects.specs.declared.command.Done.{Done}
 use Rattle.mot_repository.specs.Answers.{IsAnswered, IsRefusal}
 use Rattle.mot_repository.specs.Outcome.{after_command}
 use Rattle.mot_repository.specs.Repository.{Agrees, RepositoryView}
-use Rattle.mot_server.specs.Attempts.{answer_of}
-use Rattle.mot_server.specs.Marks.{AreMarks}
-use Rattle.mot_server.specs.RunEnds.{is_run_ending}
-use Rattle.mot_server.specs.declared.running.Attempt.{Attempt}
-use Rattle.mot_server.specs.declared.running.Attempt.TheVariants.{Accepted, Refused}
+use Rattle.mot_playout.specs.Attempts.{answer_of}
+use Rattle.mot_playout.specs.Marks.{AreMarks}
+use Rattle.mot_playout.specs.RunEnds.{is_run_ending}
+use Rattle.mot_playout.specs.declared.running.Attempt.{Attempt}
+use Rattle.mot_playout.specs.declared.running.Attempt.TheVariants.{Accepted, Refused}
 use Rattle.mot_update.proofs.Found.{same_err, same_ok}
 use Rattle.mot_update.specs.Told.{Answer, AreAnswers, AreAttemptsOf, IsAttemptOf, came_of}
 use Rattle.mot_update.specs.Told.{was_accepted}

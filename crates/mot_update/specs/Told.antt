@@ -5,8 +5,8 @@ use Rattle.mot_journal.specs.declared.layout.Layout.{Layout}
 use Rattle.mot_objects.specs.declared.command.Command.{Command}
 use Rattle.mot_objects.specs.declared.command.Command.TheVariants as command
 use Rattle.mot_repository.specs.Outcome.{after_command}
-use Rattle.mot_server.specs.declared.running.Attempt.{Attempt}
-use Rattle.mot_server.specs.declared.running.Attempt.TheVariants.{Accepted, Refused}
+use Rattle.mot_playout.specs.declared.running.Attempt.{Attempt}
+use Rattle.mot_playout.specs.declared.running.Attempt.TheVariants.{Accepted, Refused}
 use Rattle.mot_update.specs.declared.settling.Settled.{Settled}
 use Rattle.mot_update.specs.declared.settling.Settled.TheVariants as settled
 use Rattle.mot_update.specs.declared.wanted.Wanted.{Wanted}

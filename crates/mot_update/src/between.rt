@@ -6,7 +6,7 @@ ghost use Rattle.mot_numbers.specs.declared.refusal.Refusal.{Refusal};
 ghost use Rattle.mot_objects.specs.Carousel.{Carousel};
 ghost use Rattle.mot_objects.specs.declared.command.Command.{Command};
 ghost use Rattle.mot_repository.specs.Repository.{Holds};
-ghost use Rattle.mot_server.specs.Attempts.{fault_of};
+ghost use Rattle.mot_playout.specs.Attempts.{fault_of};
 ghost use Rattle.mot_update.specs.Between.{IsUpdating};
 ghost use Rattle.mot_update.specs.Faults.{TellsFaults};
 ghost use Rattle.mot_update.specs.declared.moment.Moment.{Moment};
@@ -14,7 +14,7 @@ ghost use Rattle.mot_update.specs.declared.moment.Moment.{Moment};
 use crate::Moment;
 use disk_model::Disk;
 use mot_numbers::Refusal;
-use mot_server::Server;
+use mot_playout::Server;
 use std::alloc::Global;
 
 /// What changes a carousel between its packets, by commands.

@@ -5,7 +5,7 @@ ghost use Rattle.mot_journal.specs.Image.{Standing};
 ghost use Rattle.mot_numbers.specs.declared.refusal.Refusal.TheVariants.{OutOfMemory};
 ghost use Rattle.mot_objects.specs.Carousel.{are_names_distinct};
 ghost use Rattle.mot_repository.specs.Repository.{Holds};
-ghost use Rattle.mot_server.specs.Attempts.{fault_of};
+ghost use Rattle.mot_playout.specs.Attempts.{fault_of};
 ghost use Rattle.mot_update.specs.Faults.{TellsFaults};
 ghost use Rattle.mot_update.specs.Looking.{Gives, HasLooked, HasSettled, RunsThrough};
 ghost use Rattle.mot_update.specs.Looking.{unknown_names, withdraw_all};
@@ -15,7 +15,7 @@ use crate::{Source, settle, withdraw};
 use disk_model::Disk;
 use mot_numbers::Refusal;
 use mot_objects::{Carousel, Name};
-use mot_server::Server;
+use mot_playout::Server;
 use std::alloc::Global;
 
 /// Makes the carousel have what the source gives: objects whose names it does not know are

@@ -8,7 +8,7 @@ ghost use Rattle.mot_update.specs.declared.wanted.Wanted.{Wanted};
 
 use crate::{Settled, Wanted};
 use mot_objects::Name;
-use mot_server::Attempt;
+use mot_playout::Attempt;
 use std::alloc::Global;
 
 /// What an updated carousel is to have: names, all of them known at the beginning, and then the

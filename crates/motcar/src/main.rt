@@ -3,11 +3,10 @@
 
 mod version;
 
-use disk_store::{SystemFiles, Unknown};
-use mot_air::{Station, is_air, run_air_on};
-use mot_commands::run_on;
+use disk_store::Unknown;
 use mot_numbers::Refusal;
-use mot_outcome::{Exit, Subject, UsedDisk, refuse};
+use mot_outcome::{Subject, UsedDisk, refuse};
+use mot_server::run_program;
 use std::fs::File;
 use std::io::{BufWriter, ErrorKind, Write};
 use std::os::fd::AsRawFd;
@@ -46,32 +45,10 @@ fn run_on_streams(rt: &HostRuntime) -> io::Result<u8> {
 
 /// Does what these words ask for, and answers the exit status.
 fn run_words<W: Write>(rt: &HostRuntime, words: &[String], writer: &mut W) -> u8 {
+    let (mut reader, mut errors) = (rt.reader(), rt.stderr());
     match words {
         [word] if word.as_str() == "--version" || word.as_str() == "-V" => show_version(rt, writer),
-        _ => run_command(rt, words, writer).status,
-    }
-}
-
-/// Does the command that these words ask for.
-fn run_command<W: Write>(rt: &HostRuntime, words: &[String], writer: &mut W) -> Exit<Unknown> {
-    let (alloc, mut errors) = (rt.alloc(), rt.stderr());
-    match words {
-        [word, ..] if is_air(word.as_str()) => {
-            let mut station = Station::new(rt);
-            run_air_on(&mut station, alloc, words, Unknown, writer, &mut errors)
-        }
-        _ => {
-            let (mut files, mut reader) = (SystemFiles::new(rt), rt.reader());
-            run_on(
-                &mut files,
-                alloc,
-                words,
-                Unknown,
-                &mut reader,
-                writer,
-                &mut errors,
-            )
-        }
+        _ => run_program(rt, rt.alloc(), words, &mut reader, writer, &mut errors),
     }
 }
 
@@ -100,7 +77,7 @@ fn hold_streams(rt: &HostRuntime) -> io::Result<Option<(File, File, File)>> {
 /// Prints the refusal, and answers its status.
 fn refused(rt: &HostRuntime, refusal: Refusal) -> u8 {
     let disk = UsedDisk::Untouched(Unknown);
-    refuse(&mut rt.stderr(), refusal, Subject::Nothing, disk).status
+    refuse(&mut rt.stderr(), false, refusal, Subject::Nothing, disk).status
 }
 
 /// Prints why the program did not begin: there was no memory, or a word was no UTF-8.

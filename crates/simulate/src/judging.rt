@@ -4,7 +4,7 @@ use crate::texts::LINES;
 use crate::verdict::Wrong;
 use disk_store::MemoryDisk;
 use mot_files::{Kind, MemorySystem, Removed};
-use mot_server::Server;
+use mot_playout::Server;
 
 /// Whether each object of the carousel has the bytes of a file of its name, or those that a line of
 /// a file has for its name.

@@ -14,7 +14,7 @@ use mot_folder::{FileTypes, Folder, Looks};
 use mot_journal::{Geometry, format};
 use mot_lines::Hand;
 use mot_packets::Outlet;
-use mot_server::Server;
+use mot_playout::Server;
 use mot_shelf::SystemShelf;
 use mot_status::{Reporter, Telling};
 use mot_update::{Facts, Update, Watch};
@@ -24,10 +24,10 @@ use std::io::{self, ErrorKind, Write};
 /// The sizes of the disk.
 const SIZES: Geometry = Geometry {
     objects: 12,
-    data_area: 1_000,
-    segment_size: 256,
+    segment: 256,
     address: 1,
-    packet_length: 96,
+    packet: 96,
+    area: 1_000,
 };
 
 /// So many nanoseconds after its last change each file is taken.
@@ -340,7 +340,8 @@ fn answer<'a, S: System + Drop, D: Disk, U: Update + Facts + Drop, T: Watch + Dr
     if is_fed(alloc, server, &mut lines, manner) && lines.is_answered() {
         finish(&mut lines);
     }
-    lines.into_parts()
+    let (spool, update, _) = lines.into_parts();
+    (spool, update)
 }
 
 /// Ends the reading of lines.

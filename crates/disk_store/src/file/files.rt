@@ -42,6 +42,12 @@ pub trait DiskFiles {
             (λ _. opened self.new ≡ opened self.old) }
         ensures stays { taken_away self.new ≡ taken_away self.old };
 
+    /// Takes away the empty file that the last opening has made beside its file, if it can: what was
+    /// opened is no disk, or not one for what is asked.
+    fn clear_beside(&mut self)
+        ensures opened { opened self.new ≡ opened self.old }
+        ensures stays { taken_away self.new ≡ taken_away self.old };
+
     /// Takes away the file that was made last and is of no use, and the empty one that was made
     /// beside it, if it can.
     fn take_away(&mut self, path: &str)
@@ -54,7 +60,7 @@ pub trait DiskFiles {
 #[derive(Drop)]
 pub struct SystemFiles<'a> {
     rt: &'a HostRuntime,
-    /// What stood beside the file that was made last, before it was made.
+    /// What stood beside the file that was opened or made last, before it was.
     beside: Option<Beside>,
     opened: Notes,
     gone: Notes,
@@ -85,6 +91,7 @@ impl<'a> DiskFiles for SystemFiles<'a> {
         path: &str,
         start: S,
     ) -> Result<BegunFile<S, WasThere>, Unopened<S>> {
+        self.beside = Beside::of_target(self.rt, path).ok();
         let file = open_file(self.rt, path, start)?;
         self.opened.note(path.as_bytes());
         Ok(file)
@@ -103,6 +110,12 @@ impl<'a> DiskFiles for SystemFiles<'a> {
         let file = make_file(self.rt, path, len, start)?;
         self.opened.note(path.as_bytes());
         Ok(file)
+    }
+
+    fn clear_beside(&mut self) {
+        if let Some(beside) = &self.beside {
+            let _ = beside.clear(self.rt);
+        }
     }
 
     fn take_away(&mut self, path: &str) {

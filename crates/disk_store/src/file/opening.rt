@@ -10,6 +10,7 @@ use super::system::{Beside, HeldFile};
 use super::{FileDisk, FileDiskFrom, OpenFault, Start, Unknown};
 use crate::DiskFault;
 use crate::call_count::CallCount;
+use std::alloc::Global;
 use std::fs::{File, OpenOptions};
 use std::io::{self, ErrorKind};
 use std::marker::PhantomData;
@@ -58,8 +59,8 @@ impl FileDiskFrom<Unknown> {
     /// Opens a file or a block device that is there, and reads nothing of it but its length. The
     /// bytes that it gives are synced, and come from the device. It fails if the path names nothing
     /// or anything else, if the file may not be read and written or has a second name, and if
-    /// another opening of it lives.
-    pub fn open(rt: &HostRuntime, path: &str) -> Result<FileDisk, DiskFault>
+    /// another opening of it lives. Of `alloc` it takes nothing.
+    pub fn open(rt: &HostRuntime, _alloc: Global, path: &str) -> Result<FileDisk, DiskFault>
         ensures new { IfOk result (λ disk. IsNew (file_state disk).bytes (file_state disk)) }
         ensures can_sync { IfOk result CanSync }
         ensures all { IfOk result (λ disk. LeavesAll (file_state disk)) }
@@ -73,8 +74,13 @@ impl FileDiskFrom<Unknown> {
 
     /// Makes a new file of so many zeros, and opens it. It fails if the path names anything, and
     /// then leaves that as it is; if it fails later, it removes the file again. Each zero is
-    /// written, so that the file is not sparse.
-    pub fn create(rt: &HostRuntime, path: &str, len: u64) -> Result<FileDisk, DiskFault>
+    /// written, so that the file is not sparse. Of `alloc` it takes nothing.
+    pub fn create(
+        rt: &HostRuntime,
+        _alloc: Global,
+        path: &str,
+        len: u64,
+    ) -> Result<FileDisk, DiskFault>
         ensures new { IfOk result (λ disk. IsNew (replicate len 0) (file_state disk)) }
         ensures can_sync { IfOk result CanSync }
         ensures order { IfOk result (λ disk. calls_on disk ≡ making_calls len) }

@@ -188,10 +188,21 @@ impl Beside {
         Ok(Beside { path, was_there })
     }
 
+    /// Looks beside the file that this path leads to. That file is there.
+    pub fn of_target(rt: &HostRuntime, path: &str) -> io::Result<Beside> {
+        let real = fs::canonicalize(rt, path)?;
+        Beside::of(rt, real.as_str())
+    }
+
     /// Removes the file of this path that was made and is of no use, and the empty one that was
     /// made with it. It fails if that can't be done, and takes no memory.
     pub fn take_away(&self, rt: &HostRuntime, path: &str) -> io::Result<()> {
         fs::remove_file(rt, path)?;
+        self.clear(rt)
+    }
+
+    /// Removes the empty file, if nothing stood there before.
+    pub fn clear(&self, rt: &HostRuntime) -> io::Result<()> {
         if self.was_there {
             return Ok(());
         }

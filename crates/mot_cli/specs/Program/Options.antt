@@ -20,10 +20,10 @@ pub record AreGiven (rows : List Row) (o : Options) : Type 0 where
 abbrev pub default_geometry : Geometry
 default_geometry = record {
   objects = 16;
-  data_area = 65536;
-  segment_size = 1024;
+  segment = 1024;
   address = 1;
-  packet_length = 96;
+  packet = 96;
+  area = 65536;
 }
 
 -- a number of 16 bits, where the number fits; the default, where none is given
@@ -35,15 +35,15 @@ field_in (Some n) default = if nat_le n 65535 then Some n else None
 unfoldable pub geometry_asked : Options → Option Geometry
 geometry_asked o = do
   objects ← field_in o.objects default_geometry.objects
-  segment_size ← field_in o.segment default_geometry.segment_size
+  segment ← field_in o.segment default_geometry.segment
   address ← field_in o.address default_geometry.address
-  packet_length ← field_in o.packet default_geometry.packet_length
+  packet ← field_in o.packet default_geometry.packet
   Some (record {
     objects = objects;
-    data_area = unwrap_or o.data_area default_geometry.data_area;
-    segment_size = segment_size;
+    segment = segment;
     address = address;
-    packet_length = packet_length;
+    packet = packet;
+    area = unwrap_or o.data_area default_geometry.area;
   })
 
 -- the words give this geometry

@@ -35,10 +35,10 @@ impl Options {
         let default = Geometry::default();
         Some(Geometry {
             objects: field(self.objects, default.objects)?,
-            data_area: self.data_area.unwrap_or(default.data_area),
-            segment_size: field(self.segment, default.segment_size)?,
+            segment: field(self.segment, default.segment)?,
             address: field(self.address, default.address)?,
-            packet_length: field(self.packet, default.packet_length)?,
+            packet: field(self.packet, default.packet)?,
+            area: self.data_area.unwrap_or(default.area),
         })
     }
 }

@@ -1,5 +1,5 @@
 -- What a task came to.
-use Rattle.mot_server.specs.Attempts.{fault_of}
+use Rattle.mot_playout.specs.Attempts.{fault_of}
 use Rattle.std.specs.Prelude.{ℕ, ◌⊎◌, true, List, Option, IsErrAnd}
 use Rattle.std.specs.Io.KnownBytes.{Keeps}
 use Rattle.disk_store.specs.declared.file.start.Start.{Ghosts}

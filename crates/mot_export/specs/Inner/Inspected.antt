@@ -10,7 +10,7 @@ use Rattle.mot_numbers.specs.declared.refusal.Refusal.TheVariants.{OutOfMemory, 
 use Rattle.mot_player.specs.Place.{Place}
 use Rattle.mot_export.specs.Inspecting.{bytes_of_all, inspection_text, rates_of}
 use Rattle.mot_repository.specs.Gap.{IsLongestGap}
-use Rattle.mot_server.specs.Playing.{HasPlayedTurn}
+use Rattle.mot_playout.specs.Playing.{HasPlayedTurn}
 
 -- a turn from this place on has so many packets and bytes
 pub record IsTurnSize (place : Place) (count bytes : ℕ) : Type 0 where
@@ -29,7 +29,7 @@ IsCountingFault refusal before now =
 pub record HasInspected (rate : Option ℕ) (journal : JournalView) (place : Place) (s : Standing)
     (is_printed : List ℕ → Type 0) : Type 0 where
   pub gap : ℕ
-  pub longest : IsLongestGap s.extents s.geometry.data_area gap
+  pub longest : IsLongestGap s.extents s.geometry.area gap
   pub packets : List (List ℕ)
   pub last : Place
   pub turn : HasPlayedTurn place packets last

@@ -18,7 +18,7 @@ use Rattle.mot_folder.specs.declared.report.Report.{Report}
 use Rattle.mot_files.specs.declared.reading.Unread.TheVariants.{Changed, NoMemory as OutOfRoom, System, TooLong, Young}
 use Rattle.mot_numbers.specs.declared.refusal.Refusal.{Refusal}
 use Rattle.mot_numbers.specs.declared.refusal.Refusal.TheVariants.{BodyTooLong, OutOfMemory}
-use Rattle.mot_server.specs.declared.running.Attempt.TheVariants.{Accepted}
+use Rattle.mot_playout.specs.declared.running.Attempt.TheVariants.{Accepted}
 use Rattle.mot_shelf.specs.Given.{Given, and_missed, and_read}
 use Rattle.mot_suffixes.specs.Types.{SuffixType, type_of_name}
 use Rattle.mot_update.specs.Told.{Answer, Withdrew}

@@ -13,8 +13,8 @@ use Rattle.mot_journal.specs.Geometry.{magic}
 -- the 64 bytes before the halves, as they are written
 abbrev pub head_bytes : Geometry → ℕ → List ℕ
 head_bytes g half =
-    magic ++ half ∷ replicate 7 0 ++ to_be_bytes w16 g.objects ++ to_be_bytes w16 g.segment_size
-    ++ to_be_bytes w16 g.address ++ to_be_bytes w16 g.packet_length ++ to_be_bytes w32 g.data_area
+    magic ++ half ∷ replicate 7 0 ++ to_be_bytes w16 g.objects ++ to_be_bytes w16 g.segment
+    ++ to_be_bytes w16 g.address ++ to_be_bytes w16 g.packet ++ to_be_bytes w32 g.area
     ++ replicate 36 0
 
 -- the record of a new disk, whose directory has this transport id

@@ -1,15 +1,16 @@
 //! The words of a line, one by one.
-ghost use Rattle.std.specs.Prelude.{◌≡◌};
+ghost use Rattle.std.specs.Prelude.{◌≡◌, ◌⊎◌, Ok, IsErr, IfErr, IfOk};
 ghost use Rattle.hex.specs.Hex.{decode_of};
 ghost use Rattle.mot_lines.specs.Fields.{kind_in, number_to, segment_in, name_in, content_in};
 ghost use Rattle.mot_lines.specs.Fields.{mime_in, body_in, period_in};
 ghost use Rattle.mot_lines.specs.Inner.Words.{OrOutOfMemory};
 ghost use Rattle.mot_lines.specs.Words.{number_of_word};
+ghost use Rattle.mot_numbers.specs.declared.refusal.Refusal.TheVariants.{BadBody, OutOfMemory};
 
 use super::MAX_PACKETS;
-use super::digits::decode;
 use super::words::{is_word, parse_number};
 use crate::SegmentBytes;
+use hex::FromHexError;
 use mot_numbers::{GroupKind, Refusal, TransportId};
 use mot_objects::{Body, Content, Mime, Name, Period};
 use std::alloc::Global;
@@ -118,4 +119,17 @@ pub(super) fn parse_count(word: &[u8]) -> Result<u32, Refusal>
         return Err(Refusal::BadNumber);
     }
     Ok(number as u32)
+}
+
+/// The bytes that a word writes in pairs of hex digits, or `BadBody`; or `OutOfMemory`.
+fn decode(alloc: Global, word: &[u8]) -> Result<Vec<u8>, Refusal>
+    ensures read { IfOk result (λ bytes. decode_of word.now ≡ Ok bytes.items) }
+    ensures refused { IfErr result (λ refusal.
+        (refusal ≡ OutOfMemory) ⊎ ((refusal ≡ BadBody) × IsErr (decode_of word.now))) }
+{
+    match hex::decode(alloc, word) {
+        Ok(bytes) => Ok(bytes),
+        Err(FromHexError::OutOfMemory) => Err(Refusal::OutOfMemory),
+        Err(_) => Err(Refusal::BadBody),
+    }
 }

@@ -112,4 +112,4 @@ abbrev pub StandingsAreSound : Type 0
 StandingsAreSound =
     (image : List ℕ) (s : Standing) → All (λ b. b < 256) image → stands_for image ≡ Ok s
     → IsSound s.carousel × (length s.carousel.objects ≤ s.geometry.objects)
-    × AllByRecursion (λ (e : ℕ × ℕ). (1 ≤ e.1) × (e.0 + e.1 ≤ s.geometry.data_area)) s.extents
+    × AllByRecursion (λ (e : ℕ × ℕ). (1 ≤ e.1) × (e.0 + e.1 ≤ s.geometry.area)) s.extents

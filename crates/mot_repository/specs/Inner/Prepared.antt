@@ -68,7 +68,7 @@ pub record IsPreparedFor (view : RepositoryView) (command : Command) (done : Don
     (next : Carousel) (from : ℕ) (r : Record) (given : List Record) : Type 0 where
   pub short : has_long_name view.journal.layout command ≡ false
   pub changes : ChangesTo view.carousel view.journal.geometry.objects command next done
-  pub lies : start_of view.extents view.journal.geometry.data_area command ≡ Some from
+  pub lies : start_of view.extents view.journal.geometry.area command ≡ Some from
   pub record_is : r ≡ kept_record view.carousel next command from
   pub given_is : IsFull view.journal → given ≡ records_of_catalogue (catalogue_in view)
 

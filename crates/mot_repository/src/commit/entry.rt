@@ -78,7 +78,7 @@ pub fn write_change<D: Disk>(
         → catalogue_of view.journal.geometry.objects records ≡ Ok c
         → catalogue_of view.journal.geometry.objects (records ++ entry.now ∷ []) ≡ Ok next
         → AreBeside view.journal.geometry from (length body.now) c.objects
-        × (from + length body.now ≤ view.journal.geometry.data_area)
+        × (from + length body.now ≤ view.journal.geometry.area)
         → (holds : Holds view s (D.state disk.old)) → holds.records ≡ records
         → ((image : List ℕ) → IsOf s image → HasRecords view.journal records image
         → slice_range image at (at + length body.now) ≡ body.now
@@ -93,7 +93,7 @@ pub fn write_change<D: Disk>(
         → catalogue_of view.journal.geometry.objects records ≡ Ok c
         → catalogue_of view.journal.geometry.objects (records ++ entry.now ∷ []) ≡ Ok next
         → AreBeside view.journal.geometry from (length body.now) c.objects
-        × (from + length body.now ≤ view.journal.geometry.data_area)
+        × (from + length body.now ≤ view.journal.geometry.area)
         → (holds : Holds view s (D.state disk.old)) → holds.records ≡ records
         → ((image : List ℕ) → IsOf s image → HasRecords view.journal records image
         → slice_range image at (at + length body.now) ≡ body.now
@@ -104,8 +104,5 @@ pub fn write_change<D: Disk>(
         → Agrees view' last → Holds view' last (D.state disk.new))) }
 {
     write_body(disk, at, body)?;
-    let Ok(()) = journal.append(disk, entry) else {
-        return Err(Refusal::DeviceFault);
-    };
-    Ok(())
+    journal.append(disk, entry)
 }

@@ -9,7 +9,7 @@ use Rattle.mot_numbers.specs.declared.refusal.Refusal.{Refusal}
 use Rattle.mot_numbers.specs.Refusal.{is_device_fault}
 use Rattle.mot_objects.specs.declared.command.Command as command
 use Rattle.mot_repository.specs.Repository.{Holds, RepositoryView}
-use Rattle.mot_server.specs.Runs.{StandsAfterSome}
+use Rattle.mot_playout.specs.Runs.{StandsAfterSome}
 use Rattle.mot_session.specs.declared.deciding.Decision.{Decision}
 use Rattle.mot_session.specs.declared.deciding.Decision.TheVariants.{Refused, Accepted, Listing}
 use Rattle.mot_session.specs.declared.deciding.Decision.TheVariants.{Packets, Next, Turn}

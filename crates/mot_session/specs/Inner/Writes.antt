@@ -17,8 +17,8 @@ use Rattle.mot_objects.specs.declared.command.Command.{Command}
 use Rattle.mot_packets.specs.Packet.{read_packet}
 use Rattle.mot_packets.specs.Written.{bytes_of_packet}
 use Rattle.mot_player.specs.Place.{Sent, request}
-use Rattle.mot_server.specs.Runs.{StandsAfterSome}
-use Rattle.mot_server.specs.Server.{ServerView}
+use Rattle.mot_playout.specs.Runs.{StandsAfterSome}
+use Rattle.mot_playout.specs.Server.{ServerView}
 use Rattle.mot_session.specs.declared.serving.output.WriteFault.{WriteFault}
 use Rattle.mot_session.specs.Output.{Writes}
 use Rattle.mot_session.specs.Packets.{sent_line}

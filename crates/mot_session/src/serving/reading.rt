@@ -16,7 +16,7 @@ use crate::deciding::group_of;
 use disk_model::Disk;
 use mot_lines::{Line, SegmentBytes, refusal_text};
 use mot_numbers::{Geometry, GroupKind, Refusal, TransportId};
-use mot_server::Server;
+use mot_playout::Server;
 use std::alloc::{AllocError, Global};
 use std::io::Write;
 

@@ -25,7 +25,7 @@ use disk_model::Disk;
 use mot_lines::{Line, PacketLine, done_text, refusal_text, set_packet_text};
 use mot_numbers::{Geometry, Refusal};
 use mot_packets::{Packet, cut_packet, packet_count};
-use mot_server::Server;
+use mot_playout::Server;
 use std::alloc::Global;
 use std::io::Write;
 

@@ -1,4 +1,4 @@
-use Rattle.mot_server.proofs.Laws.{passing}
+use Rattle.mot_playout.proofs.Laws.{passing}
 use Rattle.mot_air.proofs.Kept.{kept_done}
 use Rattle.mot_air.proofs.lives.open_done.Goals as goal
 

@@ -18,7 +18,7 @@ use Rattle.mot_numbers.specs.declared.refusal.Refusal.TheVariants.{DeviceFault, 
 use Rattle.mot_outcome.specs.Outcome.{OnFile}
 use Rattle.mot_outcome.specs.declared.used.Inputs.{Inputs}
 use Rattle.mot_outcome.specs.declared.used.UsedDisk.TheVariants.{OfFile}
-use Rattle.mot_server.specs.Attempts.{fault_of}
+use Rattle.mot_playout.specs.Attempts.{fault_of}
 
 -- the disk that is handed out, the packets and what was given are those of playing
 handed : (g : given.Over) (c : goal.After-of_file g)

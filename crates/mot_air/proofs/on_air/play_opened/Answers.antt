@@ -3,6 +3,7 @@ use Rattle.std.proofs.Common.{Some}
 use Rattle.disk_model.specs.Disk.{State}
 use Rattle.mot_air.specs.Playing.{Manner, Plays, Tale}
 use Rattle.mot_air.specs.Program.{PlaysInto}
+use Rattle.mot_air.proofs.Retold.{plays_as, whoever}
 use Rattle.mot_air.proofs.on_air.play_opened.Goals as goal
 use Rattle.mot_endpoints.specs.Packets.{target_of}
 use Rattle.mot_endpoints.specs.declared.packets.Target.{Target}
@@ -10,7 +11,7 @@ use Rattle.mot_endpoints.specs.declared.packets.Target.TheVariants.{File}
 use Rattle.mot_endpoints.specs.declared.taken.Taken.{Taken}
 use Rattle.mot_numbers.specs.declared.refusal.Refusal.{Refusal}
 use Rattle.mot_numbers.specs.declared.refusal.Refusal.TheVariants.{WriteFault}
-use Rattle.mot_server.specs.Attempts.{fault_of}
+use Rattle.mot_playout.specs.Attempts.{fault_of}
 
 -- what was played took its place, or did not
 placed : (target : Target) (tale : Tale) (how : Manner) (begun taken later : List (List ℕ))
@@ -36,7 +37,8 @@ returns-clause-played g c =
     placed (target_of c.args.opened) _ _ _ _ _ _ _ c.air-ended.result.ended.result
     c.placed-result.result.0
     (ap (λ (t : Taken). t.notes.all) c.hand_out-taken.ensures ∙ c.placed-result.ensures.same)
-    c.placed-result.ensures.came c.air-ended.ensures
+    c.placed-result.ensures.came
+    (plays_as _ _ (whoever _ _ _ _ _ _ _ c.air-ended.ensures.0) _ _ _ _ _ _ c.air-ended.ensures.1)
 
 pub returns-clause-placed : goal.returns-clause-placed
 returns-clause-placed g c = λ file none.

@@ -1,6 +1,4 @@
-use Rattle.std.proofs.Common.{◌⊎◌, inl, sym, subst}
-use Rattle.std.specs.Prelude.{IsSomeAnd}
-use Rattle.mot_air.specs.Lives.{AirsOn}
+use Rattle.std.proofs.Common.{inl}
 use Rattle.mot_air.specs.Playing.{Plays, manner, tale_of}
 use Rattle.mot_air.proofs.Kept.{lives}
 use Rattle.mot_air.proofs.Played.{plays}
@@ -9,26 +7,19 @@ use Rattle.mot_air.proofs.playing.feed_disk.Goals as goal
 use Rattle.mot_air.proofs.playing.feed_disk.Goals.{After-feed_every-result}
 use Rattle.mot_feed.proofs.Laws.{grows_nil}
 use Rattle.mot_feed.specs.Feeding.AreTold.{no_call}
-use Rattle.mot_export.specs.Opening.{IsUnopened}
 use Rattle.mot_export.proofs.Laws.{unopened_is}
-use Rattle.mot_server.specs.Attempts.{fault_of}
+use Rattle.mot_playout.specs.Attempts.{fault_of}
 
 pub returns-in-Err-clause-ended : goal.returns-in-Err-clause-ended
 returns-in-Err-clause-ended g c =
-    let state = g.D.Disk.state in
     let opens = c.in-Err.ensures in
-    let writes = g.O.Outlet.writes c.args.outlet.now in
-    let how = manner c.args.directory c.args.look c.args.turns in
-    let update = c.args.update.now in
-    subst (λ (e : _). Plays (tale_of g.U.Update.tells how update update) how (fault_of e.result)
-    writes writes (state c.args.disk) (state e.disk)) (sym c.unopened.ensures)
-    (record {
+    record {
       keeps = opens.only_syncs.keeps;
       came = inl (
-        unopened_is _ (state c.args.disk) _ opens.refused opens.calm opens.only_syncs.still,
-        (grows_nil writes, λ limit made. no_call),
+        unopened_is _ (g.D.Disk.state c.args.disk) _ opens.refused opens.calm opens.only_syncs.still,
+        (grows_nil (g.O.Outlet.writes c.args.outlet.now), λ limit made. no_call),
       );
-    })
+    }
 
 -- the playing
 by : (g : given.Over) (c : After-feed_every-result g) → Plays
@@ -53,19 +44,9 @@ pub returns-clause-ended : goal.returns-clause-ended
 returns-clause-ended g c = by g (goal.at.returns-clause-ended g c).After-feed_every-result
 
 pub returns-in-Err-clause-lives : goal.returns-in-Err-clause-lives
-returns-in-Err-clause-lives g c =
-    let state = g.D.Disk.state in
+returns-in-Err-clause-lives g c = λ geometry first done was honest.
     let opens = c.in-Err.ensures in
-    let how = manner c.args.directory c.args.look c.args.turns in
-    let update = c.args.update.now in
-    let writes = g.O.Outlet.writes c.args.outlet.now in λ geometry first done was.
-    subst (λ (e : _). (state e.disk).IsHonest → IsSomeAnd (fault_of e.result) (λ r.
-    IsUnopened r (state c.args.disk) (state e.disk))
-    ⊎ AirsOn geometry first done (tale_of g.U.Update.tells how update update) how
-    (fault_of e.result) writes writes (state c.args.disk) (state e.disk))
-    (sym c.unopened.ensures)
-    (λ honest. inl
-    (unopened_is _ (state c.args.disk) _ opens.refused opens.calm opens.only_syncs.still))
+    inl (unopened_is _ (g.D.Disk.state c.args.disk) _ opens.refused opens.calm opens.only_syncs.still)
 
 pub returns-clause-lives : goal.returns-clause-lives
 returns-clause-lives g c =

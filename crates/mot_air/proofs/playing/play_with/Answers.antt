@@ -4,7 +4,7 @@ use Rattle.mot_air.specs.Lives.{AirsOn}
 use Rattle.mot_air.specs.Playing.{Plays, manner, tale_of}
 use Rattle.mot_air.proofs.playing.play_with.Goals as goal
 use Rattle.mot_export.specs.Opening.{IsUnopened}
-use Rattle.mot_server.specs.Attempts.{fault_of}
+use Rattle.mot_playout.specs.Attempts.{fault_of}
 
 pub returns-in-Open-clause-ended : goal.returns-in-Open-clause-ended
 returns-in-Open-clause-ended g c =

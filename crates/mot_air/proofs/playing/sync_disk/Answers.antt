@@ -5,7 +5,7 @@ use Rattle.mot_air.specs.Syncing.{Syncs}
 use Rattle.mot_air.proofs.Synced.{syncs}
 use Rattle.mot_air.proofs.playing.sync_disk.Goals as goal
 use Rattle.mot_export.proofs.Laws.{unopened_is}
-use Rattle.mot_server.specs.Attempts.{fault_of}
+use Rattle.mot_playout.specs.Attempts.{fault_of}
 
 pub returns-in-Err : goal.returns-in-Err
 returns-in-Err g c =

@@ -9,7 +9,7 @@ use Rattle.mot_air.proofs.Begun.{concludes_so}
 use Rattle.mot_air.proofs.program.sync_file.Goals as goal
 use Rattle.mot_numbers.specs.declared.refusal.Refusal.TheVariants.{DeviceFault}
 use Rattle.mot_outcome.specs.declared.used.UsedDisk.TheVariants.{OfFile}
-use Rattle.mot_server.specs.Attempts.{fault_of}
+use Rattle.mot_playout.specs.Attempts.{fault_of}
 use Rattle.mot_shelf.specs.Given.{Given}
 use Rattle.mot_shelf.specs.Seen.{given_of}
 use Rattle.mot_shelf.specs.declared.seen.Seen.{Seen}

@@ -1,4 +1,4 @@
-use Rattle.mot_server.specs.Attempts.{fault_of}
+use Rattle.mot_playout.specs.Attempts.{fault_of}
 use Rattle.std.proofs.Common.{inl, inr, ◌≡◌, ℕ, List, Some, ◌++◌, ◌∙◌, ap, refl, sym, subst}
 use Rattle.std.proofs.KnownBytes.{Keeps-refl}
 use Rattle.std.specs.Prelude.{◌↔◌, IsTrue}
@@ -9,7 +9,7 @@ use Rattle.mot_lines.specs.Listing.{listing_text}
 use Rattle.mot_lines.proofs.Laws.{listing_text-beside}
 use Rattle.mot_commands.specs.Report.{Checks, IsReport, clean_line, layout_line}
 use Rattle.mot_outcome.specs.Outcome.{Prints}
-use Rattle.mot_server.proofs.Laws.{rises_on, syncs_read}
+use Rattle.mot_playout.proofs.Laws.{rises_on, syncs_read}
 use Rattle.mot_commands.proofs.checking.check_disk.Given as given
 use Rattle.mot_commands.proofs.checking.check_disk.Goals as goal
 use Rattle.mot_commands.proofs.checking.check_disk.Goals.{After-into_disk}

@@ -1,4 +1,4 @@
-use Rattle.mot_server.specs.Attempts.{fault_of}
+use Rattle.mot_playout.specs.Attempts.{fault_of}
 use Rattle.std.proofs.Common.{◌++◌, Some, subst}
 use Rattle.std.proofs.KnownBytes.{Appends-trans}
 use Rattle.std.specs.Io.KnownBytes.{Appends}

@@ -1,29 +1,10 @@
-use Rattle.mot_server.specs.Attempts.{fault_of}
-use Rattle.std.proofs.Common.{inl, inr, refl, subst, sym}
+use Rattle.std.proofs.Common.{[], append-nil, inl, inr, refl, subst, sym}
 use Rattle.std.proofs.KnownBytes.{Keeps-refl}
+use Rattle.std.proofs.lemmas.List.Elements.{All-nil}
 use Rattle.mot_cli.specs.declared.program.task.Task.TheVariants.{Format}
 use Rattle.mot_commands.specs.Inner.Finishing.{Finishes}
-use Rattle.mot_commands.specs.Report.{Formats}
-use Rattle.disk_store.proofs.Laws.{since_opened}
-use Rattle.mot_commands.proofs.Ends.{Formats-keeps}
+use Rattle.mot_commands.specs.Program.{LooksFor}
 use Rattle.mot_commands.proofs.formatting.format_file.Goals as goal
-
-pub returns-in-Ok-clause-ended : goal.returns-in-Ok-clause-ended
-returns-in-Ok-clause-ended g c = λ unread.
-    let geometry = c.args.geometry in
-    let directory = c.args.directory in
-    let last = c.format_disk-result.new.disk in
-    let old = g.W.Write.contents c.args.writer.now in
-    let new = g.W.Write.contents c.format_disk-result.new.writer in
-    let ending = fault_of c.format_disk-result.result in
-    let formats = c.format_disk-result.ensures in
-    subst (λ (f : _). Finishes (Format c.args.path geometry directory) f unread unread old new)
-    (sym c.of_file.ensures) (inr (
-      c.if-not-is_valid.ensures.0 refl,
-      inl (since_opened c.in-Ok.disk.disk last.disk (Formats geometry directory ending old new)
-          c.in-Ok.ensures.first last.begins
-          (Formats-keeps geometry directory ending old new _ _ formats) formats),
-    ))
 
 pub returns-then-not-is_valid-clause-ended : goal.returns-then-not-is_valid-clause-ended
 returns-then-not-is_valid-clause-ended g c = λ unread.
@@ -34,3 +15,26 @@ returns-then-not-is_valid-clause-ended g c = λ unread.
       record { untouched = tt; silent = Keeps-refl _ },
       Keeps-refl _,
     ))
+
+pub returns-then-not-is_valid-clause-looked : goal.returns-then-not-is_valid-clause-looked
+returns-then-not-is_valid-clause-looked g c =
+    let calls = g.Y.System.calls c.args.system.now in
+    subst (λ (f : _). LooksFor (Format c.args.path c.args.geometry c.args.directory) f.disk calls calls)
+    (sym c.unbegun.ensures)
+    (record { more = []; calls = sym (append-nil calls); still = All-nil _ }, inl tt)
+
+pub returns-in-Some-clause-ended : goal.returns-in-Some-clause-ended
+returns-in-Some-clause-ended g c = λ unread.
+    let old = g.W.Write.contents c.args.writer.now in
+    subst (λ (f : _). Finishes (Format c.args.path c.args.geometry c.args.directory) f unread unread
+    old old) (sym c.unbegun-in-Some.ensures)
+    (inl (inl refl, record { untouched = tt; silent = Keeps-refl _ }, Keeps-refl _))
+
+pub returns-in-Some-clause-looked : goal.returns-in-Some-clause-looked
+returns-in-Some-clause-looked g c =
+    subst (λ (f : _). LooksFor (Format c.args.path c.args.geometry c.args.directory) f.disk
+    (g.Y.System.calls c.args.system.now) (g.Y.System.calls c.use_of.new.system))
+    (sym c.unbegun-in-Some.ensures) (c.in-Some.ensures.looks, inl tt)
+
+pub returns-in-None-clause-looked : goal.returns-in-None-clause-looked
+returns-in-None-clause-looked g c = (c.in-None.ensures.looks, inr c.in-None.ensures.free)

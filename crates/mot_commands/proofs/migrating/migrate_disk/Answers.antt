@@ -1,4 +1,4 @@
-use Rattle.mot_server.specs.Attempts.{fault_of}
+use Rattle.mot_playout.specs.Attempts.{fault_of}
 use Rattle.std.proofs.Common.{◌∙◌, Some, ap, inl, inr, refl, subst, sym}
 use Rattle.std.proofs.KnownBytes.{Keeps-refl}
 use Rattle.disk_model.proofs.Laws.{keeps_on}
@@ -9,7 +9,7 @@ use Rattle.mot_journal.specs.Journal.IsReadingRefusal.{device, no_memory as no_r
 use Rattle.mot_repository.specs.Repository.{IsOf}
 use Rattle.mot_commands.specs.Report.{IsMigrated, Migrates, migrated_line}
 use Rattle.mot_outcome.specs.Outcome.{Prints}
-use Rattle.mot_server.proofs.Laws.{rises_on, still_unchanged}
+use Rattle.mot_playout.proofs.Laws.{rises_on, still_unchanged}
 use Rattle.mot_commands.proofs.Opened.{migrates_held, migrates_under}
 use Rattle.mot_export.proofs.Laws.{opened_throughout}
 use Rattle.mot_commands.proofs.migrating.migrate_disk.Given as given

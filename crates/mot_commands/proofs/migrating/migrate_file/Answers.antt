@@ -1,5 +1,5 @@
-use Rattle.mot_server.specs.Attempts.{fault_of}
-use Rattle.std.proofs.Common.{inl, inr, refl, subst, sym}
+use Rattle.mot_playout.specs.Attempts.{fault_of}
+use Rattle.std.proofs.Common.{◌∙◌, inl, inr, refl, subst, sym}
 use Rattle.std.proofs.KnownBytes.{Keeps-refl}
 use Rattle.mot_cli.specs.declared.program.task.Task.TheVariants.{Migrate}
 use Rattle.mot_commands.specs.Inner.Finishing.{Finishes}
@@ -26,15 +26,6 @@ returns-in-Err-clause-ended g c = λ unread.
     (sym c.unopened.ensures)
     (inl (refl, record { untouched = tt; silent = Keeps-refl _ }, Keeps-refl _))
 
-pub returns-in-Ok-clause-files : goal.returns-in-Ok-clause-files
-returns-in-Ok-clause-files g c =
-    let opened = g.F.DiskFiles.opened in
-    let gone = g.F.DiskFiles.taken_away in
-    let old = c.args.files.now in
-    let new = c.open_disk.new.self in
-    subst (λ (f : _). UsesFor (fault_of f.result) (Migrate c.args.path) f.disk (opened old, gone old)
-    (opened new, gone new)) (sym c.of_file.ensures) (c.in-Ok.ensures.one, c.in-Ok.ensures.stays)
-
 pub returns-in-Err-clause-files : goal.returns-in-Err-clause-files
 returns-in-Err-clause-files g c =
     let opened = g.F.DiskFiles.opened in
@@ -43,3 +34,15 @@ returns-in-Err-clause-files g c =
     let new = c.open_disk.new.self in
     subst (λ (f : _). UsesFor (fault_of f.result) (Migrate c.args.path) f.disk (opened old, gone old)
     (opened new, gone new)) (sym c.unopened.ensures) (c.in-Err.ensures.one, c.in-Err.ensures.stays)
+
+pub returns-in-Ok-clause-files : goal.returns-in-Ok-clause-files
+returns-in-Ok-clause-files g c =
+    let opened = g.F.DiskFiles.opened in
+    let gone = g.F.DiskFiles.taken_away in
+    let old = c.args.files.now in
+    let new = c.clear_unfit.new.files in
+    subst (λ (f : _). UsesFor (fault_of f.result) (Migrate c.args.path) f.disk (opened old, gone old)
+    (opened new, gone new)) (sym c.of_file.ensures) (
+      c.clear_unfit.ensures.opened ∙ c.in-Ok.ensures.one,
+      c.clear_unfit.ensures.stays ∙ c.in-Ok.ensures.stays,
+    )

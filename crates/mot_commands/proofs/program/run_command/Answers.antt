@@ -5,11 +5,11 @@ use Rattle.mot_cli.specs.Command.{motcar_app}
 use Rattle.mot_cli.specs.Program.Task.{IsTask}
 use Rattle.mot_numbers.specs.declared.refusal.Refusal.TheVariants.{BadGeometry}
 use Rattle.mot_outcome.specs.Outcome.{ComesTo, UsesFiles}
-use Rattle.mot_server.specs.Attempts.{fault_of}
+use Rattle.mot_playout.specs.Attempts.{fault_of}
 use Rattle.mot_outcome.specs.Outcome.ComesTo.{begun, no_task, unbegun}
 use Rattle.mot_outcome.specs.Outcome.UsesFiles.{asked}
 use Rattle.mot_commands.specs.Inner.Finishing.{Finishes}
-use Rattle.mot_commands.specs.Program.{Ends, IsBeginningRefusal, UsesFor}
+use Rattle.mot_commands.specs.Program.{Ends, IsBeginningRefusal, LooksFor, UsesFor}
 use Rattle.mot_commands.proofs.program.run_command.Goals as goal
 
 pub returns-in_default-clause-ended : goal.returns-in_default-clause-ended
@@ -78,3 +78,17 @@ returns-in-Err-clause-files g c = λ words asks.
     (asked task ((asks task).1 c.in-Some.ensures.some)
     (subst (λ (r : _). UsesFor (fault_of r) task c.execute-result.result.disk
     (opened old, gone old) (opened new, gone new)) c.in-Err.is c.execute-result.ensures.files))
+
+pub returns-in-Ok-clause-looked : goal.returns-in-Ok-clause-looked
+returns-in-Ok-clause-looked g c = λ words asks.
+    let task = c.in-Some.task in
+    subst (λ (e : _). UsesFiles IsTask LooksFor words e.disk (g.Y.System.calls c.args.system.now)
+    (g.Y.System.calls c.execute-result.new.system)) (sym c.unrefused.ensures)
+    (asked task ((asks task).1 c.in-Some.ensures.some) c.execute-result.ensures.looked)
+
+pub returns-in-Err-clause-looked : goal.returns-in-Err-clause-looked
+returns-in-Err-clause-looked g c = λ words asks.
+    let task = c.in-Some.task in
+    subst (λ (e : _). UsesFiles IsTask LooksFor words e.disk (g.Y.System.calls c.args.system.now)
+    (g.Y.System.calls c.execute-result.new.system)) (sym c.refuse-in-Err.ensures)
+    (asked task ((asks task).1 c.in-Some.ensures.some) c.execute-result.ensures.looked)

@@ -1,4 +1,4 @@
-use Rattle.mot_server.specs.Attempts.{fault_of}
+use Rattle.mot_playout.specs.Attempts.{fault_of}
 use Rattle.std.proofs.Common.{◌≡◌, ◌∙◌, Option, None, Some, ap, inl, inr, refl, subst, sym}
 use Rattle.disk_model.specs.Disk.{IsStill}
 use Rattle.mot_commands.specs.Serving.{Serves, ServesTill}

@@ -1,5 +1,5 @@
-use Rattle.mot_server.specs.Attempts.{fault_of}
-use Rattle.std.proofs.Common.{inl, inr, refl, subst, sym}
+use Rattle.mot_playout.specs.Attempts.{fault_of}
+use Rattle.std.proofs.Common.{◌∙◌, inl, inr, refl, subst, sym}
 use Rattle.std.proofs.KnownBytes.{Keeps-refl}
 use Rattle.disk_store.specs.File.{file_state}
 use Rattle.disk_store.proofs.Laws.{since_opened}
@@ -38,9 +38,12 @@ returns-in-Ok-clause-files g c =
     let opened = g.F.DiskFiles.opened in
     let gone = g.F.DiskFiles.taken_away in
     let old = c.args.files.now in
-    let new = c.open_disk.new.self in
+    let new = c.clear_unfit.new.files in
     subst (λ (f : _). UsesFor (fault_of f.result) (Serve c.args.path) f.disk (opened old, gone old)
-    (opened new, gone new)) (sym c.of_file.ensures) (c.in-Ok.ensures.one, c.in-Ok.ensures.stays)
+    (opened new, gone new)) (sym c.of_file.ensures) (
+      c.clear_unfit.ensures.opened ∙ c.in-Ok.ensures.one,
+      c.clear_unfit.ensures.stays ∙ c.in-Ok.ensures.stays,
+    )
 
 pub returns-in-Err-clause-files : goal.returns-in-Err-clause-files
 returns-in-Err-clause-files g c =

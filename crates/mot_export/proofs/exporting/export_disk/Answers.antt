@@ -4,7 +4,7 @@ use Rattle.mot_export.specs.Exporting.{Exports}
 use Rattle.mot_export.proofs.Opened.{unopened_is}
 use Rattle.mot_export.proofs.Exported.{exports, rebuilds_standing}
 use Rattle.mot_export.proofs.exporting.export_disk.Goals as goal
-use Rattle.mot_server.specs.Attempts.{fault_of}
+use Rattle.mot_playout.specs.Attempts.{fault_of}
 
 pub returns-in-Err : goal.returns-in-Err
 returns-in-Err g c =

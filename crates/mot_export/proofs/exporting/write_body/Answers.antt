@@ -11,7 +11,7 @@ use Rattle.disk_model.proofs.Laws.{reads_none, reads_on, reads_once}
 use Rattle.mot_export.proofs.Printed.{digits-more, digits-none, front-digits, front-piece}
 use Rattle.mot_export.proofs.exporting.write_body.Goals as goal
 use Rattle.mot_repository.specs.Repository.{object_body}
-use Rattle.mot_server.proofs.Laws.{body_length, standing_still, no_failure}
+use Rattle.mot_playout.proofs.Laws.{body_length, standing_still, no_failure}
 
 pub loop-from-init : goal.loop-from-init
 loop-from-init g c =

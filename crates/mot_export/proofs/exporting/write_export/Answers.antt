@@ -12,7 +12,7 @@ use Rattle.mot_export.proofs.Printed.{all_objects, front-lines, lines-more, some
 use Rattle.mot_export.specs.Inner.Printing.{IsPrintingFault}
 use Rattle.mot_export.proofs.exporting.write_export.Goals as goal
 use Rattle.mot_repository.specs.Repository.{RepositoryView}
-use Rattle.mot_server.proofs.Laws.{standing_still}
+use Rattle.mot_playout.proofs.Laws.{standing_still}
 use Rattle.mot_session.proofs.Laws.{WritesFront-after, WritesFront-all}
 use Rattle.mot_session.specs.Served.{WritesFront}
 

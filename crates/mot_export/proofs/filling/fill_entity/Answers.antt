@@ -21,7 +21,7 @@ loop-preserved c =
           ap (λ n. fold (with_packet size) c.fill_group.new.frames
           (segment_lengths (count - (c.loop.counter + 1)) room full n))
           (c.saturating_sub-rest.ensures ∙ ap (λ f. c.loop.rest - f) full_is)
-          ∙ segment-more size room end full count c.loop.counter c.loop.rest (c.min.result + 11)
+          ∙ segment-more (with_packet size) room end full count c.loop.counter c.loop.rest (c.min.result + 11)
           c.loop.frames c.fill_group.new.frames c.loop-test.true is.filled
           (ap (λ n. n + 11) (c.min.ensures ∙ ap (λ f. min f c.loop.rest) full_is))
           c.fill_group.ensures.filled;

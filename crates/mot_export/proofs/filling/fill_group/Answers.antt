@@ -18,7 +18,7 @@ loop-preserved c =
           ap (λ n. fold (with_packet size) c.fill.new.self
           (packet_lengths (count - (c.loop.counter + 1)) room n))
           (c.saturating_sub-rest.ensures ∙ ap (λ r. c.loop.rest - r) c.room-room.ensures)
-          ∙ packet-more size room end count c.loop.counter c.loop.rest c.packet_for.result
+          ∙ packet-more (with_packet size) room end count c.loop.counter c.loop.rest c.packet_for.result
           c.loop.frames c.fill.new.self c.loop-test.true is.filled c.packet_for.ensures
           c.fill.ensures.filled;
       few = let so_far = is.few in let one = c.fill.ensures.few in omega (arith, so_far, one);

@@ -2,8 +2,8 @@ use Rattle.std.proofs.Common.{◌∙◌, [], ◌∷◌, ◌++◌, length-append,
 use Rattle.disk_model.proofs.Laws.{reads_none, reads_on}
 use Rattle.mot_export.proofs.Inspected.{bytes_more}
 use Rattle.mot_export.proofs.inspecting.count_turn.Goals as goal
-use Rattle.mot_server.proofs.Laws.{HasPlayedTurn-ended, IsGoing-more, IsGoing-none, standing_still}
-use Rattle.mot_server.specs.Server.{place_in}
+use Rattle.mot_playout.proofs.Laws.{HasPlayedTurn-ended, IsGoing-more, IsGoing-none, standing_still}
+use Rattle.mot_playout.specs.Server.{place_in}
 
 pub loop-others-init : goal.loop-others-init
 loop-others-init g c =

@@ -3,8 +3,8 @@ use Rattle.disk_model.specs.Disk.{OnlyReads}
 use Rattle.mot_journal.specs.Image.{Standing}
 use Rattle.mot_export.specs.Inspecting.{bytes_of_all}
 use Rattle.mot_repository.specs.Repository.{HasStanding}
-use Rattle.mot_server.specs.Playing.{IsGoing}
-use Rattle.mot_server.specs.Server.{place_in}
+use Rattle.mot_playout.specs.Playing.{IsGoing}
+use Rattle.mot_playout.specs.Server.{place_in}
 use Rattle.mot_export.proofs.inspecting.count_turn.Given as goal
 
 abbrev pub invariant-loop-others : goal.invariant-loop-others

@@ -5,7 +5,7 @@ use Rattle.mot_export.proofs.Opened.{unopened_is}
 use Rattle.mot_export.proofs.Inspected.{inspects, printed}
 use Rattle.mot_export.proofs.Played.{turns-have-their-lengths}
 use Rattle.mot_export.proofs.inspecting.inspect_disk.Goals as goal
-use Rattle.mot_server.specs.Attempts.{fault_of}
+use Rattle.mot_playout.specs.Attempts.{fault_of}
 
 pub returns-in-Err-clause-ended : goal.returns-in-Err-clause-ended
 returns-in-Err-clause-ended g c =

@@ -26,12 +26,12 @@ lengths : (g : given.Over) (c : After-write_lengths g) (bodies : List (List ℕ)
     → AreBodiesOf c.args.server.now.view.carousel bodies
     → OnOk c.write_lengths.result (c.write_lengths.new.writer.items
     ≡ c.write_turn.new.writer.items ++ turn_lengths_text (rates_of c.args.rate)
-    c.args.server.now.view.journal.geometry.segment_size
+    c.args.server.now.view.journal.geometry.segment
     (turn_of_carousel (carousel_of c.args.server.now.view.carousel bodies)
-    c.args.server.now.view.journal.geometry.segment_size))
+    c.args.server.now.view.journal.geometry.segment))
 lengths g c bodies are =
     let size = c.size_of_segments-size.ensures
-    ∙ ap (λ (k : Geometry). k.segment_size) c.geometry-2.ensures.value in
+    ∙ ap (λ (k : Geometry). k.segment) c.geometry-2.ensures.value in
     let text : Carousel → ℕ → List (List ℕ) → List ℕ = λ k n b.
     turn_lengths_text (rates_of c.args.rate) n (turn_of_carousel (carousel_of k b) n) in
     subst (λ n. OnOk c.write_lengths.result (c.write_lengths.new.writer.items
@@ -55,8 +55,8 @@ returns g c = λ bodies are.
       appended old c.write_sizes.new.writer.items c.write_use.new.writer.items
           c.write_turn.new.writer.items c.write_lengths.new.writer.items
           (sizes_text view.journal.geometry) shares (turn_text c.args.packets c.args.bytes)
-          (turn_lengths_text (rates_of c.args.rate) view.journal.geometry.segment_size
-          (turn_of_carousel (carousel_of view.carousel bodies) view.journal.geometry.segment_size))
+          (turn_lengths_text (rates_of c.args.rate) view.journal.geometry.segment
+          (turn_of_carousel (carousel_of view.carousel bodies) view.journal.geometry.segment))
           (c.in_ok-write_sizes.ensures.written
           ∙ ap (λ g. old ++ sizes_text g) c.geometry.ensures.value)
           used.2 c.in_ok-write_turn.ensures.written last,

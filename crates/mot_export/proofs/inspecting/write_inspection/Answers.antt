@@ -16,7 +16,7 @@ use Rattle.mot_export.specs.Inspecting.{use_text}
 use Rattle.mot_export.specs.Inner.Inspected.{HasInspected}
 use Rattle.mot_repository.specs.Gap.{IsLongestGap}
 use Rattle.mot_repository.specs.Repository.{Agrees, HasStanding, RepositoryView}
-use Rattle.mot_server.specs.Server.{place_in}
+use Rattle.mot_playout.specs.Server.{place_in}
 use Rattle.mot_session.specs.Served.{WritesFront}
 use Rattle.mot_export.proofs.inspecting.write_inspection.Given as given
 use Rattle.mot_export.proofs.inspecting.write_inspection.Goals as goal
@@ -51,14 +51,14 @@ inspected g c is_printed printed s holds honest =
     ++ use_text now.journal.geometry now.journal.layout (length objects)
     (sum_by (λ (o : Object). o.length) objects) gap now.journal.count
     ++ turn_text packets bytes
-    ++ turn_lengths_text (rates_of c.args.rate) now.journal.geometry.segment_size
-    (turn_of_carousel (carousel_of now.carousel agrees.bodies) now.journal.geometry.segment_size) in
+    ++ turn_lengths_text (rates_of c.args.rate) now.journal.geometry.segment
+    (turn_of_carousel (carousel_of now.carousel agrees.bodies) now.journal.geometry.segment) in
     let text : c.deref.result.now ≡ whole =
     c.deref.ensures.value ∙ told.2 ∙ ap (λ l. l ++ whole) c.new-text.ensures.items in
     record {
       gap = gap;
-      longest = subst (λ e. IsLongestGap e s.geometry.data_area gap) agrees.extents
-          (subst (λ (g : _). IsLongestGap now.extents g.data_area gap) agrees.geometry told.1);
+      longest = subst (λ e. IsLongestGap e s.geometry.area gap) agrees.extents
+          (subst (λ (g : _). IsLongestGap now.extents g.area gap) agrees.geometry told.1);
       packets = size.packets;
       last = size.last;
       turn = size.turn;

@@ -20,9 +20,9 @@ returns-clause-written g c =
     c.from.ensures
     ∙ ap (λ d. text geometry.objects (length items) d c.used_bytes.result c.slot_count-slots.result)
     c.from-2.ensures
-    ∙ ap (λ u. text geometry.objects (length items) geometry.data_area u c.slot_count-slots.result)
+    ∙ ap (λ u. text geometry.objects (length items) geometry.area u c.slot_count-slots.result)
     c.used_bytes.ensures
-    ∙ ap (λ k. text geometry.objects (length items) geometry.data_area (bytes items) k)
+    ∙ ap (λ k. text geometry.objects (length items) geometry.area (bytes items) k)
     c.slot_count-slots.ensures in
     let two = Appends-trans _ _ _ _ _ c.in_ok-write_shares.ensures.written
     c.in_ok-write_data.ensures.written in

@@ -6,8 +6,8 @@ use Rattle.mot_feed.specs.Often.{IsOften, look_in, server_for}
 use Rattle.mot_feed.proofs.Fed.{continuous}
 use Rattle.mot_feed.proofs.OnAir.{changed_turns_read, turns_read}
 use Rattle.mot_feed.proofs.often.feed_every.Goals as goal
-use Rattle.mot_server.specs.Attempts.{fault_of}
-use Rattle.mot_server.specs.Server.{ServerView, following_server}
+use Rattle.mot_playout.specs.Attempts.{fault_of}
+use Rattle.mot_playout.specs.Server.{ServerView, following_server}
 
 -- which look, and which server, by whether the directory is sent again
 module _ {D : Type 0} (look : ℕ) (old : ServerView D) (P : ℕ → ServerView D → Type 0) where

@@ -21,7 +21,7 @@ use Rattle.mot_journal.specs.Image.{Standing}
 use Rattle.mot_numbers.proofs.Laws.{same_error}
 use Rattle.mot_player.specs.Place.{Place, Sent, following}
 use Rattle.mot_repository.specs.Repository.{Agrees, Holds, RepositoryView}
-use Rattle.mot_server.specs.Server.{ServerView, following_server, place_in}
+use Rattle.mot_playout.specs.Server.{ServerView, following_server, place_in}
 use Rattle.mot_update.specs.Between.{IsUpdating, may_look}
 use Rattle.mot_update.proofs.Laws.{calm_on, fault_on}
 

@@ -5,7 +5,7 @@ use Rattle.mot_feed.proofs.Hearing.{OftenUpTo}
 use Rattle.mot_feed.specs.Feeding.Stage.{Ready}
 use Rattle.mot_journal.specs.Image.{Standing}
 use Rattle.mot_repository.specs.Repository.{Holds}
-use Rattle.mot_server.specs.Server.{following_server}
+use Rattle.mot_playout.specs.Server.{following_server}
 use Rattle.mot_update.specs.Faults.{StaysCalm}
 use Rattle.mot_feed.proofs.often.feed_often.Given as goal
 

@@ -1,6 +1,7 @@
 use Rattle.std.proofs.Common.{◌≡◌, ◌++◌, ℕ, List, length, None}
 use Rattle.std.specs.Prelude.{⊤}
 use Rattle.disk_model.specs.Disk.{KeepsLength}
+use Rattle.mot_events.specs.Log.{HearsAll}
 use Rattle.mot_feed_lines.specs.Answering.{AnswersMore}
 use Rattle.mot_update.specs.Between.{IsUpdating}
 use Rattle.mot_journal.specs.Image.{Standing}
@@ -25,9 +26,7 @@ invariant-loop-line g l =
           × ((input : List ℕ) → l.initial.intake.hand ≡ bytes_in_hand (rest_of input)
           → (l.intake.hand ≡ bytes_in_hand (rest_of (input ++ front)))
           × AnswersMore state l.initial.server l.server input (input ++ front) None
-          (tells.log_has_levels l.initial.log) (tells.log_is_whole l.initial.log)
-          (tells.log_is_whole l.log) (tells.log_has l.initial.log) (tells.log_has l.log));
-      levels : tells.log_has_levels l.log ≡ tells.log_has_levels l.initial.log;
+          (HearsAll tells.hears tells.misses) l.initial.log l.log);
     }
 
 abbrev pub decreases-loop-line : goal.decreases-loop-line

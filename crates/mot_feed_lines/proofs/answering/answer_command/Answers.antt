@@ -35,7 +35,7 @@ returns-clause-answered g c =
                 (run_of (Ok (asks.Command command)) (reply_of attempt)) run.0 f)
                 (sym c.ended.ensures) run.2,
           );
-      log = c.tell_attempt.ensures.told;
+      log = c.tell_attempt.ensures;
     }
 
 pub returns-then-halted-clause-answered : goal.returns-then-halted-clause-answered
@@ -43,5 +43,5 @@ returns-then-halted-clause-answered g c = record {
   text = refusal_line Halted;
   reply = halted (sym c.if-halted.ensures.value) tt refl refl;
   run = λ s holds honest. absurd (never (sym holds.going ∙ sym c.if-halted.ensures.value));
-  log = c.tell_refused.ensures.told;
+  log = c.tell_refused.ensures;
 }

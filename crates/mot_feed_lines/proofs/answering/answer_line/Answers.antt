@@ -10,7 +10,7 @@ returns-clause-answered g c = λ line is.
     let asked = subst (IsParsed c.parse_line-request.result) (c.as_slice.ensures.asks line is)
     c.parse_line-request.ensures in
     parsed g.D.Disk.state c.args.server.now c.answer_request.new.server c.parse_line-request.result
-    (line_of line) _ _ _ _ _ _ _ asked (rw is at c.answer_request.ensures.answered)
+    (line_of line) _ _ _ _ _ asked (rw is at c.answer_request.ensures.answered)
 
 pub returns-clause-run : goal.returns-clause-run
 returns-clause-run g c = λ s holds honest.

@@ -13,10 +13,11 @@ returns-clause-answered g c = λ input hand. (
         let fits = c.read-count.ensures.fits in
         let size = length-take-le c.read-count.result c.read-count.new.room fits in
         omega (arith, len, fits, size);
-    whole_so = g.T.Tells.log_is_whole c.read-count.new.log;
-    so_far = g.T.Tells.log_has c.read-count.new.log;
-    read = c.read-count.ensures.told;
-    answers = rw c.read-count.ensures.levels at c.answer_chunk.ensures.answered input hand;
+    notices = c.read-count.ensures.told.0;
+    are_of_files = c.read-count.ensures.told.1;
+    so_far = c.read-count.new.log;
+    read = c.read-count.ensures.told.2;
+    answers = c.answer_chunk.ensures.answered input hand;
     in_hand = λ e. c.answer_chunk.ensures.in_hand e input hand;
   },
 )
@@ -26,7 +27,6 @@ returns-clause-run g c = λ s holds honest.
     let state = g.D.Disk.state in
     let old = c.args.server.now in
     let new = c.answer_chunk.new.server in
-    updating_lines state old new s _ c.args.intake.now.hand c.answer_chunk.new.intake.hand _ _ _
-    (g.T.Tells.log_is_whole c.args.log.now) (g.T.Tells.log_is_whole c.answer_chunk.new.log)
-    (g.T.Tells.log_has c.args.log.now) (g.T.Tells.log_has c.answer_chunk.new.log)
+    updating_lines state old new s _ c.args.intake.now.hand c.answer_chunk.new.intake.hand _ _
+    _ c.args.log.now c.answer_chunk.new.log
     holds honest (c.answer_chunk.ensures.run s holds honest) (returns-clause-answered g c)

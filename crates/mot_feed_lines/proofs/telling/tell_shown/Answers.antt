@@ -3,11 +3,10 @@ use Rattle.mot_events.specs.declared.event.Event.TheVariants as event
 use Rattle.mot_events.specs.declared.event.Reply.TheVariants as reply
 use Rattle.mot_feed_lines.proofs.telling.tell_shown.Goals as goal
 
-pub returns-clause-told : goal.returns-clause-told
-returns-clause-told g c = λ whole. (
-  c.tell.ensures.whole whole,
+pub returns : goal.returns
+returns g c = (
   event.Answered c.file-file.result c.args.intake.now.count.number c.command_of-asked.result.0
       c.command_of-asked.result.1 (reply.Shown c.args.line),
   (rw c.as_slice.ensures.bytes at c.command_of-asked.ensures, refl),
-  c.tell.ensures.told whole,
+  c.tell.ensures.heard,
 )

@@ -31,13 +31,13 @@ use Rattle.mot_numbers.proofs.Laws.{same_error}
 use Rattle.mot_objects.specs.declared.command.Command.{Command}
 use Rattle.mot_journal.specs.Image.{Standing}
 use Rattle.disk_model.specs.Disk.{State}
-use Rattle.mot_server.specs.Server.{ServerView}
+use Rattle.mot_playout.specs.Server.{ServerView}
 use Rattle.mot_shelf.specs.Given.{Given, nothing}
 use Rattle.mot_update.specs.HasRun.{HasRun}
 use Rattle.mot_update.specs.Told.{Answer, TellsBoth}
 use Rattle.mot_update.specs.declared.wanted.Wanted.{Wanted}
 use Rattle.std.specs.Prelude.{◌≢◌, ◌⊎◌, IsOk}
-use Rattle.mot_server.specs.Attempts.{fault_of}
+use Rattle.mot_playout.specs.Attempts.{fault_of}
 use Rattle.mot_suffixes.specs.Types.{AreShown, SuffixType}
 use Rattle.mot_update.specs.Looking.{HasLooked}
 use Rattle.mot_update.proofs.Laws.{has_read}

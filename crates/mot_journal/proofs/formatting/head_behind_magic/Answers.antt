@@ -7,8 +7,8 @@ use Rattle.mot_numbers.specs.declared.geometry.Geometry.{Geometry}
 -- the bytes between the magic and the halves, piece by piece
 pieces : (g : Geometry) (x0 x1 x2 x3 x4 x5 x6 x7 d : List ℕ)
     → x0 ≡ [] → x1 ≡ x0 ++ replicate 8 0 → x2 ≡ x1 ++ to_be_bytes w16 g.objects
-    → x3 ≡ x2 ++ to_be_bytes w16 g.segment_size → x4 ≡ x3 ++ to_be_bytes w16 g.address
-    → x5 ≡ x4 ++ to_be_bytes w16 g.packet_length → d ≡ to_be_bytes w32 g.data_area
+    → x3 ≡ x2 ++ to_be_bytes w16 g.segment → x4 ≡ x3 ++ to_be_bytes w16 g.address
+    → x5 ≡ x4 ++ to_be_bytes w16 g.packet → d ≡ to_be_bytes w32 g.area
     → x6 ≡ x5 ++ d → x7 ≡ x6 ++ replicate 36 0 → x7 ≡ behind_magic g
 pieces g x0 x1 x2 x3 x4 x5 x6 x7 d e0 e1 e2 e3 e4 e5 ed e6 e7 =
     rw (e7, e6, ed, e5, e4, e3, e2, e1, e0) refl

@@ -15,11 +15,10 @@ returns-then-ne c = λ rest long.
     let head = c.args.head.now in
     let g : Geometry = record {
       objects = c.number.result;
-      data_area = c.number-2.result;
-      segment_size =
-          c.number-3.result;
-      address = c.number-4.result;
-      packet_length = c.number-5.result;
+      segment = c.number-2.result;
+      address = c.number-3.result;
+      packet = c.number-4.result;
+      area = c.number-5.result;
     } in
     let other : bytes_eq (take 8 head) magic ≡ false =
     grind (arith, bytes_eq-Decides (take 8 head) magic) in
@@ -34,11 +33,10 @@ returns-then-not-is_valid c = λ rest long.
     let head = c.args.head.now in
     let g : Geometry = record {
       objects = c.number.result;
-      data_area = c.number-2.result;
-      segment_size =
-          c.number-3.result;
-      address = c.number-4.result;
-      packet_length = c.number-5.result;
+      segment = c.number-2.result;
+      address = c.number-3.result;
+      packet = c.number-4.result;
+      area = c.number-5.result;
     } in
     let bad : is_valid g ≡ false = sym c.is_valid.ensures ∙ c.if-not-is_valid.true in
     sym (geometry_from head rest g c.args.len c.requires long c.number.ensures.value
@@ -52,11 +50,10 @@ returns-then-length-len c = λ rest long.
     let head = c.args.head.now in
     let g : Geometry = record {
       objects = c.number.result;
-      data_area = c.number-2.result;
-      segment_size =
-          c.number-3.result;
-      address = c.number-4.result;
-      packet_length = c.number-5.result;
+      segment = c.number-2.result;
+      address = c.number-3.result;
+      packet = c.number-4.result;
+      area = c.number-5.result;
     } in
     let small : nat_le (length_of g) c.args.len ≡ false =
     false_from_ne_true (nat_le (length_of g) c.args.len)
@@ -77,11 +74,10 @@ returns c = λ rest long.
     let head = c.args.head.now in
     let g : Geometry = record {
       objects = c.number.result;
-      data_area = c.number-2.result;
-      segment_size =
-          c.number-3.result;
-      address = c.number-4.result;
-      packet_length = c.number-5.result;
+      segment = c.number-2.result;
+      address = c.number-3.result;
+      packet = c.number-4.result;
+      area = c.number-5.result;
     } in
     let same : bytes_eq (take 8 head) magic ≡ true =
     grind (arith, bytes_eq-Decides (take 8 head) magic) in

@@ -53,7 +53,7 @@ returns-clause-any_moment g c = λ view s command done next from is at body prep
     (λ full. is_ready.given_push (subst IsFull (sym is) full)) in
     let beside = subst (λ (l : List ℕ).
     AreBeside view.journal.geometry from (length l) is_ready.c.objects
-    × (from + length l ≤ view.journal.geometry.data_area)) (sym body)
+    × (from + length l ≤ view.journal.geometry.area)) (sym body)
     is_ready.beside in
     joins (state old) (state mid) (state c.write_change.new.disk)
     (IsBeforeOrAfter view.journal.layout s command)
@@ -89,7 +89,7 @@ returns-clause-ok g c = λ view s command done next from is at body prepared hol
     (λ full. is_ready.given_push (subst IsFull (sym is) full)) in
     let beside = subst (λ (l : List ℕ).
     AreBeside view.journal.geometry from (length l) is_ready.c.objects
-    × (from + length l ≤ view.journal.geometry.data_area)) (sym body)
+    × (from + length l ≤ view.journal.geometry.area)) (sym body)
     is_ready.beside in
     let wrote = c.write_change.ensures.ok there s room.list is_ready.c is_ready.after from
     view.journal.layout command done same at folds.0 folds.1 beside now.0 now.1

@@ -2,11 +2,13 @@ use Rattle.std.proofs.Common.{◌≡◌, ◌∙◌, ◌+◌, ◌≤◌, ◌<◌,
 use Rattle.std.proofs.Common.{subst, arith}
 use Rattle.std.proofs.lemmas.Bool.{cases_lt, le-leb, false_from_ne_true, leb-true}
 use Rattle.std.specs.Prelude.{if◌then◌else◌, nat_le}
+use Rattle.std.proofs.lemmas.Result.{on_ok_weaker}
 use Rattle.disk_model.proofs.Laws.{begins, keeps_none}
+use Rattle.disk_model.specs.Disk.{Costs}
 use Rattle.mot_journal.specs.Slot.{slot_count}
 use Rattle.mot_journal.specs.Journal.{JournalView, HoldsRecords}
 use Rattle.mot_repository.specs.Cost.{calls_for_room}
-use Rattle.mot_repository.proofs.Answering.{calm_where_ok, no_less}
+use Rattle.mot_repository.proofs.Answering.{at_fault, calm_where_ok, either_way, no_less, of_three}
 use Rattle.mot_repository.specs.Repository.{IsOf}
 use Rattle.mot_repository.proofs.Moved.{here, folds, moments, held}
 use Rattle.mot_repository.proofs.commit.make_room.Goals as goal
@@ -67,65 +69,6 @@ pub returns-then-not-is_full-clause-not_full : goal.returns-then-not-is_full-cla
 returns-then-not-is_full-clause-not_full g c =
     below _ _ (λ full. not_both (c.if-not-is_full.ensures.1 full))
 
-pub returns-in_default-clause-keeps : goal.returns-in_default-clause-keeps
-returns-in_default-clause-keeps g c = c.rewrite.ensures.keeps
-
-pub returns-in_default-clause-cause : goal.returns-in_default-clause-cause
-returns-in_default-clause-cause g c =
-    let is = c.in_default.ensures.cause in
-    record { later = is.later; fits = is.fits; cause = is.cause; shown = is.shown }
-
-pub returns-in_default-clause-calm : goal.returns-in_default-clause-calm
-returns-in_default-clause-calm g c = tt
-
-pub returns-in_default-clause-cost : goal.returns-in_default-clause-cost
-returns-in_default-clause-cost g c =
-    let state = g.D.Disk.state in
-    let old = state c.args.disk.now in
-    let new = state c.rewrite.new.disk in
-    record {
-      at_most = subst (λ n. new.calls ≤ old.calls + n)
-          (room_full c.args.journal.now (c.if-not-is_full.ensures.0 refl))
-          c.in_default.ensures.cost.at_most;
-      exact = tt;
-    }
-
-pub returns-in_default-clause-geometry : goal.returns-in_default-clause-geometry
-returns-in_default-clause-geometry g c =
-    ap (λ (i : JournalView). i.geometry) c.in_default.ensures.spent
-
-pub returns-in_default-clause-layout : goal.returns-in_default-clause-layout
-returns-in_default-clause-layout g c =
-    ap (λ (i : JournalView). i.layout) c.in_default.ensures.spent
-
-pub returns-in_default-clause-room : goal.returns-in_default-clause-room
-returns-in_default-clause-room g c = λ view s k is holds fold fold'. tt
-
-pub returns-clause-keeps : goal.returns-clause-keeps
-returns-clause-keeps g c = c.rewrite.ensures.keeps
-
-pub returns-clause-calm : goal.returns-clause-calm
-returns-clause-calm g c = calm_where_ok _ c.in-Ok.ensures.cause
-
-pub returns-clause-cost : goal.returns-clause-cost
-returns-clause-cost g c =
-    let state = g.D.Disk.state in
-    let old = state c.args.disk.now in
-    let new = state c.rewrite.new.disk in
-    let full = room_full c.args.journal.now (c.if-not-is_full.ensures.0 refl) in
-    record {
-      at_most = subst (λ n. new.calls ≤ old.calls + n) full c.in-Ok.ensures.cost.at_most;
-      exact = subst (λ n. new.calls ≡ old.calls + n) full c.in-Ok.ensures.cost.exact;
-    }
-
-pub returns-clause-geometry : goal.returns-clause-geometry
-returns-clause-geometry g c =
-    ap (λ (i : JournalView). i.geometry) c.in-Ok.ensures.rewrites.moves
-
-pub returns-clause-layout : goal.returns-clause-layout
-returns-clause-layout g c =
-    ap (λ (i : JournalView). i.layout) c.in-Ok.ensures.rewrites.moves
-
 pub returns-then-not-is_full-clause-any_moment : goal.returns-then-not-is_full-clause-any_moment
 returns-then-not-is_full-clause-any_moment g c = λ view s k is holds fold fold'.
     let state = g.D.Disk.state in
@@ -152,20 +95,65 @@ returns-then-not-is_full-clause-room g c = λ view s k is holds fold fold'.
       );
     }
 
-pub returns-in_default-clause-any_moment : goal.returns-in_default-clause-any_moment
-returns-in_default-clause-any_moment g c = λ view s k is holds fold fold'.
+pub returns-then-not-is_full-clause-fault : goal.returns-then-not-is_full-clause-fault
+returns-then-not-is_full-clause-fault g c = tt
+
+pub rewrite-requires-clause-some : goal.rewrite-requires-clause-some
+rewrite-requires-clause-some g c = (c.requires.given (c.if-not-is_full.ensures.0 refl)).some
+
+pub rewrite-requires-clause-few : goal.rewrite-requires-clause-few
+rewrite-requires-clause-few g c =
+    no_more (c.requires.given (c.if-not-is_full.ensures.0 refl)).few
+
+pub rewrite-requires-clause-going : goal.rewrite-requires-clause-going
+rewrite-requires-clause-going g c = c.requires.going
+
+pub rewrite-requires-clause-long_enough : goal.rewrite-requires-clause-long_enough
+rewrite-requires-clause-long_enough g c = c.requires.long_enough
+
+pub rewrite-requires-clause-sound : goal.rewrite-requires-clause-sound
+rewrite-requires-clause-sound g c = (c.requires.given (c.if-not-is_full.ensures.0 refl)).sound
+
+pub returns-clause-keeps : goal.returns-clause-keeps
+returns-clause-keeps g c = c.rewrite.ensures.keeps
+
+pub returns-clause-cause : goal.returns-clause-cause
+returns-clause-cause g c = at_fault c.rewrite.result _ c.rewrite.ensures.cause
+
+pub returns-clause-calm : goal.returns-clause-calm
+returns-clause-calm g c = calm_where_ok c.rewrite.result c.rewrite.ensures.cause
+
+pub returns-clause-cost : goal.returns-clause-cost
+returns-clause-cost g c =
     let state = g.D.Disk.state in
-    let old = state c.args.disk.now in
-    let new = state c.rewrite.new.disk in
-    let j = c.args.journal.now in
-    let given = c.args.given.now in
-    moments view s j.layout given k j old new is holds fold
-    (fold' (c.if-not-is_full.ensures.0 refl))
-    (c.rewrite.ensures.rewrites.any_moment holds.records
-    (here view s j.layout given k j old new is holds fold
-    (fold' (c.if-not-is_full.ensures.0 refl)))
-    (folds view s j.layout given k j old new is holds fold
-    (fold' (c.if-not-is_full.ensures.0 refl))))
+    subst (λ n. Costs n (state c.args.disk.now) (state c.rewrite.new.disk) c.rewrite.result)
+    (room_full c.args.journal.now (c.if-not-is_full.ensures.0 refl)) c.rewrite.ensures.cost
+
+pub returns-clause-fault : goal.returns-clause-fault
+returns-clause-fault g c = c.rewrite.ensures.fault
+
+pub returns-clause-geometry : goal.returns-clause-geometry
+returns-clause-geometry g c =
+    either_way c.rewrite.result c.rewrite.ensures.spent c.rewrite.ensures.rewrites.moves
+    (ap (λ (i : JournalView). i.geometry)) (ap (λ (i : JournalView). i.geometry))
+
+pub returns-clause-layout : goal.returns-clause-layout
+returns-clause-layout g c =
+    either_way c.rewrite.result c.rewrite.ensures.spent c.rewrite.ensures.rewrites.moves
+    (ap (λ (i : JournalView). i.layout)) (ap (λ (i : JournalView). i.layout))
+
+pub returns-clause-going : goal.returns-clause-going
+returns-clause-going g c =
+    on_ok_weaker c.rewrite.result
+    (λ moved. ap (λ (i : JournalView). i.spent) moved ∙ c.requires.going)
+    c.rewrite.ensures.rewrites.moves
+
+pub returns-clause-not_full : goal.returns-clause-not_full
+returns-clause-not_full g c =
+    on_ok_weaker c.rewrite.result
+    (λ moved. subst (λ (i : JournalView). i.count < slot_count i.layout i.geometry) (sym moved)
+    (c.requires.given (c.if-not-is_full.ensures.0 refl)).few)
+    c.rewrite.ensures.rewrites.moves
 
 pub returns-clause-any_moment : goal.returns-clause-any_moment
 returns-clause-any_moment g c = λ view s k is holds fold fold'.
@@ -194,56 +182,13 @@ returns-clause-room g c = λ view s k is holds fold fold'.
     (fold' (c.if-not-is_full.ensures.0 refl)) in
     let fits = folds view s j.layout given k j old new is holds fold
     (fold' (c.if-not-is_full.ensures.0 refl)) in
-    record {
+    of_three c.rewrite.result c.rewrite.ensures.rewrites.moves
+    (c.rewrite.ensures.rewrites.ok holds.records was fits)
+    (c.rewrite.ensures.rewrites.area holds.records was fits)
+    (λ moved ok area. record {
       list = given;
       one = inr (refl, c.if-not-is_full.ensures.0 refl);
       holds = held view s j.layout given k j old new is holds fold
           (fold' (c.if-not-is_full.ensures.0 refl)) sound c.rewrite.new.self
-          (ap (λ (i : JournalView). i.geometry) c.in-Ok.ensures.rewrites.moves)
-          (c.in-Ok.ensures.rewrites.ok holds.records was fits)
-          (c.in-Ok.ensures.rewrites.area holds.records was fits);
-    }
-
-pub returns-then-not-is_full-clause-fault : goal.returns-then-not-is_full-clause-fault
-returns-then-not-is_full-clause-fault g c = tt
-
-pub rewrite-requires-clause-some : goal.rewrite-requires-clause-some
-rewrite-requires-clause-some g c = (c.requires.given (c.if-not-is_full.ensures.0 refl)).some
-
-pub rewrite-requires-clause-few : goal.rewrite-requires-clause-few
-rewrite-requires-clause-few g c =
-    no_more (c.requires.given (c.if-not-is_full.ensures.0 refl)).few
-
-pub rewrite-requires-clause-going : goal.rewrite-requires-clause-going
-rewrite-requires-clause-going g c = c.requires.going
-
-pub rewrite-requires-clause-long_enough : goal.rewrite-requires-clause-long_enough
-rewrite-requires-clause-long_enough g c = c.requires.long_enough
-
-pub rewrite-requires-clause-sound : goal.rewrite-requires-clause-sound
-rewrite-requires-clause-sound g c = (c.requires.given (c.if-not-is_full.ensures.0 refl)).sound
-
-pub returns-in_default-clause-fault : goal.returns-in_default-clause-fault
-returns-in_default-clause-fault g c = refl
-
-pub returns-in_default-clause-going : goal.returns-in_default-clause-going
-returns-in_default-clause-going g c = tt
-
-pub returns-in_default-clause-not_full : goal.returns-in_default-clause-not_full
-returns-in_default-clause-not_full g c = tt
-
-pub returns-clause-cause : goal.returns-clause-cause
-returns-clause-cause g c = tt
-
-pub returns-clause-fault : goal.returns-clause-fault
-returns-clause-fault g c = tt
-
-pub returns-clause-going : goal.returns-clause-going
-returns-clause-going g c =
-    ap (λ (i : JournalView). i.spent) c.in-Ok.ensures.rewrites.moves ∙ c.requires.going
-
-pub returns-clause-not_full : goal.returns-clause-not_full
-returns-clause-not_full g c =
-    let moved = sym c.in-Ok.ensures.rewrites.moves in
-    subst (λ (i : JournalView). i.count < slot_count i.layout i.geometry) moved
-    (c.requires.given (c.if-not-is_full.ensures.0 refl)).few
+          (ap (λ (i : JournalView). i.geometry) moved) ok area;
+    })

@@ -35,11 +35,11 @@ returns-in_default-clause-refused c = λ view k going.
     let short : has_long_name view.journal.layout c.args.command.now ≡ false =
     ap (λ l. has_long_name l c.args.command.now) k.layout_is ∙ sym c.is_name_too_long.ensures.value
     ∙ c.if-is_name_too_long.false in
-    let nowhere : start_of view.extents view.journal.geometry.data_area c.args.command.now ≡ None =
+    let nowhere : start_of view.extents view.journal.geometry.area c.args.command.now ≡ None =
     rw (geometry, extents)
     (start-reordered c.args.inventory.now.extents.items c.args.inventory.now.by_start.items
-    c.args.geometry.now.data_area c.args.command.now c.args.inventory.now.reordered
-    ∙ ap (λ l. start_of l c.args.geometry.now.data_area c.args.command.now)
+    c.args.geometry.now.area c.args.command.now c.args.inventory.now.reordered
+    ∙ ap (λ l. start_of l c.args.geometry.now.area c.args.command.now)
     (sym c.deref.ensures.value) ∙ sym c.body_start-start.ensures ∙ c.in_default.is) in
     room_refused view c.args.command.now going c.is_name_too_long.ensures.fits
     c.in_ok-change.change.next c.in_ok-change.change.done
@@ -82,9 +82,9 @@ invariant_of-result c =
       paired = old.paired;
       short = sym c.is_name_too_long.ensures.value ∙ c.if-is_name_too_long.false;
       changes = c.in_ok-change.ensures.planned;
-      lies = start-reordered old.extents.items old.by_start.items c.args.geometry.now.data_area
+      lies = start-reordered old.extents.items old.by_start.items c.args.geometry.now.area
           c.args.command.now old.reordered
-          ∙ ap (λ l. start_of l c.args.geometry.now.data_area c.args.command.now)
+          ∙ ap (λ l. start_of l c.args.geometry.now.area c.args.command.now)
           (sym c.deref.ensures.value) ∙ sym c.body_start-start.ensures ∙ c.in-Some.is;
       record_is = c.in_ok-record.ensures.made;
       typed = c.in_ok-record.ensures.typed;
@@ -113,8 +113,8 @@ returns-clause-prepared c = λ view k told.
       changes = rw (geometry, carousel) c.in_ok-change.ensures.planned;
       lies = rw (geometry, extents)
           (start-reordered c.args.inventory.now.extents.items c.args.inventory.now.by_start.items
-          c.args.geometry.now.data_area c.args.command.now c.args.inventory.now.reordered
-          ∙ ap (λ l. start_of l c.args.geometry.now.data_area c.args.command.now)
+          c.args.geometry.now.area c.args.command.now c.args.inventory.now.reordered
+          ∙ ap (λ l. start_of l c.args.geometry.now.area c.args.command.now)
           (sym c.deref.ensures.value) ∙ sym c.body_start-start.ensures ∙ c.in-Some.is);
       record_is = rw carousel c.in_ok-record.ensures.made;
       typed = c.in_ok-record.ensures.typed;

@@ -1,4 +1,4 @@
-use Rattle.mot_server.proofs.Laws.{not_halted}
+use Rattle.mot_playout.proofs.Laws.{not_halted}
 use Rattle.mot_session.proofs.Answered.{Answers-accepted, Answers-refused_command}
 use Rattle.mot_session.proofs.Answered.{crosses-accepted, crosses-refused, stays_halted}
 use Rattle.mot_session.proofs.Anyhow.{anyhow-accepted, anyhow-refused}

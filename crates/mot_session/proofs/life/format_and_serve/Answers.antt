@@ -2,8 +2,8 @@ use Rattle.std.proofs.Common.{◌≡◌, ◌⊎◌, [], ◌++◌, Some, subst, s
 use Rattle.std.specs.List.{flat_map}
 use Rattle.disk_model.specs.Failures.{Rises}
 use Rattle.mot_journal.specs.Journal.{standing_from}
-use Rattle.mot_server.specs.Life.{carousel_from}
-use Rattle.mot_server.proofs.Laws.{keeps_commands, none_or_left}
+use Rattle.mot_playout.specs.Life.{carousel_from}
+use Rattle.mot_playout.proofs.Laws.{keeps_commands, none_or_left}
 use Rattle.mot_session.specs.Life.{AreRightReplies, commands_done, fails_in}
 use Rattle.mot_session.proofs.Lives.{done_at, done_stands, kept_new, left_or_stands}
 use Rattle.mot_session.proofs.Lives.{served_so, some_of}

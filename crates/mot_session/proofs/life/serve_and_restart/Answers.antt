@@ -1,8 +1,8 @@
 use Rattle.std.proofs.Common.{[], ◌++◌, subst}
 use Rattle.disk_model.specs.Failures.{Rises}
 use Rattle.mot_journal.specs.Journal.{standing_from}
-use Rattle.mot_server.specs.Playing.{bytes_of_packets}
-use Rattle.mot_server.proofs.Laws.{if_err, keeps_commands, passing}
+use Rattle.mot_playout.specs.Playing.{bytes_of_packets}
+use Rattle.mot_playout.proofs.Laws.{if_err, keeps_commands, passing}
 use Rattle.mot_session.specs.Life.{AreRightReplies, commands_done}
 use Rattle.mot_session.specs.Kept.{HoldsSince}
 use Rattle.mot_session.proofs.Lives.{done_at, done_stands, kept_by, kept_first, lives_on, served_so}

@@ -1,6 +1,6 @@
 use Rattle.std.proofs.Common.{◌++◌}
-use Rattle.mot_server.specs.Playing.{bytes_of_packets}
-use Rattle.mot_server.proofs.Laws.{if_err, passing}
+use Rattle.mot_playout.specs.Playing.{bytes_of_packets}
+use Rattle.mot_playout.proofs.Laws.{if_err, passing}
 use Rattle.mot_session.proofs.Lives.{lives_on}
 use Rattle.mot_session.proofs.OneLine.{line_told}
 use Rattle.mot_session.proofs.life.serve_line_and_restart.Goals as goal

@@ -11,4 +11,4 @@ returns-then-was_unwritten-clause-told g c = λ whole reason.
     subst (λ (was : Bool). Appends old new (status_line levels c.args.path.now was false reason))
     (sym c.if-was_unwritten.true)
     (subst (λ (path : List ℕ). Appends old new (status_line levels path true false reason))
-    c.as_bytes.ensures.value (c.tell.ensures.told whole))
+    c.as_bytes.ensures.value (c.tell.ensures.heard.3 whole))

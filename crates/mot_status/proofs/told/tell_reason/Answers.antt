@@ -7,4 +7,4 @@ pub returns-clause-told : goal.returns-clause-told
 returns-clause-told g c = λ whole. subst (λ (path : List ℕ). Appends
     (g.W.Write.contents c.args.log.now.writer) (g.W.Write.contents c.tell.new.self.writer)
     (status_line c.args.log.now.levels path false true c.args.reason.now))
-    c.as_bytes.ensures.value (c.tell.ensures.told whole)
+    c.as_bytes.ensures.value (c.tell.ensures.heard.3 whole)

@@ -2,7 +2,7 @@ use Rattle.std.proofs.Common.{◌∙◌, ℕ, List, [], refl, sym, ap, subst}
 use Rattle.disk_model.proofs.Laws.{keeps_none, keeps_on, unchanged_none}
 use Rattle.mot_numbers.proofs.Laws.{same_error}
 use Rattle.mot_objects.specs.declared.carousel.Carousel.{Carousel}
-use Rattle.mot_server.specs.Attempts.{fault_of}
+use Rattle.mot_playout.specs.Attempts.{fault_of}
 use Rattle.mot_update.specs.Looking.{HasSettled, withdraw_all, unknown_names}
 use Rattle.mot_update.specs.Told.{TellsBoth}
 use Rattle.mot_update.specs.Faults.{no_memory}

@@ -4,7 +4,7 @@ use Rattle.disk_model.proofs.Laws.{unchanged_none}
 use Rattle.mot_numbers.specs.declared.refusal.Refusal.TheVariants.{OutOfMemory}
 use Rattle.mot_numbers.proofs.Laws.{same_error}
 use Rattle.mot_objects.specs.declared.command.Command.TheVariants.{Withdraw}
-use Rattle.mot_server.specs.Attempts.{marks_of}
+use Rattle.mot_playout.specs.Attempts.{marks_of}
 use Rattle.mot_update.specs.Faults.{no_memory}
 use Rattle.mot_update.specs.HasRun.{HasRun}
 use Rattle.mot_update.proofs.Faults.{calm_here, calm_on, fault_on}

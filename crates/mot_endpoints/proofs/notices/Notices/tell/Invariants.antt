@@ -1,14 +1,17 @@
-use Rattle.std.proofs.Common.{◌≡◌, ◌-◌, length}
-use Rattle.mot_events.specs.Log.{HasGrown}
+use Rattle.std.proofs.Common.{◌++◌, List, length}
+use Rattle.mot_endpoints.specs.Inner.Notices.{AreEventsOf}
+use Rattle.mot_events.specs.Log.{Entry, HearsAll}
 use Rattle.mot_endpoints.proofs.notices.Notices.tell.Given as goal
 
-abbrev pub invariant-loop-at : goal.invariant-loop-at
-invariant-loop-at g l =
-    let tells = g.T.Tells in record {
-      levels : tells.log_has_levels l.log ≡ tells.log_has_levels l.initial.log;
-      told : HasGrown (tells.log_is_whole l.initial.log) (tells.log_is_whole l.log)
-          (tells.log_has l.initial.log) (tells.log_has l.log);
+abbrev pub invariant-loop-notice : goal.invariant-loop-notice
+invariant-loop-notice g l =
+    let tells = g.T.Tells in
+    let notices = l.fn.self in record {
+      told : (entries : List Entry)
+          × ((more : List Entry) → AreEventsOf notices.folder.now l.rest more
+          → AreEventsOf notices.folder.now notices.waiting.items (entries ++ more))
+          × HearsAll tells.hears tells.misses l.initial.log entries l.log;
     }
 
-abbrev pub decreases-loop-at : goal.decreases-loop-at
-decreases-loop-at g l = length l.self.waiting.items - l.at
+abbrev pub decreases-loop-notice : goal.decreases-loop-notice
+decreases-loop-notice g l = length l.rest

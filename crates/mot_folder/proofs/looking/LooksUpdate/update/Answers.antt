@@ -1,22 +1,25 @@
-use Rattle.std.proofs.Common.{◌≡◌, ◌∙◌, ◌||◌, ℕ, Bool, true, false, not, ◌∷◌, ◌++◌, Option}
-use Rattle.std.proofs.Common.{None, []}
+use Rattle.std.proofs.Common.{◌≡◌, ◌∙◌, ◌||◌, ◌+◌, ℕ, Bool, true, false, not, ◌∷◌, ◌++◌, Option}
+use Rattle.std.proofs.Common.{None, [], Err, Ok, Result, min}
+use Rattle.std.specs.Prelude.{OnOk}
 use Rattle.std.proofs.Common.{ap, refl, sym}
 use Rattle.disk_model.specs.Disk.{State}
 use Rattle.disk_model.proofs.Laws.{unchanged_none}
 use Rattle.mot_folder.specs.declared.report.Report.{Report}
 use Rattle.mot_folder.specs.Looked.{HasLookedAtFolder, LooksSoFar, TellsWatch, Watch, is_look_due}
-use Rattle.mot_folder.specs.Looked.{no_look, one_look, packets_left, packets_left_behind, so_far}
+use Rattle.mot_folder.specs.Looked.{known_after, no_look, one_look, packets_left}
+use Rattle.mot_folder.specs.Looked.{packets_left_behind, so_far}
 use Rattle.mot_folder.specs.Looked.{watch}
 use Rattle.mot_folder.proofs.looking.LooksUpdate.update.Goals as goal
 use Rattle.mot_folder.proofs.looking.LooksUpdate.update.Goals.{else-self, then-self}
 use Rattle.mot_journal.specs.Image.{Standing}
 use Rattle.mot_numbers.specs.declared.refusal.Refusal.{Refusal}
-use Rattle.mot_server.specs.Attempts.{fault_of}
-use Rattle.mot_server.specs.Server.{ServerView}
+use Rattle.mot_playout.specs.Attempts.{fault_of}
+use Rattle.mot_playout.specs.Server.{ServerView}
 use Rattle.mot_shelf.specs.Given.{Given}
 use Rattle.mot_update.specs.Between.{IsUpdating, may_look}
+use Rattle.mot_update.specs.Watching.{looks_known}
 use Rattle.mot_update.specs.declared.moment.Moment.{Moment}
-use Rattle.mot_update.proofs.Laws.{has_read}
+use Rattle.mot_update.proofs.Laws.{has_read, not_none}
 
 or_first : (a b : Bool) → a ≡ true → a ≡ (a || b)
 or_first a b e = e ∙ ap (λ x. x || b) (sym e)
@@ -33,13 +36,16 @@ so_is : (before behind : LooksSoFar) (given : Given) (report : Report) {left : �
     → behind.left ≡ left
     → behind.given ≡ before.given ++ given ∷ []
     → behind.refused ≡ (before.refused || report.any_refused)
+    → behind.known ≡ known_after before.known report.events.items
     → behind ≡ so_far left (before.given ++ given ∷ [])
-    (before.refused || not (not report.any_refused))
-so_is before behind given report {left} paced noted kept =
-    ap (λ n. so_far n behind.given behind.refused) paced
-    ∙ ap (λ l. so_far left l behind.refused) noted
-    ∙ ap (so_far left (before.given ++ given ∷ []))
+    (before.refused || not (not report.any_refused)) (known_after before.known report.events.items)
+so_is before behind given report {left} paced noted kept told =
+    ap (λ n. so_far n behind.given behind.refused behind.known) paced
+    ∙ ap (λ l. so_far left l behind.refused behind.known) noted
+    ∙ ap (λ (b : Bool). so_far left (before.given ++ given ∷ []) b behind.known)
     (kept ∙ ap (λ (b : Bool). before.refused || b) (twice_not report.any_refused))
+    ∙ ap (so_far left (before.given ++ given ∷ [])
+    (before.refused || not (not report.any_refused))) told
 
 -- a look runs commands, and tells of them
 updating_by : {D : Type 0} (old new : ServerView D) (start now : State) (s : Standing)
@@ -48,19 +54,27 @@ updating_by : {D : Type 0} (old new : ServerView D) (start now : State) (s : Sta
     → after ≡ w → is_look_due before.left (may_look moment) ≡ true
     → behind.left ≡ packets_left report.any_left w.every → behind.given ≡ before.given ++ given ∷ []
     → behind.refused ≡ (before.refused || report.any_refused)
+    → behind.known ≡ known_after before.known report.events.items
+    → (fault ≡ None → report.any_left_out ≡ false)
     → HasLookedAtFolder old new start now s w.types w.allows w.path given report fault
     → IsUpdating (TellsWatch w after moment before behind) old new start now s fault
 updating_by old new start now s w after moment before behind given report fault same due paced noted
-    kept looked = record {
+    kept told whole looked = record {
       commands = looked.commands;
       marks = looked.marks;
       run = looked.run;
       told = (
         same,
         one_look due report.any_left given looked.names looked.wanted (not report.any_refused)
-            looked.entries (so_is before behind given report paced noted kept) looked.look,
+            looked.entries report.events.items (λ none. looked.told (whole none))
+            (so_is before behind given report paced noted kept told) looked.look,
       );
     }
+
+-- what holds of a success holds where there is no fault
+whole_if : (result : Result Unit Refusal) (P : Type 0) → OnOk result P → fault_of result ≡ None → P
+whole_if (Ok u) P whole none = whole
+whole_if (Err refusal) P whole none = absurd (not_none refusal none)
 
 -- whether a look is due
 due_is : (left : ℕ) (moment : Moment) (may due : Bool) → may ≡ may_look moment
@@ -95,7 +109,9 @@ returns-then-not-look_is_due-clause-run g c = λ s holds honest.
         refl,
         no_look (due_is c.args.self.now.left c.args.moment
             c.may_look.result false c.may_look.ensures c.if-not-look_is_due.ensures.due)
-            (ap (λ n. so_far n c.args.self.now.looks.all c.args.self.now.any_refused)
+            (ap (λ n. so_far n c.args.self.now.looks.all c.args.self.now.any_refused
+            (looks_known c.args.self.now.count c.args.self.now.folder.report.events.items
+            c.args.self.now.before.items))
             (c.if-not-look_is_due.ensures.counts
             ∙ ap (λ b. packets_left_behind c.args.self.now.within b c.args.self.now.left)
             c.may_look.ensures))
@@ -109,7 +125,9 @@ returns-clause-run g c = λ s holds honest.
     let old = c.args.server.now in
     let new = c.look_at_folder-result.new.server in
     updating_by old new (state old.disk) (state new.disk) s _ _ c.args.moment
-    (so_far c.args.self.now.left c.args.self.now.looks.all c.args.self.now.any_refused) _ _
+    (so_far c.args.self.now.left c.args.self.now.looks.all c.args.self.now.any_refused
+    (looks_known c.args.self.now.count c.args.self.now.folder.report.events.items
+    c.args.self.now.before.items)) _ _
     c.look_at_folder-result.new.folder.report
     (fault_of c.look_at_folder-result.result)
     (ap (λ p. watch p c.args.self.now.folder.types.now c.args.self.now.folder.allows_empty
@@ -122,6 +140,11 @@ returns-clause-run g c = λ s holds honest.
       | then-self w ↦ w.self-is ∙ or_first _ _ w.if-self.true
       | else-self w ↦ w.self-is ∙ or_second _ _ w.if-self.false
     ])
+    (ap (λ n. looks_known n c.look_at_folder-result.new.folder.report.events.items
+    c.turn_over-was_listed.new.before.items) c.saturating_add-self.ensures
+    ∙ ap (looks_known (min (c.args.self.now.count + 1) 18446744073709551615)
+    c.look_at_folder-result.new.folder.report.events.items) c.turn_over-was_listed.ensures.before)
+    (whole_if c.look_at_folder-result.result _ c.look_at_folder-result.ensures.whole)
     (c.look_at_folder-result.ensures.looked s holds honest)
 
 pub returns-clause-looked : goal.returns-clause-looked

@@ -1,4 +1,3 @@
-use Rattle.std.proofs.lemmas.Result.{IfOk-from_err, MatchResult-from_err}
 use Rattle.mot_journal.proofs.Calls.{fails, succeeds}
 use Rattle.std.proofs.Common.{ℕ, ◌+◌, ◌<◌}
 use Rattle.mot_journal.specs.declared.layout.Layout.{Layout}
@@ -66,9 +65,9 @@ without_or_with g c records holds fold =
     (rw (c.next_place-place.ensures.value, c.deref.ensures.0, slot_is g c)
     at (c.write_slot.ensures.any_moment holds.honest))
 
-pub returns-in_err-write_slot-clause-any_moment : goal.returns-in_err-write_slot-clause-any_moment
-returns-in_err-write_slot-clause-any_moment g c =
-    without_or_with g (goal.at.returns-in_err-write_slot-clause-any_moment g c).After-write_slot
+pub returns-in_default-clause-any_moment : goal.returns-in_default-clause-any_moment
+returns-in_default-clause-any_moment g c =
+    without_or_with g (goal.at.returns-in_default-clause-any_moment g c).After-write_slot
 
 pub returns-clause-any_moment : goal.returns-clause-any_moment
 returns-clause-any_moment g c =
@@ -79,7 +78,7 @@ returns-clause-ok g c = λ records holds fold.
     let r = c.args.entry.now in
     let from = (goal.at.returns-clause-ok g c).After-write_slot in
     let written = rw (c.next_place-place.ensures.value, c.deref.ensures.0, slot_is g from)
-    at (c.in_ok-write_slot.ensures.ok holds.honest) in
+    at (c.in-Ok.ensures.ok holds.honest) in
     record {
       going = refl;
       count = omega (
@@ -104,41 +103,38 @@ pub returns-clause-area : goal.returns-clause-area
 returns-clause-area g c = λ records holds fold image left.
     let from = (goal.at.returns-clause-area g c).After-write_slot in
     let written = rw (c.next_place-place.ensures.value, c.deref.ensures.0, slot_is g from)
-    at (c.in_ok-write_slot.ensures.ok holds.honest) in
+    at (c.in-Ok.ensures.ok holds.honest) in
     (with_slot _ _ _ _ (found g from records holds fold) image (written image left)).1
 
-pub returns-in_err-write_slot-clause-keeps : goal.returns-in_err-write_slot-clause-keeps
-returns-in_err-write_slot-clause-keeps g c =
+pub returns-in_default-clause-keeps : goal.returns-in_default-clause-keeps
+returns-in_default-clause-keeps g c =
     c.write_slot.ensures.keeps
 
-pub returns-in_err-write_slot-clause-cause : goal.returns-in_err-write_slot-clause-cause
-returns-in_err-write_slot-clause-cause g c =
-    fails c.from_residual.result c.from_residual.ensures.0 refl c.in_err-write_slot.ensures.cause
+pub returns-in_default-clause-cause : goal.returns-in_default-clause-cause
+returns-in_default-clause-cause g c =
+    fails _ refl refl c.in_default.ensures.cause
 
-pub returns-in_err-write_slot-clause-cost : goal.returns-in_err-write_slot-clause-cost
-returns-in_err-write_slot-clause-cost g c =
+pub returns-in_default-clause-cost : goal.returns-in_default-clause-cost
+returns-in_default-clause-cost g c =
     record {
       at_most = c.write_slot.ensures.cost.at_most;
-      exact = IfOk-from_err
-          c.from_residual.result _ c.from_residual.ensures.0;
+      exact = tt;
     }
 
-pub returns-in_err-write_slot-clause-spent : goal.returns-in_err-write_slot-clause-spent
-returns-in_err-write_slot-clause-spent g c =
-    MatchResult-from_err c.from_residual.result _ _ c.from_residual.ensures.0 (λ fault. rw (←
-    c.self.view_is) refl)
+pub returns-in_default-clause-spent : goal.returns-in_default-clause-spent
+returns-in_default-clause-spent g c =
+    rw (← c.self.view_is) refl
 
-pub returns-in_err-write_slot-clause-added : goal.returns-in_err-write_slot-clause-added
-returns-in_err-write_slot-clause-added g c =
-    IfOk-from_err c.from_residual.result _ c.from_residual.ensures.0
+pub returns-in_default-clause-added : goal.returns-in_default-clause-added
+returns-in_default-clause-added g c = tt
 
-pub returns-in_err-write_slot-clause-ok : goal.returns-in_err-write_slot-clause-ok
-returns-in_err-write_slot-clause-ok g c =
-    λ records holds folds. IfOk-from_err c.from_residual.result _ c.from_residual.ensures.0
+pub returns-in_default-clause-ok : goal.returns-in_default-clause-ok
+returns-in_default-clause-ok g c =
+    λ records holds folds. tt
 
-pub returns-in_err-write_slot-clause-area : goal.returns-in_err-write_slot-clause-area
-returns-in_err-write_slot-clause-area g c =
-    λ records holds folds. IfOk-from_err c.from_residual.result _ c.from_residual.ensures.0
+pub returns-in_default-clause-area : goal.returns-in_default-clause-area
+returns-in_default-clause-area g c =
+    λ records holds folds. tt
 
 pub returns-clause-keeps : goal.returns-clause-keeps
 returns-clause-keeps g c =
@@ -146,11 +142,11 @@ returns-clause-keeps g c =
 
 pub returns-clause-cause : goal.returns-clause-cause
 returns-clause-cause g c =
-    succeeds refl c.in_ok-write_slot.ensures.cause
+    succeeds refl c.in-Ok.ensures.cause
 
 pub returns-clause-cost : goal.returns-clause-cost
 returns-clause-cost g c =
-    let is = c.in_ok-write_slot.ensures.cost in record { at_most = is.at_most; exact = is.exact }
+    let is = c.in-Ok.ensures.cost in record { at_most = is.at_most; exact = is.exact }
 
 pub returns-clause-spent : goal.returns-clause-spent
 returns-clause-spent g c =
@@ -187,3 +183,9 @@ write_slot-requires-clause-fits g c =
     ∙ ap slot_size layout_is)
     (slot_ends j.geometry j.half j.layout j.count half c.requires.not_full).1
     c.requires.long_enough
+
+pub returns-in_default-clause-fault : goal.returns-in_default-clause-fault
+returns-in_default-clause-fault g c = refl
+
+pub returns-clause-fault : goal.returns-clause-fault
+returns-clause-fault g c = tt

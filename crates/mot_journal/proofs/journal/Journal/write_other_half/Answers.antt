@@ -1,5 +1,4 @@
 use Rattle.std.proofs.Common.{◌≡◌, ℕ, ◌+◌, ◌≤◌, List, length, refl, sym, ap, subst, arith, rules}
-use Rattle.std.proofs.lemmas.Result.{IfOk-from_err, MatchResult-from_err}
 use Rattle.disk_model.proofs.Laws.{keeps_all_on}
 use Rattle.disk_model.specs.Disk.{Throughout}
 use Rattle.mot_journal.proofs.Calls.{calm_of, fails, fails_run, succeeds}
@@ -57,40 +56,37 @@ found g c records holds folds =
       still_honest = filled_honest;
     }
 
-pub returns-in_err-fill_half-clause-rewrites : goal.returns-in_err-fill_half-clause-rewrites
-returns-in_err-fill_half-clause-rewrites g c = record {
-  moves = IfOk-from_err c.from_residual.result _ c.from_residual.ensures.0;
+pub returns-in_default-clause-rewrites : goal.returns-in_default-clause-rewrites
+returns-in_default-clause-rewrites g c = record {
+  moves = tt;
   any_moment = λ records holds folds.
-      let from = (goal.at.returns-in_err-fill_half-clause-rewrites g c).After-fill_half in
+      let from = (goal.at.returns-in_default-clause-rewrites g c).After-fill_half in
       let state = g.D.Disk.state in
       subst (λ (x : JournalView). Throughout (state c.args.disk.now) (state c.fill_half.new.disk)
       (OldOrGiven x c.args.layout records c.args.given.now (state c.args.disk.now)))
       c.self.view_is (filling (found g from records holds folds));
   ok = λ records holds folds.
-      IfOk-from_err c.from_residual.result _ c.from_residual.ensures.0;
+      tt;
   area = λ records holds folds.
-      IfOk-from_err c.from_residual.result _ c.from_residual.ensures.0;
+      tt;
 }
 
-pub returns-in_err-publish-clause-rewrites : goal.returns-in_err-publish-clause-rewrites
-returns-in_err-publish-clause-rewrites g c = record {
-  moves = IfOk-from_err c.from_residual-in_err-publish.result _
-      c.from_residual-in_err-publish.ensures.0;
+pub returns-in_default-publish-clause-rewrites : goal.returns-in_default-publish-clause-rewrites
+returns-in_default-publish-clause-rewrites g c = record {
+  moves = tt;
   any_moment = λ records holds folds.
-      let from = (goal.at.returns-in_err-publish-clause-rewrites g c).After-fill_half in
+      let from = (goal.at.returns-in_default-publish-clause-rewrites g c).After-fill_half in
       let before = found g from records holds folds in
       let state = g.D.Disk.state in
       subst (λ (x : JournalView). Throughout (state c.args.disk.now) (state c.publish.new.disk)
       (OldOrGiven x c.args.layout records c.args.given.now (state c.args.disk.now)))
       c.self.view_is
-      (selecting before (c.in_ok-fill_half.ensures.slots holds.honest)
+      (selecting before (c.in-Ok.ensures.slots holds.honest)
       (c.publish.ensures.any_moment before.still_honest));
   ok = λ records holds folds.
-      IfOk-from_err c.from_residual-in_err-publish.result _
-      c.from_residual-in_err-publish.ensures.0;
+      tt;
   area = λ records holds folds.
-      IfOk-from_err c.from_residual-in_err-publish.result _
-      c.from_residual-in_err-publish.ensures.0;
+      tt;
 }
 
 pub returns-clause-rewrites : goal.returns-clause-rewrites
@@ -104,12 +100,12 @@ returns-clause-rewrites g c =
           subst (λ (x : JournalView). Throughout (state c.args.disk.now) (state c.publish.new.disk)
           (OldOrGiven x c.args.layout records c.args.given.now (state c.args.disk.now)))
           c.self.view_is
-          (selecting before (c.in_ok-fill_half.ensures.slots holds.honest)
+          (selecting before (c.in-Ok.ensures.slots holds.honest)
           (c.publish.ensures.any_moment before.still_honest));
       ok = λ records holds folds.
           let before = found g from records holds folds in
-          let alone = given_alone before (c.in_ok-fill_half.ensures.slots holds.honest)
-          (state c.publish.new.disk) (c.in_ok-publish.ensures.ok before.still_honest) in
+          let alone = given_alone before (c.in-Ok.ensures.slots holds.honest)
+          (state c.publish.new.disk) (c.in-Ok-publish.ensures.ok before.still_honest) in
           record {
             going = refl;
             count = refl;
@@ -120,8 +116,8 @@ returns-clause-rewrites g c =
           };
       area = λ records holds folds image left.
           let before = found g from records holds folds in
-          let alone = given_alone before (c.in_ok-fill_half.ensures.slots holds.honest)
-          (state c.publish.new.disk) (c.in_ok-publish.ensures.ok before.still_honest) in
+          let alone = given_alone before (c.in-Ok.ensures.slots holds.honest)
+          (state c.publish.new.disk) (c.in-Ok-publish.ensures.ok before.still_honest) in
           subst (λ (x : JournalView). HasReadArea x (state c.args.disk.now) image) c.self.view_is
           (alone image left).1;
     }
@@ -136,50 +132,47 @@ fill_half-requires-clause-sound g c =
     subst (λ (x : JournalView). AreSound x.geometry c.args.layout c.args.given.now)
     (sym c.self.view_is) c.requires.sound
 
-pub returns-in_err-fill_half-clause-keeps : goal.returns-in_err-fill_half-clause-keeps
-returns-in_err-fill_half-clause-keeps g c = c.fill_half.ensures.keeps
+pub returns-in_default-clause-keeps : goal.returns-in_default-clause-keeps
+returns-in_default-clause-keeps g c = c.fill_half.ensures.keeps
 
-pub returns-in_err-fill_half-clause-cause : goal.returns-in_err-fill_half-clause-cause
-returns-in_err-fill_half-clause-cause g c =
-    fails_run c.from_residual.result c.from_residual.ensures.0 c.in_err-fill_half.ensures.cause
+pub returns-in_default-clause-cause : goal.returns-in_default-clause-cause
+returns-in_default-clause-cause g c =
+    fails_run _ refl c.in_default.ensures.cause
 
-pub returns-in_err-fill_half-clause-cost : goal.returns-in_err-fill_half-clause-cost
-returns-in_err-fill_half-clause-cost g c = record {
+pub returns-in_default-clause-cost : goal.returns-in_default-clause-cost
+returns-in_default-clause-cost g c = record {
   at_most = part_of _ _ _ _
       (ap (λ (x : JournalView). slot_count c.args.layout x.geometry) c.self.view_is)
       c.fill_half.ensures.cost.at_most;
-  exact = IfOk-from_err c.from_residual.result _ c.from_residual.ensures.0;
+  exact = tt;
 }
 
-pub returns-in_err-fill_half-clause-spent : goal.returns-in_err-fill_half-clause-spent
-returns-in_err-fill_half-clause-spent g c =
-    MatchResult-from_err c.from_residual.result _ _ c.from_residual.ensures.0
-    (λ fault. rw (← c.self.view_is) refl)
+pub returns-in_default-clause-spent : goal.returns-in_default-clause-spent
+returns-in_default-clause-spent g c =
+    rw (← c.self.view_is) refl
 
-pub returns-in_err-publish-clause-keeps : goal.returns-in_err-publish-clause-keeps
-returns-in_err-publish-clause-keeps g c =
+pub returns-in_default-publish-clause-keeps : goal.returns-in_default-publish-clause-keeps
+returns-in_default-publish-clause-keeps g c =
     let state = g.D.Disk.state in
     keeps_all_on (state c.args.disk.now) (state c.fill_half.new.disk) (state c.publish.new.disk)
     c.fill_half.ensures.keeps c.publish.ensures.keeps
 
-pub returns-in_err-publish-clause-cause : goal.returns-in_err-publish-clause-cause
-returns-in_err-publish-clause-cause g c =
-    fails c.from_residual-in_err-publish.result c.from_residual-in_err-publish.ensures.0
-    (calm_of c.in_ok-fill_half.ensures.cause) c.in_err-publish.ensures.cause
+pub returns-in_default-publish-clause-cause : goal.returns-in_default-publish-clause-cause
+returns-in_default-publish-clause-cause g c =
+    fails _ refl
+    (calm_of c.in-Ok.ensures.cause) c.in_default-publish.ensures.cause
 
-pub returns-in_err-publish-clause-cost : goal.returns-in_err-publish-clause-cost
-returns-in_err-publish-clause-cost g c = record {
+pub returns-in_default-publish-clause-cost : goal.returns-in_default-publish-clause-cost
+returns-in_default-publish-clause-cost g c = record {
   at_most = at_most _ _ _ _ _
       (ap (λ (x : JournalView). slot_count c.args.layout x.geometry) c.self.view_is)
-      c.in_ok-fill_half.ensures.cost.exact c.publish.ensures.cost.at_most;
-  exact = IfOk-from_err c.from_residual-in_err-publish.result _
-      c.from_residual-in_err-publish.ensures.0;
+      c.in-Ok.ensures.cost.exact c.publish.ensures.cost.at_most;
+  exact = tt;
 }
 
-pub returns-in_err-publish-clause-spent : goal.returns-in_err-publish-clause-spent
-returns-in_err-publish-clause-spent g c =
-    MatchResult-from_err c.from_residual-in_err-publish.result _ _
-    c.from_residual-in_err-publish.ensures.0 (λ fault. rw (← c.self.view_is) refl)
+pub returns-in_default-publish-clause-spent : goal.returns-in_default-publish-clause-spent
+returns-in_default-publish-clause-spent g c =
+    rw (← c.self.view_is) refl
 
 pub returns-clause-keeps : goal.returns-clause-keeps
 returns-clause-keeps g c =
@@ -189,14 +182,23 @@ returns-clause-keeps g c =
 
 pub returns-clause-cause : goal.returns-clause-cause
 returns-clause-cause g c =
-    succeeds (calm_of c.in_ok-fill_half.ensures.cause) c.in_ok-publish.ensures.cause
+    succeeds (calm_of c.in-Ok.ensures.cause) c.in-Ok-publish.ensures.cause
 
 pub returns-clause-cost : goal.returns-clause-cost
 returns-clause-cost g c =
     let same = ap (λ (x : JournalView). slot_count c.args.layout x.geometry) c.self.view_is in
     record {
-      at_most = at_most _ _ _ _ _ same c.in_ok-fill_half.ensures.cost.exact
+      at_most = at_most _ _ _ _ _ same c.in-Ok.ensures.cost.exact
           c.publish.ensures.cost.at_most;
-      exact = exactly _ _ _ _ _ same c.in_ok-fill_half.ensures.cost.exact
-          c.in_ok-publish.ensures.cost.exact;
+      exact = exactly _ _ _ _ _ same c.in-Ok.ensures.cost.exact
+          c.in-Ok-publish.ensures.cost.exact;
     }
+
+pub returns-in_default-clause-fault : goal.returns-in_default-clause-fault
+returns-in_default-clause-fault g c = refl
+
+pub returns-in_default-publish-clause-fault : goal.returns-in_default-publish-clause-fault
+returns-in_default-publish-clause-fault g c = refl
+
+pub returns-clause-fault : goal.returns-clause-fault
+returns-clause-fault g c = tt

@@ -1,6 +1,6 @@
 use Rattle.std.proofs.Common.{◌≡◌, ℕ, ◌+◌, List, ◌++◌, [], ◌∷◌, ◌∙◌, Ok, inl, sym, ap, subst}
 use Rattle.std.proofs.Common.{length, ◌≤◌, Result, refl, arith}
-use Rattle.std.proofs.lemmas.Result.{err_from_is_err_and}
+use Rattle.std.proofs.lemmas.Result.{err_from_is_err_and, on_ok_weaker}
 use Rattle.disk_model.specs.Disk.{WritesWithin}
 use Rattle.disk_model.specs.Failures.{HasCause}
 use Rattle.disk_model.proofs.Laws.{weakens, keeps_all_on}
@@ -12,6 +12,7 @@ use Rattle.mot_journal.specs.Image.{Standing}
 use Rattle.mot_journal.specs.Journal.{JournalView, HoldsRecords, OnlyReadArea}
 use Rattle.mot_numbers.specs.Geometry.{area_start, length_of}
 use Rattle.mot_repository.specs.Repository.{RepositoryView, IsOf, IsBeforeOrAfter, Holds}
+use Rattle.mot_repository.proofs.Answering.{either_way, of_three}
 use Rattle.mot_repository.proofs.Committing.{WroteBody, is_read, wrote_body, is_ready, any_moment}
 use Rattle.mot_repository.proofs.Committing.{holds_after}
 use Rattle.mot_repository.proofs.commit.entry.write_change.Given as given
@@ -38,7 +39,7 @@ body_left : (g : given.Over) (c : After-write_body g) (view : RepositoryView) (s
     → c.args.at ≡ area_start view.journal.geometry + from
     → catalogue_of view.journal.geometry.objects records ≡ Ok before
     → AreBeside view.journal.geometry from (length c.args.body.now) before.objects
-    × (from + length c.args.body.now ≤ view.journal.geometry.data_area)
+    × (from + length c.args.body.now ≤ view.journal.geometry.area)
     → (holds : Holds view s (g.D.Disk.state c.args.disk.now)) → holds.records ≡ records
     → WroteBody view s records (g.D.Disk.state c.args.disk.now)
     (g.D.Disk.state c.write_body.new.disk)
@@ -64,19 +65,6 @@ returns-in_err-write_body-clause-any_moment g c =
     (body_left g here view s records before from at fold beside holds same).run
     (λ image is. inl is)
 
-pub returns-in_default-clause-any_moment : goal.returns-in_default-clause-any_moment
-returns-in_default-clause-any_moment g c =
-    λ view s records before next from layout command done is at fold fold' beside holds same step.
-    let here = (goal.at.returns-in_default-clause-any_moment g c).After-write_body in
-    let r = c.args.entry.now in
-    let wrote = body_left g here view s records before from at fold beside holds same in
-    let ready = is_ready view s records r before next fold fold' c.args.journal.now is wrote in
-    any_moment view s records r before next fold fold' layout command done c.args.journal.now is
-    wrote
-    (step _ (is_read wrote).0 (is_read wrote).1
-    (c.in_ok-write_body.ensures.bytes holds.journal.honest))
-    (c.append.ensures.any_moment records ready.0 ready.1)
-
 pub returns-clause-any_moment : goal.returns-clause-any_moment
 returns-clause-any_moment g c =
     λ view s records before next from layout command done is at fold fold' beside holds same step.
@@ -89,29 +77,6 @@ returns-clause-any_moment g c =
     (step _ (is_read wrote).0 (is_read wrote).1
     (c.in_ok-write_body.ensures.bytes holds.journal.honest))
     (c.append.ensures.any_moment records ready.0 ready.1)
-
-pub returns-clause-ok : goal.returns-clause-ok
-returns-clause-ok g c = λ view s records before next from layout command done is at fold fold'
-    beside holds same step.
-    let here = (goal.at.returns-clause-ok g c).After-write_body in
-    let mid = g.D.Disk.state c.write_body.new.disk in
-    let last = g.D.Disk.state c.append.new.disk in
-    let r = c.args.entry.now in
-    let wrote = body_left g here view s records before from at fold beside holds same in
-    let ready = is_ready view s records r before next fold fold' c.args.journal.now is wrote in
-    let found = c.in-Ok.ensures.ok records ready.0 ready.1 in
-    let area = c.in-Ok.ensures.area records ready.0 ready.1 in (
-      standing_of view.journal.geometry next mid.bytes,
-      step _ (is_read wrote).0 (is_read wrote).1
-          (c.in_ok-write_body.ensures.bytes holds.journal.honest),
-      λ view' is' going agrees.
-          let same_geometry : view'.journal.geometry ≡ view.journal.geometry =
-          ap (λ (j : JournalView). j.geometry) (is' ∙ c.in-Ok.ensures.added)
-          ∙ sym (ap (λ (j : JournalView). j.geometry) is) in
-          holds_after view s records r before next fold fold' view' mid last going same_geometry
-          agrees (subst (λ j. HoldsRecords j (records ++ r ∷ []) last) (sym is') found)
-          (subst (λ j. OnlyReadArea j mid last) (sym is) area),
-    )
 
 pub write_body-requires : goal.write_body-requires
 write_body-requires g c = record { within = c.requires.within }
@@ -168,17 +133,6 @@ pub append-requires-clause-long_enough : goal.append-requires-clause-long_enough
 append-requires-clause-long_enough g c = subst (λ n. length_of c.args.journal.now.geometry ≤ n)
     (sym c.write_body.ensures.keeps.frame.len) c.requires.long_enough
 
-pub returns-in_default-clause-keeps : goal.returns-in_default-clause-keeps
-returns-in_default-clause-keeps g c =
-    let state = g.D.Disk.state in
-    keeps_all_on (state c.args.disk.now) (state c.write_body.new.disk) (state c.append.new.disk)
-    c.write_body.ensures.keeps c.append.ensures.keeps
-
-pub returns-in_default-clause-cause : goal.returns-in_default-clause-cause
-returns-in_default-clause-cause g c =
-    let is = behind_calm _ _ _ c.in_ok-write_body.ensures.calm c.in_default.ensures.cause in
-    record { later = is.later; fits = is.fits; cause = is.cause; shown = is.shown }
-
 pub returns-clause-keeps : goal.returns-clause-keeps
 returns-clause-keeps g c =
     let state = g.D.Disk.state in
@@ -187,51 +141,55 @@ returns-clause-keeps g c =
 
 pub returns-clause-cause : goal.returns-clause-cause
 returns-clause-cause g c =
-    let is = behind_calm _ _ _ c.in_ok-write_body.ensures.calm c.in-Ok.ensures.cause in
-    record { later = is.later; fits = is.fits; cause = is.cause; shown = is.shown }
-
-pub returns-in_default-clause-cost : goal.returns-in_default-clause-cost
-returns-in_default-clause-cost g c = record {
-  at_most = at_most_four_behind _ _ _ _ c.in_ok-write_body.ensures.cost.at_most
-      c.in_default.ensures.cost.at_most;
-  exact = tt;
-}
+    behind_calm _ _ _ c.in_ok-write_body.ensures.calm c.append.ensures.cause
 
 pub returns-clause-cost : goal.returns-clause-cost
 returns-clause-cost g c = record {
   at_most = at_most_four_behind _ _ _ _ c.in_ok-write_body.ensures.cost.at_most
-      c.in-Ok.ensures.cost.at_most;
-  exact = four_behind _ _ _ _ c.in_ok-write_body.ensures.cost.exact c.in-Ok.ensures.cost.exact;
+      c.append.ensures.cost.at_most;
+  exact = on_ok_weaker c.append.result
+      (λ exact. four_behind _ _ _ _ c.in_ok-write_body.ensures.cost.exact exact)
+      c.append.ensures.cost.exact;
 }
 
-pub returns-in_default-clause-fault : goal.returns-in_default-clause-fault
-returns-in_default-clause-fault g c = refl
-
-pub returns-in_default-clause-geometry : goal.returns-in_default-clause-geometry
-returns-in_default-clause-geometry g c =
-    ap (λ (j : JournalView). j.geometry) c.in_default.ensures.spent
-
-pub returns-in_default-clause-layout : goal.returns-in_default-clause-layout
-returns-in_default-clause-layout g c =
-    ap (λ (j : JournalView). j.layout) c.in_default.ensures.spent
-
-pub returns-in_default-clause-going : goal.returns-in_default-clause-going
-returns-in_default-clause-going g c = tt
-
-pub returns-in_default-clause-ok : goal.returns-in_default-clause-ok
-returns-in_default-clause-ok g c =
-    λ view s records before next from layout command done is at fold fold' beside holds same
-    step. tt
-
 pub returns-clause-fault : goal.returns-clause-fault
-returns-clause-fault g c = tt
+returns-clause-fault g c = c.append.ensures.fault
 
 pub returns-clause-geometry : goal.returns-clause-geometry
-returns-clause-geometry g c = ap (λ (j : JournalView). j.geometry) c.in-Ok.ensures.added
+returns-clause-geometry g c =
+    either_way c.append.result c.append.ensures.spent c.append.ensures.added
+    (ap (λ (j : JournalView). j.geometry)) (ap (λ (j : JournalView). j.geometry))
 
 pub returns-clause-layout : goal.returns-clause-layout
-returns-clause-layout g c = ap (λ (j : JournalView). j.layout) c.in-Ok.ensures.added
+returns-clause-layout g c =
+    either_way c.append.result c.append.ensures.spent c.append.ensures.added
+    (ap (λ (j : JournalView). j.layout)) (ap (λ (j : JournalView). j.layout))
 
 pub returns-clause-going : goal.returns-clause-going
 returns-clause-going g c =
-    ap (λ (j : JournalView). j.spent) c.in-Ok.ensures.added ∙ c.requires.going
+    on_ok_weaker c.append.result
+    (λ added. ap (λ (j : JournalView). j.spent) added ∙ c.requires.going) c.append.ensures.added
+
+pub returns-clause-ok : goal.returns-clause-ok
+returns-clause-ok g c = λ view s records before next from layout command done is at fold fold'
+    beside holds same step.
+    let here = (goal.at.returns-clause-ok g c).After-write_body in
+    let mid = g.D.Disk.state c.write_body.new.disk in
+    let last = g.D.Disk.state c.append.new.disk in
+    let r = c.args.entry.now in
+    let wrote = body_left g here view s records before from at fold beside holds same in
+    let ready = is_ready view s records r before next fold fold' c.args.journal.now is wrote in
+    of_three c.append.result c.append.ensures.added (c.append.ensures.ok records ready.0 ready.1)
+    (c.append.ensures.area records ready.0 ready.1)
+    (λ added found area. (
+      standing_of view.journal.geometry next mid.bytes,
+      step _ (is_read wrote).0 (is_read wrote).1
+          (c.in_ok-write_body.ensures.bytes holds.journal.honest),
+      λ view' is' going agrees.
+          let same_geometry : view'.journal.geometry ≡ view.journal.geometry =
+          ap (λ (j : JournalView). j.geometry) (is' ∙ added)
+          ∙ sym (ap (λ (j : JournalView). j.geometry) is) in
+          holds_after view s records r before next fold fold' view' mid last going same_geometry
+          agrees (subst (λ j. HoldsRecords j (records ++ r ∷ []) last) (sym is') found)
+          (subst (λ j. OnlyReadArea j mid last) (sym is) area),
+    ))

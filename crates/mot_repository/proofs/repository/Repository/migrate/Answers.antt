@@ -58,8 +58,8 @@ migrate-requires-clause-sound g c =
     (migrates r.journal.geometry kept c.deref.result.now whole
     (c.deref.ensures.value ∙ c.in_ok-given.ensures)).1
 
-pub invariant_of-self : goal.invariant_of-self
-invariant_of-self g c =
+pub invariant_of-self-in_default-migrate : goal.invariant_of-self-in_default-migrate
+invariant_of-self-in_default-migrate g c =
     let r = c.self.inside in
     let is = c.self.invariant in
     let kept = catalogue_with r.inventory.carousel r.inventory.extents.items in
@@ -68,7 +68,7 @@ invariant_of-self g c =
     subst (λ (j : JournalView).
     IsInOrder (view_with j r.inventory.carousel r.inventory.extents.items r.halted)
     (g.D.Disk.state c.migrate.new.disk).len)
-    (sym c.in-Ok.ensures.rewrites.moves)
+    (sym c.in_default-migrate.ensures.rewrites.moves)
     (record {
       valid = is.valid;
       long_enough = no_shorter _ (g.D.Disk.state r.disk).len (g.D.Disk.state c.migrate.new.disk).len
@@ -78,9 +78,9 @@ invariant_of-self g c =
       going = is.going;
     })
 
-pub returns-in_default-migrate-clause-any_moment :
-    goal.returns-in_default-migrate-clause-any_moment
-returns-in_default-migrate-clause-any_moment g c = rw (← c.self.view_is) (λ s holds.
+pub returns-in-Err-clause-any_moment :
+    goal.returns-in-Err-clause-any_moment
+returns-in-Err-clause-any_moment g c = rw (← c.self.view_is) (λ s holds.
     let r = c.self.inside in
     let state = g.D.Disk.state in
     let old = state r.disk in
@@ -126,10 +126,10 @@ returns-clause-ok g c = rw (← c.self.view_is) (λ s holds.
     let k = rewrites view s old sound holds given (c.deref.ensures.value ∙ c.in_ok-given.ensures) in
     let was = here view s Two given k.0 r.journal old new refl holds k.1 k.2 in
     let fits = folds view s Two given k.0 r.journal old new refl holds k.1 k.2 in
-    let same = ap (λ (j : JournalView). j.geometry) c.in-Ok.ensures.rewrites.moves in
+    let same = ap (λ (j : JournalView). j.geometry) c.in_default-migrate.ensures.rewrites.moves in
     (held view s Two given k.0 r.journal old new refl holds k.1 k.2 sound c.migrate.new.self same
-    (c.in-Ok.ensures.rewrites.ok holds.records was fits)
-    (c.in-Ok.ensures.rewrites.area holds.records was fits) after refl holds.going
+    (c.in_default-migrate.ensures.rewrites.ok holds.records was fits)
+    (c.in_default-migrate.ensures.rewrites.area holds.records was fits) after refl holds.going
     (record {
       geometry = same ∙ holds.agrees.geometry;
       extents = holds.agrees.extents;
@@ -138,11 +138,11 @@ returns-clause-ok g c = rw (← c.self.view_is) (λ s holds.
       carousel = holds.agrees.carousel;
     })).0)
 
-pub returns-in_default-migrate-clause-now : goal.returns-in_default-migrate-clause-now
-returns-in_default-migrate-clause-now g c =
+pub returns-in-Err-clause-now : goal.returns-in-Err-clause-now
+returns-in-Err-clause-now g c =
     let state = g.D.Disk.state in
     let new = c.migrate.new.disk in
-    let run = rw (← c.self.view_is) at (returns-in_default-migrate-clause-any_moment g c) in
+    let run = rw (← c.self.view_is) at (returns-in-Err-clause-any_moment g c) in
     rw (← c.self.view_is) (λ s holds.
     let honest = c.migrate.ensures.keeps.honest holds.journal.honest in
     at_end (state c.self.inside.disk) (state new) (IsOf s) (g.met.D.Disk.sound new honest)
@@ -161,7 +161,7 @@ returns-clause-now g c =
 pub returns-clause-layouts : goal.returns-clause-layouts
 returns-clause-layouts g c = λ s holds image left.
     let now = returns-clause-ok g c s holds in
-    let layout = ap (λ (j : JournalView). j.layout) c.in-Ok.ensures.rewrites.moves in
+    let layout = ap (λ (j : JournalView). j.layout) c.in_default-migrate.ensures.rewrites.moves in
     (_, (now.journal.each image left).read, layout)
 
 pub returns-then-self-clause-keeps : goal.returns-then-self-clause-keeps
@@ -267,15 +267,15 @@ migrate-requires-clause-first_layout g c = sym c.layout.ensures ∙ c.in-One.is
 pub migrate-requires-clause-long_enough : goal.migrate-requires-clause-long_enough
 migrate-requires-clause-long_enough g c = c.self.invariant.long_enough
 
-pub invariant_of-self-in_default-migrate : goal.invariant_of-self-in_default-migrate
-invariant_of-self-in_default-migrate g c =
+pub invariant_of-self : goal.invariant_of-self
+invariant_of-self g c =
     let r = c.self.inside in
     let is = c.self.invariant in
     let spent : JournalView = record r.journal { spent = true } in
     subst (λ (j : JournalView).
     IsInOrder (view_with j r.inventory.carousel r.inventory.extents.items true)
     (g.D.Disk.state c.migrate.new.disk).len) {x = spent}
-    (sym {b = spent} c.in_default-migrate.ensures.spent)
+    (sym {b = spent} c.in-Err.ensures.spent)
     (record {
       valid = is.valid;
       long_enough = no_shorter _ (g.D.Disk.state r.disk).len (g.D.Disk.state c.migrate.new.disk).len
@@ -285,40 +285,40 @@ invariant_of-self-in_default-migrate g c =
       going = λ going. absurd (halted_goes going);
     })
 
-pub returns-in_default-migrate-clause-keeps : goal.returns-in_default-migrate-clause-keeps
-returns-in_default-migrate-clause-keeps g c = rw (← c.self.view_is) c.migrate.ensures.keeps
+pub returns-in-Err-clause-keeps : goal.returns-in-Err-clause-keeps
+returns-in-Err-clause-keeps g c = rw (← c.self.view_is) c.migrate.ensures.keeps
 
-pub returns-in_default-migrate-clause-geometry : goal.returns-in_default-migrate-clause-geometry
-returns-in_default-migrate-clause-geometry g c = rw (← c.self.view_is)
-    (ap (λ (j : JournalView). j.geometry) c.in_default-migrate.ensures.spent)
+pub returns-in-Err-clause-geometry : goal.returns-in-Err-clause-geometry
+returns-in-Err-clause-geometry g c = rw (← c.self.view_is)
+    (ap (λ (j : JournalView). j.geometry) c.in-Err.ensures.spent)
 
-pub returns-in_default-migrate-clause-still : goal.returns-in_default-migrate-clause-still
-returns-in_default-migrate-clause-still g c = rw (← c.self.view_is) (λ two.
+pub returns-in-Err-clause-still : goal.returns-in-Err-clause-still
+returns-in-Err-clause-still g c = rw (← c.self.view_is) (λ two.
     absurd (not_both (sym two ∙ sym c.layout.ensures ∙ c.in-One.is)))
 
-pub returns-in_default-migrate-clause-refused : goal.returns-in_default-migrate-clause-refused
-returns-in_default-migrate-clause-refused g c = rw (← c.self.view_is)
-    (failed c.if-self.false refl (c.in_default-migrate.ensures.cause.cause refl) (record {
-      geometry = ap (λ (j : JournalView). j.geometry) c.in_default-migrate.ensures.spent;
-      layout = ap (λ (j : JournalView). j.layout) c.in_default-migrate.ensures.spent;
+pub returns-in-Err-clause-refused : goal.returns-in-Err-clause-refused
+returns-in-Err-clause-refused g c = rw (← c.self.view_is)
+    (failed c.if-self.false c.in-Err.ensures.fault (c.in-Err.ensures.cause.cause refl) (record {
+      geometry = ap (λ (j : JournalView). j.geometry) c.in-Err.ensures.spent;
+      layout = ap (λ (j : JournalView). j.layout) c.in-Err.ensures.spent;
       carousel = refl;
       extents = refl;
       halted = refl;
     }))
 
-pub returns-in_default-migrate-clause-untouched : goal.returns-in_default-migrate-clause-untouched
-returns-in_default-migrate-clause-untouched g c = inl refl
+pub returns-in-Err-clause-untouched : goal.returns-in-Err-clause-untouched
+returns-in-Err-clause-untouched g c = inl c.in-Err.ensures.fault
 
-pub returns-in_default-migrate-clause-cost : goal.returns-in_default-migrate-clause-cost
-returns-in_default-migrate-clause-cost g c = rw (← c.self.view_is) (λ one.
-    record { at_most = c.in_default-migrate.ensures.cost.at_most; exact = tt })
+pub returns-in-Err-clause-cost : goal.returns-in-Err-clause-cost
+returns-in-Err-clause-cost g c = rw (← c.self.view_is) (λ one.
+    record { at_most = c.in-Err.ensures.cost.at_most; exact = tt })
 
 pub returns-clause-keeps : goal.returns-clause-keeps
 returns-clause-keeps g c = rw (← c.self.view_is) c.migrate.ensures.keeps
 
 pub returns-clause-geometry : goal.returns-clause-geometry
 returns-clause-geometry g c = rw (← c.self.view_is)
-    (ap (λ (j : JournalView). j.geometry) c.in-Ok.ensures.rewrites.moves)
+    (ap (λ (j : JournalView). j.geometry) c.in_default-migrate.ensures.rewrites.moves)
 
 pub returns-clause-going : goal.returns-clause-going
 returns-clause-going g c = rw (← c.self.view_is) c.if-self.false
@@ -328,7 +328,7 @@ returns-clause-rewritten g c = rw (← c.self.view_is)
     (λ is. sym c.layout.ensures ∙ c.in-One.is, λ one. refl)
 
 pub returns-clause-layout : goal.returns-clause-layout
-returns-clause-layout g c = ap (λ (j : JournalView). j.layout) c.in-Ok.ensures.rewrites.moves
+returns-clause-layout g c = ap (λ (j : JournalView). j.layout) c.in_default-migrate.ensures.rewrites.moves
 
 pub returns-clause-still : goal.returns-clause-still
 returns-clause-still g c = rw (← c.self.view_is) (λ two.
@@ -336,8 +336,8 @@ returns-clause-still g c = rw (← c.self.view_is) (λ two.
 
 pub returns-clause-cost : goal.returns-clause-cost
 returns-clause-cost g c = rw (← c.self.view_is) (λ one. record {
-  at_most = c.in-Ok.ensures.cost.at_most;
-  exact = c.in-Ok.ensures.cost.exact;
+  at_most = c.in_default-migrate.ensures.cost.at_most;
+  exact = c.in_default-migrate.ensures.cost.exact;
 })
 
 pub returns-then-self-clause-going : goal.returns-then-self-clause-going
@@ -436,32 +436,32 @@ returns-in_err-given-clause-layout g c =
 pub migrate-requires-clause-going : goal.migrate-requires-clause-going
 migrate-requires-clause-going g c = c.self.invariant.going c.if-self.false
 
-pub returns-in_default-migrate-clause-carousel : goal.returns-in_default-migrate-clause-carousel
-returns-in_default-migrate-clause-carousel g c = rw (← c.self.view_is) refl
+pub returns-in-Err-clause-carousel : goal.returns-in-Err-clause-carousel
+returns-in-Err-clause-carousel g c = rw (← c.self.view_is) refl
 
-pub returns-in_default-migrate-clause-extents : goal.returns-in_default-migrate-clause-extents
-returns-in_default-migrate-clause-extents g c = rw (← c.self.view_is) refl
+pub returns-in-Err-clause-extents : goal.returns-in-Err-clause-extents
+returns-in-Err-clause-extents g c = rw (← c.self.view_is) refl
 
-pub returns-in_default-migrate-clause-going : goal.returns-in_default-migrate-clause-going
-returns-in_default-migrate-clause-going g c = tt
+pub returns-in-Err-clause-going : goal.returns-in-Err-clause-going
+returns-in-Err-clause-going g c = tt
 
-pub returns-in_default-migrate-clause-halted : goal.returns-in_default-migrate-clause-halted
-returns-in_default-migrate-clause-halted g c = tt
+pub returns-in-Err-clause-halted : goal.returns-in-Err-clause-halted
+returns-in-Err-clause-halted g c = tt
 
-pub returns-in_default-migrate-clause-calm : goal.returns-in_default-migrate-clause-calm
-returns-in_default-migrate-clause-calm g c = tt
+pub returns-in-Err-clause-calm : goal.returns-in-Err-clause-calm
+returns-in-Err-clause-calm g c = tt
 
-pub returns-in_default-migrate-clause-rewritten : goal.returns-in_default-migrate-clause-rewritten
-returns-in_default-migrate-clause-rewritten g c = tt
+pub returns-in-Err-clause-rewritten : goal.returns-in-Err-clause-rewritten
+returns-in-Err-clause-rewritten g c = tt
 
-pub returns-in_default-migrate-clause-layout : goal.returns-in_default-migrate-clause-layout
-returns-in_default-migrate-clause-layout g c = tt
+pub returns-in-Err-clause-layout : goal.returns-in-Err-clause-layout
+returns-in-Err-clause-layout g c = tt
 
-pub returns-in_default-migrate-clause-layouts : goal.returns-in_default-migrate-clause-layouts
-returns-in_default-migrate-clause-layouts g c = λ s holds. tt
+pub returns-in-Err-clause-layouts : goal.returns-in-Err-clause-layouts
+returns-in-Err-clause-layouts g c = λ s holds. tt
 
-pub returns-in_default-migrate-clause-ok : goal.returns-in_default-migrate-clause-ok
-returns-in_default-migrate-clause-ok g c = λ s holds. tt
+pub returns-in-Err-clause-ok : goal.returns-in-Err-clause-ok
+returns-in-Err-clause-ok g c = λ s holds. tt
 
 pub returns-clause-carousel : goal.returns-clause-carousel
 returns-clause-carousel g c = rw (← c.self.view_is) refl
@@ -473,7 +473,7 @@ pub returns-clause-halted : goal.returns-clause-halted
 returns-clause-halted g c = rw (← c.self.view_is) refl
 
 pub returns-clause-calm : goal.returns-clause-calm
-returns-clause-calm g c = rw (← c.self.view_is) (calm_where_ok _ c.in-Ok.ensures.cause)
+returns-clause-calm g c = rw (← c.self.view_is) (calm_where_ok _ c.in_default-migrate.ensures.cause)
 
 pub returns-clause-refused : goal.returns-clause-refused
 returns-clause-refused g c = tt

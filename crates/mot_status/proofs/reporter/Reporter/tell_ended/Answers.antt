@@ -15,8 +15,8 @@ returns-clause-told g c = λ whole.
     let packets = (counted_end c.args.self.now.has_begun old.counters).packets in
     Appends-trans (g.W.Write.contents old.writer) middle new [] (logged_end old.levels turns
     packets)
-    (c.tell_last.ensures.told (c.tell.ensures.whole whole))
+    (c.tell_last.ensures.told (c.tell.ensures.heard.2 whole))
     (subst (λ (levels : Bool). Appends middle new (logged_end levels turns packets))
     c.tell_last.ensures.log.0
     (subst (λ (n : ℕ). Appends middle new (logged_end last.levels turns n))
-    (ap (λ (k : Counters). k.packets) c.tell_last.ensures.counts) (c.tell.ensures.told whole)))
+    (ap (λ (k : Counters). k.packets) c.tell_last.ensures.counts) (c.tell.ensures.heard.3 whole)))

@@ -17,4 +17,4 @@ returns-clause-told g c = λ whole.
     (subst (λ (n : ℕ). told disk n packets)
     (c.len-objects.ensures ∙ ap (λ (k : Carousel). vec_len k.objects) c.carousel.ensures.value)
     (subst (λ (d : List ℕ). told d objects packets) c.as_bytes-disk.ensures.value
-    (c.tell.ensures.told whole)))
+    (c.tell.ensures.heard.3 whole)))

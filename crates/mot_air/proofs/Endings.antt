@@ -1,0 +1,43 @@
+-- How the beginning and the end of playing are told.
+use Rattle.std.proofs.Common.{◌≡◌, ◌∙◌, ℕ, Bool, false, List, [], None, Option, Result, Ok, Err}
+use Rattle.std.proofs.Common.{IsTrue, ap, refl}
+use Rattle.std.specs.Prelude.{◌≢◌, ◌↔◌, is_ok}
+use Rattle.mot_air.specs.Telling.{EndsTelling, no_looks}
+use Rattle.mot_air.specs.Telling.EndsTelling.{broken, ended}
+use Rattle.mot_events.specs.declared.event.LookEvent.{LookEvent}
+use Rattle.mot_folder.specs.Looked.{so_far}
+use Rattle.mot_numbers.specs.declared.refusal.Refusal.{Refusal}
+use Rattle.mot_playout.specs.Attempts.{fault_of}
+use Rattle.mot_repository.specs.Repository.{RepositoryView}
+use Rattle.mot_shelf.specs.Given.{Given}
+use Rattle.mot_status.specs.Teller.{TellerView, TellsEnd}
+use Rattle.mot_update.proofs.Laws.{not_none}
+use Rattle.mot_update.specs.Watching.{looks_known}
+
+-- an end was told, or a fault ended it, and nothing more was
+pub ends_by : (result : Result Unit Refusal) (turns : ℕ) (last end : TellerView)
+    (view : RepositoryView) (met : List LookEvent)
+    → (fault_of result ≢ None → end ≡ last)
+    → (fault_of result ≡ None → TellsEnd last view turns met end)
+    → EndsTelling (fault_of result) turns last end.log.bytes
+ends_by (Ok u) turns last end view met quiet told = ended refl view met end (told refl) refl
+ends_by (Err r) turns last end view met quiet told =
+    broken (not_none r) (ap (λ (t : TellerView). t.log.bytes) (quiet (not_none r)))
+
+-- it has come to its end where no fault ended it
+pub is_ended : (result : Result Unit Refusal) → IsTrue (is_ok result) ↔ (fault_of result ≡ None)
+is_ended (Ok u) = ((λ is. refl), (λ none. refl))
+is_ended (Err r) = ((λ is. let h = is in cc), (λ none. absurd (not_none r none)))
+
+-- no look has come
+pub none_yet : (left : ℕ) (given : List Given) (refused : Bool) (count : ℕ)
+    (events before : List LookEvent) → left ≡ 0 → given ≡ [] → refused ≡ false → count ≡ 0
+    → events ≡ [] → before ≡ []
+    → so_far left given refused (looks_known count events before) ≡ no_looks
+none_yet left given refused count events before due none fine uncounted untold unknown =
+    ap (λ n. so_far n given refused (looks_known count events before)) due
+    ∙ ap (λ g. so_far 0 g refused (looks_known count events before)) none
+    ∙ ap (λ r. so_far 0 [] r (looks_known count events before)) fine
+    ∙ ap (λ n. so_far 0 [] false (looks_known n events before)) uncounted
+    ∙ ap (λ e. so_far 0 [] false (looks_known 0 e before)) untold
+    ∙ ap (λ b. so_far 0 [] false (looks_known 0 [] b)) unknown

@@ -1,0 +1,5 @@
+mod Cut
+mod Found
+mod Looks
+mod ReadsOn
+mod Rows

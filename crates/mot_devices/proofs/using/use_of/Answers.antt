@@ -1,0 +1,27 @@
+use Rattle.std.proofs.Common.{Err, Ok, refl, subst}
+use Rattle.mot_devices.proofs.Looks.{looks_on, looks_one}
+use Rattle.mot_devices.specs.Looking.{IsFreeDevice}
+use Rattle.mot_devices.specs.Looking.IsFree.{device, no_device}
+use Rattle.mot_files.specs.declared.system.Fault.TheVariants.{Absent}
+use Rattle.mot_devices.proofs.using.use_of.Goals as goal
+
+pub returns-in-Err-Absent-clause-free : goal.returns-in-Err-Absent-clause-free
+returns-in-Err-Absent-clause-free g c =
+    no_device (Err (Absent c.in-Err-Absent.field-0-0)) tt
+    (rw c.in-Err-Absent.field-0-is at c.in-Err-Absent.ensures)
+
+pub returns-in_default-clause-free : goal.returns-in_default-clause-free
+returns-in_default-clause-free g c = no_device (Ok c.in-Ok.seen) c.in_default.is c.in-Ok.ensures
+
+pub returns-in-Ok-look_at_device-clause-looks : goal.returns-in-Ok-look_at_device-clause-looks
+returns-in-Ok-look_at_device-clause-looks g c =
+    looks_on (g.S.System.calls c.args.system.now) (g.S.System.calls c.follow.new.self)
+    (g.S.System.calls c.look_at_device.new.system) (looks_one _ _ _ c.in-Ok.ensures refl)
+    c.look_at_device.ensures.looks
+
+pub returns-in-Ok-look_at_device-clause-free : goal.returns-in-Ok-look_at_device-clause-free
+returns-in-Ok-look_at_device-clause-free g c =
+    device c.in-Ok.seen c.in-Some.number c.in-Some.is
+    (subst (λ (l : _). IsFreeDevice c.args.path.now c.in-Some.number l
+    (g.S.System.calls c.look_at_device.new.system)) c.in-Ok.ensures
+    c.in-Ok-look_at_device.ensures.free)

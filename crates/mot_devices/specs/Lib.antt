@@ -1,0 +1,6 @@
+pub mod Inner
+pub mod Looking
+pub mod Mounts
+pub mod Number
+pub mod Parts
+pub mod Signatures

@@ -1,0 +1,31 @@
+-- Where a device is mounted, by `/proc/self/mountinfo`.
+use Rattle.std.specs.Prelude.{ℕ, ◌||◌, if◌then◌else◌, Bool, List, [], ◌∷◌, Option, None, Some}
+use Rattle.std.specs.Prelude.{bytes_eq}
+use Rattle.std.specs.List.{list_any}
+use Rattle.std.specs.Option.{option_or}
+use Rattle.mot_devices.specs.Parts.{parts_of}
+
+-- a number is this device's, or stands on a line of the others, which are its partitions'
+abbrev pub is_one_of : (own others number : List ℕ) → Bool
+is_one_of own others number =
+    bytes_eq own number || list_any (λ (line : List ℕ). bytes_eq line number) (parts_of 10 others)
+
+-- where a line says that one of these devices is mounted: of its fields, which single spaces end, the
+-- third is the number of the device, and the fifth is the place
+abbrev pub place_of_fields : (own others : List ℕ) → List (List ℕ) → Option (List ℕ)
+place_of_fields own others (id ∷ parent ∷ number ∷ root ∷ place ∷ rest) =
+    if is_one_of own others number then Some place else None
+place_of_fields own others fields = None
+
+abbrev pub place_of_line : (own others line : List ℕ) → Option (List ℕ)
+place_of_line own others line = place_of_fields own others (parts_of 32 line)
+
+-- the first of the lines that says so
+abbrev pub place_in_lines : (own others : List ℕ) → List (List ℕ) → Option (List ℕ)
+place_in_lines own others [] = None
+place_in_lines own others (line ∷ lines) =
+    option_or (place_of_line own others line) (place_in_lines own others lines)
+
+-- where one of these devices is mounted, by the whole text
+abbrev pub mount_in : (own others mounts : List ℕ) → Option (List ℕ)
+mount_in own others mounts = place_in_lines own others (parts_of 10 mounts)

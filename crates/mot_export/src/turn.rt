@@ -1,0 +1,98 @@
+//! How many packets a turn has, and how many bytes these.
+ghost use Rattle.std.specs.Prelude.{◌≡◌, ◌+◌, ◌≤◌, IfErr, IfOk, List, ℕ};
+ghost use Rattle.std.specs.List.{fold};
+ghost use Rattle.mot_export.specs.Filling.{lengths_of_turn};
+ghost use Rattle.mot_export.specs.Inner.Lengths.{entity_lengths, group_lengths};
+ghost use Rattle.mot_export.specs.TurnSize.{no_packets, size_of, with_counted};
+ghost use Rattle.mot_numbers.specs.PacketLength.{room_of};
+ghost use Rattle.mot_numbers.specs.declared.refusal.Refusal.TheVariants.{OutOfMemory};
+ghost use Rattle.mot_objects.specs.Stands.{AreBodiesOf, carousel_of};
+ghost use Rattle.mot_objects.specs.declared.body.TheConstants.{MAX_BODY};
+ghost use Rattle.mot_player.specs.Turn.{turn_of_carousel};
+
+use crate::filling::{GROUP_FRAME, packet_for};
+use mot_directory::directory_bytes;
+use mot_groups::segment_count;
+use mot_numbers::{PacketLength, Refusal, SegmentSize};
+use mot_objects::Carousel;
+use mot_packets::packet_count;
+use std::alloc::Global;
+
+/// How many packets a turn has, and how many bytes these.
+#[derive(Clone, Copy)]
+pub struct TurnSize {
+    /// The packets.
+    pub packets: u64,
+    /// Their bytes.
+    pub bytes: u64,
+}
+
+impl TurnSize {
+    /// No packet.
+    pub fn none() -> TurnSize
+        ensures { result ≡ no_packets }
+    {
+        TurnSize {
+            packets: 0,
+            bytes: 0,
+        }
+    }
+
+    /// One packet more, of so many bytes.
+    fn count(&mut self, packet: usize)
+        ensures { self.new ≡ with_counted self.old packet }
+    {
+        self.packets = self.packets.saturating_add(1);
+        self.bytes = self.bytes.saturating_add(packet as u64);
+    }
+
+    /// The packets of a group of so many bytes.
+    fn count_group(&mut self, full_length: PacketLength, len: usize)
+        ensures { self.new ≡ fold with_counted self.old (group_lengths (room_of full_length) len) }
+    {
+        let count = packet_count(len, full_length);
+        let room = full_length.room();
+        let mut rest = len;
+        for _ in 0..count {
+            self.count(packet_for(rest, full_length));
+            rest = rest.saturating_sub(room);
+        }
+    }
+
+    /// The packets of a directory or body of so many bytes.
+    fn count_entity(&mut self, full_length: PacketLength, segment_size: SegmentSize, len: usize)
+        requires { len ≤ MAX_BODY }
+        ensures { self.new ≡ fold with_counted self.old
+            (entity_lengths (room_of full_length) segment_size len) }
+    {
+        let count = segment_count(len, segment_size);
+        let full = usize::from(segment_size.get());
+        let mut rest = len;
+        for _ in 0..count {
+            self.count_group(full_length, full.min(rest) + GROUP_FRAME);
+            rest = rest.saturating_sub(full);
+        }
+    }
+}
+
+/// What a turn of this carousel takes, from its beginning on, with the directory once. It takes
+/// memory for the directory's bytes, and gives it back. The only refusal is `OutOfMemory`.
+pub fn turn_size(
+    alloc: Global,
+    carousel: &Carousel,
+    segment_size: SegmentSize,
+    full_length: PacketLength,
+) -> Result<TurnSize, Refusal>
+    ensures counted { (bodies : List (List ℕ)) → AreBodiesOf carousel.now bodies
+        → IfOk result (λ size. size ≡ size_of (lengths_of_turn (room_of full_length) segment_size
+        (turn_of_carousel (carousel_of carousel.now bodies) segment_size))) }
+    ensures refused { IfErr result (λ r. r ≡ OutOfMemory) }
+{
+    let directory = directory_bytes(alloc, carousel, segment_size)?.len();
+    let mut turn = TurnSize::none();
+    turn.count_entity(full_length, segment_size, directory);
+    for object in &carousel.objects {
+        turn.count_entity(full_length, segment_size, object.length.get() as usize);
+    }
+    Ok(turn)
+}

@@ -1,0 +1,22 @@
+pub mod Answered
+pub mod Extents
+pub mod Going
+pub mod Histories
+pub mod Joins
+pub mod Laws
+mod LifeRows
+pub mod Lives
+pub mod Marked
+pub mod Numbered
+pub mod OneChange
+pub mod Openings
+pub mod Places
+pub mod Read
+pub mod ReadRefusals
+pub mod Room
+pub mod RunAnswered
+pub mod Runs
+pub mod Sizes
+pub mod Survival
+pub mod Turns
+pub mod Whole
