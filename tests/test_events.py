@@ -303,18 +303,29 @@ class Lines(Events):
         (asked / "5\1.lines").write_bytes(b"list\n")
         with open(os.fsencode(asked) + b"/6\xe9.lines", "wb") as it:
             it.write(b"list\n")
-        send(asked, "7.lines", b"next 1\nturn\nnext x\nturn x\nput a 1 0 - 61\r\nlists\n")
+        send(asked, "7.lines", b"next 1\nturn\nnext x\nturn x\nput a 1 0 - 61\r\nlists\n"
+             b"put a b 1 0 - 61\nwithdraw\nraw 0 1\nperiod\nreplace\nlist \n")
         told = self.played("--lines", asked, turns=9)[1:-1]
         other = [f"{it}.lines refused 22 ReadFault: not a regular file" for it in "234"]
         replies = [*[f"{it} refused 1 BadLine: not while a disk is played" for it in ("next", "turn")],
-                   "next refused 8 BadNumber", "turn refused 1 BadLine", "put a refused 5 BadBody: a carriage return",
-                   "refused 1 BadLine: its first word is no command"]
+                   "next refused 8 BadNumber", "turn refused 1 BadLine: 2 words, 1 asked for", "put a refused 5 BadBody: a carriage return",
+                   "refused 1 BadLine: its first word is no command",
+                   *[f"{it} refused 1 BadLine: {has} words, {asked} asked for" for it, has, asked in
+                     (("put a", 7, 6), ("withdraw", 1, 2), ("raw", 3, 4), ("period", 1, 2), ("replace", 1, 6), ("list", 2, 1))]]
         wanted = ["1.lines refused 1 BadLine: its first word is no command", *other,
                   "5?.lines refused 2 BadName: a control character", "6?.lines refused 2 BadName: not UTF-8",
                   *[f"7.lines:{at} {it}" for at, it in enumerate(replies, 1)]]
         self.expect("why", sorted(f"<4>lines {it}" for it in wanted), sorted(told))
-        self.expect("each is counted", (12, 12), self.refusals()[:2])
+        self.expect("each is counted", (18, 18), self.refusals()[:2])
 
+    def test_the_level_of_the_end(self):
+        """The two lines that end the program are errors, where lines have levels."""
+        for levels in ((), ("--levels",)):
+            level = "<3>" if levels else ""
+            for words in (("play", self.room / "missing", "/dev/null"), ("play", self.place, self.room / "no" / "folder")):
+                errors = self.motcar(*words, *levels)[2].decode().splitlines()
+                self.expect(f"{words[1:]}", [level] * len(errors), [it.split("motcar", 1)[0] for it in errors])
+                self.expect("with why", 2, len(errors))
 
     def test_a_long_line(self):
         """It is cut at 8,192 bytes after its level, and its level and its count are those of the whole one."""

@@ -77,7 +77,7 @@ class Answered(LineFiles):
         send(self.asked, "b.lines", b"put " + b"x" * 600_000 + b"\nlist\n")
         until(lambda: b"100000 second -\n" in player.log.read_bytes())
         until(lambda: not (self.asked / "b.lines").exists())
-        wanted = ["done directory 6", "done object 7 directory 8", "refused 1 BadLine", "carousel 7 8 8 2",
+        wanted = ["done directory 6", "done object 7 directory 8", "refused 1 BadLine: 2 words, 6 asked for", "carousel 7 8 8 2",
                   "object 2 0 1 0 1 first -", "object 7 1 1 0 100000 second -"]
         told = [it for it in player.end()[len(left):] if "ReadFault" not in it]
         self.expect("lines while it plays", wanted, told)

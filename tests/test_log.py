@@ -23,14 +23,14 @@ class Log(AirCase):
 
     def test_the_line_that_is_answered(self):
         """The words in front of a reply are the command, and of four the word after it, whole."""
-        rows = [("withdraw {}", "withdraw {} refused 10 NoSuchName"), ("period 7 {}", "refused 1 BadLine"),
-                ("raw 4 2 {}", "raw refused 5 BadBody"), ("list {}", "list refused 1 BadLine"),
-                ("next {}", "next refused 8 BadNumber"), ("turn {}", "turn refused 1 BadLine"),
+        rows = [("withdraw {}", "withdraw {} refused 10 NoSuchName"), ("period 7 {}", "refused 1 BadLine: 3 words, 2 asked for"),
+                ("raw 4 2 {}", "raw refused 5 BadBody"), ("list {}", "list refused 1 BadLine: 2 words, 1 asked for"),
+                ("next {}", "next refused 8 BadNumber"), ("turn {}", "turn refused 1 BadLine: 2 words, 1 asked for"),
                 ("replace {} 64 0 - 61", "replace {} refused 3 BadType")]
         for size in (1, 17, 60, 200, LONGEST):
             lines = [(line.format("z" * size), reply.format("z" * size)) for line, reply in rows]
             wanted = [f"lines 1.lines:{at} {reply}" for at, (_, reply) in enumerate(lines, 1)]
-            wanted[1] = "lines 1.lines:2 period 7 refused 1 BadLine"
+            wanted[1] = "lines 1.lines:2 period 7 refused 1 BadLine: 3 words, 2 asked for"
             self.expect(f"words of {size} bytes", wanted, self.told("".join(f"{line}\n" for line, _ in lines)))
 
     def test_the_digits_of_a_line(self):

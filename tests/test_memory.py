@@ -25,6 +25,7 @@ REPLIES = [
 # Of bodies of so many bytes in packets of a length: where in the reply which packet begins, and the reply's length.
 LENGTHS = [
     (24, 27, 0, "packet 080113", 112), (24, 27, 56, "packet 140113", 112),
+    (24, 64, 0, "packet 080113740080001200020040", 4 * 56), (24, 64, 3 * 56, "packet 340112", 4 * 56),
     (24, 8_189, 0, "packet 080113740080001200021ffd", 432 * 56), (24, 8_189, 431 * 56, "packet 34010b", 432 * 56),
     (24, 8_190, 0, "refused 7 BodyTooLong\n", 22), (96, 80, 0, "packet cc015b", 200), (96, 8, 0, "packet 0c0113", 56),
     (96, 9, 0, "packet 4c0114", 104), (96, 32, 0, "packet 4c012b", 104), (96, 33, 0, "packet 8c012c", 152),
@@ -45,6 +46,9 @@ PLAYED = [
       332: "packet 100113", 388: "packet 200113", 444: "packet 340105", 500: "packet 08011376108000120005001c"}),
     (96, 1_024, "put a 2 3 - 0102030405\nturn\nturn\n", 354, True,
      {26: "packet 4c01277600", 130: "packet 1c01107400", 190: "packet 6c01277600", 294: "packet 3c01107400"}),
+    # A body of 64 bytes is one segment.
+    (24, 64, f"put a 2 3 - {'55' * 64}\nturn\n", 422, True,
+     {194: "packet 380113740080001200020040", 362: "packet 240112"}),
     # A body of 65 bytes: each of its groups has its own index, in both turns.
     (24, 64, f"put a 2 3 - {'55' * 65}\nturn\nturn\n", 930, True,
      {194: "packet 380113740000001200020040", 418: "packet 3c010c741080011200020001",
@@ -86,6 +90,13 @@ class Limits(Case):
         wanted = ("done object 512 directory 513\ncarousel 0 513 513 1\nobject 512 255 2 3 1 a -\n"
                   "done object 514 directory 515\ncarousel 0 515 515 1\nobject 514 0 2 3 1 a -\n")
         self.expect("versions", wanted, told[-len(wanted):])
+
+    def test_a_full_disk_of_one_object(self):
+        lines = b"put a 2 3 - 00\nreplace a 2 3 - 01\nwithdraw b\nput b 2 3 - 00\nlist\n"
+        wanted = (b"done object 2 directory 3\nrefused 12 NoRoom\nrefused 10 NoSuchName\nrefused 11 TooManyObjects\n"
+                  b"carousel 0 3 3 1\nobject 2 0 2 3 1 a -\n")
+        told = self.memory(lines, "--objects", 1, "--data", 1)
+        self.expect("an object of one byte, of which the data area holds one", (0, wanted, b""), told)
 
     def test_a_body_that_no_gap_holds(self):
         for size, wanted in ((65_536, b"done object 2 directory 3\n"), (65_537, b"refused 12 NoRoom\n")):

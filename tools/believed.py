@@ -29,11 +29,11 @@ PAGE = TOP / "docs" / "BELIEVE.md"
 # (all of them where none is named).
 PROMISES = [
     ("The headline", [
-        ("mot_server", "format_and_run", ""), ("mot_server", "first_turn", ""),
+        ("mot_playout", "format_and_run", ""), ("mot_playout", "first_turn", ""),
     ]),
     ("Acknowledged commands are stored", [
-        ("mot_session", "format_and_serve", ""), ("mot_server", "first_turn", ""),
-        ("mot_server", "format_and_open", "begins"), ("mot_session", "serve_and_restart", "in_a_row"),
+        ("mot_session", "format_and_serve", ""), ("mot_playout", "first_turn", ""),
+        ("mot_playout", "format_and_open", "begins"), ("mot_session", "serve_and_restart", "in_a_row"),
         ("mot_session", "serve_line_and_restart", "told"),
     ]),
     ("The disk's format", [
@@ -42,20 +42,24 @@ PROMISES = [
     ]),
     ("Sessions and playing", [
         ("mot_session", "serve", ""), ("mot_session", "serve_line", ""), ("mot_session", "told_laws", ""),
-        ("mot_session", "serve_and_restart", ""), ("mot_session", "serve_line_and_restart", ""), ("mot_server", "run_and_restart", ""), ("mot_server", "format_and_restart", ""),
+        ("mot_session", "serve_and_restart", ""), ("mot_session", "serve_line_and_restart", ""), ("mot_playout", "run_and_restart", ""), ("mot_playout", "format_and_restart", ""),
     ]),
     ("The program", [
-        ("mot_commands", "run_on", ""),
+        ("mot_commands", "run_command", ""),
     ]),
     ("On the air", [
         ("mot_update", "update_laws", ""), ("mot_update", "look", ""),
         ("mot_feed", "feed", ""), ("mot_feed", "feed_often", ""), ("mot_feed", "feed_every", ""), ("mot_folder", "look_at_folder", ""), ("mot_suffixes", "FileTypes::new", ""),
         ("mot_suffixes", "FileTypes::add", ""), ("mot_suffixes", "FileTypes::of_name", ""), ("mot_endpoints", "file_types", ""),
         ("mot_feed_lines", "answer_there", ""), ("mot_feed_lines", "Lines::new", ""), ("mot_feed_lines", "Lines::update", ""),
-        ("mot_air", "is_air", ""), ("mot_air", "run_air_on", ""), ("mot_air", "play_disk", ""),
+        ("mot_air", "is_air", ""), ("mot_air", "run_command", ""), ("mot_air", "play_disk", ""),
         ("mot_air", "play_and_answer", ""), ("mot_air", "sync_disk", ""), ("mot_export", "export_disk", ""), ("mot_export", "inspect_disk", ""),
     ]),
+    ("Any command", [
+        ("mot_server", "run_program_on", ""), ("mot_server", "run_program", ""),
+    ]),
     ("Files beside the disk", [
+        ("mot_devices", "use_of", ""), ("mot_devices", "signature_of", ""),
         ("mot_files", "read_file", ""), ("mot_files", "is_file", ""), ("mot_files", "write_all", ""), ("mot_files", "hold", ""),
         ("mot_files", "take_place", ""), ("mot_files", "replace", ""), ("mot_endpoints", "StatusFile::write", ""),
         ("mot_endpoints", "OpenPackets::take_place", ""), ("mot_endpoints", "OpenPackets::take_away", ""),
@@ -83,10 +87,11 @@ CITED_BY_NONE = [
     ("mot_feed/Sending", "SendsPacket", "private functions of `mot_feed`, and its proofs"),
     ("mot_events/Status", "label_byte", "private functions of `write_status`"),
     ("mot_events/Text", "line_of", "private functions of `EventLog`"),
-    ("mot_cli/Asked", "AskBy", "private functions of `mot_commands` and `mot_air`"),
     ("mot_folder/Log", "TellsAnswers TellsOf not_accepted waiting_in", "private functions of `look_at_folder`"),
     ("mot_feed_lines/Logged", "LogHas", "private functions of `answer_there`"),
     ("mot_endpoints/LineFiles", "refusal_of", "private functions of `Spool`"),
+    ("mot_status/Measured", "IsMeasured", "private functions of `Reporter`"),
+    ("mot_air/Telling", "EndsAs", "private functions of `mot_air::run_command`"),
     ("mot_update/HasRun", "commands_for", "a private function of `settle`"),
     ("mot_update/Looking", "unknown_names withdraw_all HasSettled", "private functions of `look`"),
 ]

@@ -142,8 +142,8 @@ def names_of_crates():
 def clauses():
     """The clauses on README's page stand in the code."""
     said = re.findall(r"```rust\n(    // .*?)```", (top / "README.md").read_text(), re.S)
-    code = (top / "crates/mot_server/src/life.rt").read_text()
-    wrong.extend("README.md has other clauses than crates/mot_server/src/life.rt" for it in said if it not in code)
+    code = (top / "crates/mot_playout/src/life.rt").read_text()
+    wrong.extend("README.md has other clauses than crates/mot_playout/src/life.rt" for it in said if it not in code)
     if not said:
         wrong.append("README.md shows no clause")
 

@@ -44,10 +44,10 @@ abbrev standing : ℕ → ℕ → ℕ → ℕ → ℕ → ℕ → ℕ → ℕ �
 standing objects segment address packet area period directory cursor list extents rest = record {
   geometry = record {
     objects = objects;
-    data_area = area;
-    segment_size = segment;
+    segment = segment;
     address = address;
-    packet_length = packet;
+    packet = packet;
+    area = area;
   };
   carousel = record { period = period; directory = directory; cursor = cursor; objects = list };
   extents = extents;
