@@ -1,8 +1,8 @@
 -- The definitions, computed on worked rows.
 use Rattle.std.proofs.Common.{◌≡◌, Some, None, refl}
 use Rattle.mot_numbers.specs.Geometry.{IsDefault}
-use Rattle.mot_cli.specs.Program.Options.{default_geometry, geometry_asked}
-use Rattle.mot_cli.specs.declared.program.options.Options.{Options}
+use Rattle.mot_cli.specs.Options.{default_geometry, geometry_asked}
+use Rattle.mot_cli.specs.declared.options.Options.{Options}
 
 default : IsDefault default_geometry
 default = refl

@@ -5,13 +5,13 @@ use Rattle.std.specs.Prelude.{IfNone, codes}
 use Rattle.clap.specs.Words.{Row, Text}
 use Rattle.mot_numbers.specs.declared.geometry.Geometry.{Geometry}
 use Rattle.mot_cli.specs.Given.{IsGiven}
-use Rattle.mot_cli.specs.Program.Options.{AreGiven, GiveDirectory, GiveGeometry}
-use Rattle.mot_cli.specs.Program.Options.{geometry_asked}
-use Rattle.mot_cli.specs.Program.Task.{IsTask}
-use Rattle.mot_cli.specs.declared.program.options.Options.{Options}
-use Rattle.mot_cli.specs.declared.program.task.Task.{Task}
-use Rattle.mot_cli.specs.declared.program.task.Task.TheVariants.{Memory, Format, Serve, Check}
-use Rattle.mot_cli.specs.declared.program.task.Task.TheVariants.{Migrate}
+use Rattle.mot_cli.specs.Options.{AreGiven, GiveDirectory, GiveGeometry}
+use Rattle.mot_cli.specs.Options.{geometry_asked}
+use Rattle.mot_cli.specs.Task.{IsTask}
+use Rattle.mot_cli.specs.declared.options.Options.{Options}
+use Rattle.mot_cli.specs.declared.task.Task.{Task}
+use Rattle.mot_cli.specs.declared.task.Task.TheVariants.{Memory, Format, Serve, Check, Migrate}
+use Rattle.mot_cli.specs.declared.task.Task.TheVariants.{Play, Sync, Export, Inspect}
 
 -- what holds anyhow holds where there is nothing
 pub IfNone-always : {T P : Type 0} (o : Option T) → P → IfNone o P
@@ -57,6 +57,14 @@ module _ (rows : List Row) (none : (g : Geometry) → GiveGeometry rows g → �
       clash 0 109 99 (codes "memory") (codes "check") refl refl (omega arith) (sym is ∙ t.0)
   memory_needs_geometry name is (Migrate path) t =
       clash 1 101 105 (codes "memory") (codes "migrate") refl refl (omega arith) (sym is ∙ t.0)
+  memory_needs_geometry name is (Play p) t =
+      clash 0 109 112 (codes "memory") (codes "play") refl refl (omega arith) (sym is ∙ t.0)
+  memory_needs_geometry name is (Sync disk folder types rules) t =
+      clash 0 109 115 (codes "memory") (codes "sync") refl refl (omega arith) (sym is ∙ t.0)
+  memory_needs_geometry name is (Export disk) t =
+      clash 0 109 101 (codes "memory") (codes "export") refl refl (omega arith) (sym is ∙ t.0)
+  memory_needs_geometry name is (Inspect disk rate) t =
+      clash 0 109 105 (codes "memory") (codes "inspect") refl refl (omega arith) (sym is ∙ t.0)
 
 module _ (rows : List Row)
     (none : (g : Geometry) (d : ℕ) → GiveGeometry rows g → GiveDirectory rows d → ⊥) where
@@ -72,3 +80,11 @@ module _ (rows : List Row)
       clash 0 102 99 (codes "format") (codes "check") refl refl (omega arith) (sym is ∙ t.0)
   format_needs_both name is (Migrate path) t =
       clash 0 102 109 (codes "format") (codes "migrate") refl refl (omega arith) (sym is ∙ t.0)
+  format_needs_both name is (Play p) t =
+      clash 0 102 112 (codes "format") (codes "play") refl refl (omega arith) (sym is ∙ t.0)
+  format_needs_both name is (Sync disk folder types rules) t =
+      clash 0 102 115 (codes "format") (codes "sync") refl refl (omega arith) (sym is ∙ t.0)
+  format_needs_both name is (Export disk) t =
+      clash 0 102 101 (codes "format") (codes "export") refl refl (omega arith) (sym is ∙ t.0)
+  format_needs_both name is (Inspect disk rate) t =
+      clash 0 102 105 (codes "format") (codes "inspect") refl refl (omega arith) (sym is ∙ t.0)

@@ -1,7 +1,8 @@
-pub mod Air
 pub mod Asked
 pub mod Command
 pub mod Given
 pub mod Inner
+pub mod Options
 pub mod Parts
-pub mod Program
+pub mod Task
+pub mod Whole

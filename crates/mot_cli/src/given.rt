@@ -1,5 +1,6 @@
 //! The words and numbers that were given.
-ghost use Rattle.std.specs.Prelude.{◌≡◌, ℕ, Option, IfNone, IfSome, codes};
+ghost use Rattle.std.specs.Prelude.{◌≡◌, ℕ, Option, IfNone, IfSome, codes, option_map};
+ghost use Rattle.std.specs.Borrow.{Bor};
 ghost use Rattle.clap.specs.Words.{Text, first_of, found_of, rows_of};
 ghost use Rattle.mot_cli.specs.Given.{IsGiven, NameWord, is_set};
 
@@ -48,4 +49,13 @@ pub fn has_levels(words: &ArgMatches<'_>) -> bool
     ensures { result ≡ is_set (rows_of (found_of words.now)) (codes "levels") }
 {
     is_set(words, "levels")
+}
+
+/// The word of an option, if it was given.
+#[tactic(auto, using(crate::proofs::Values::first_found))]
+pub(crate) fn option_of<'a>(words: &ArgMatches<'a>, name: &str) -> Option<&'a str>
+    ensures { option_map (λ (word : Bor Text). word.now) result
+        ≡ first_of name.now (rows_of (found_of words.now)) }
+{
+    words.get_str(name)
 }

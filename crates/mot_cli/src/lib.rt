@@ -1,13 +1,16 @@
 //! The words of the command line, and what they ask for.
 #![tactic(auto)]
 
-mod air;
 mod command;
 mod given;
+mod options;
 mod parts;
-mod program;
+mod playing;
+mod task;
+mod whole;
 
-pub use air::{AirTask, LookRules, PlayTask, air_task, is_whole};
 pub use command::motcar_matches;
 pub use given::has_levels;
-pub use program::{Options, Task, program_task};
+pub use options::Options;
+pub use playing::{LookRules, PlayTask};
+pub use task::{NoTask, Task, task_of};

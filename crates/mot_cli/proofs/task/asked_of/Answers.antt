@@ -1,6 +1,6 @@
 use Rattle.clap.specs.Words.{found_of, rows_of}
 use Rattle.mot_cli.proofs.Unasked.{IfNone-always, memory_needs_geometry}
-use Rattle.mot_cli.proofs.program.task.program_task.Goals as goal
+use Rattle.mot_cli.proofs.task.asked_of.Goals as goal
 
 pub returns-in_err-geometry_of-in-memory-clause-none :
     goal.returns-in_err-geometry_of-in-memory-clause-none

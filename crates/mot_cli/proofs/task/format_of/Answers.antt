@@ -2,7 +2,7 @@ use Rattle.std.proofs.Common.{refl}
 use Rattle.std.specs.Prelude.{codes}
 use Rattle.clap.specs.Words.{found_of, rows_of}
 use Rattle.mot_cli.proofs.Unasked.{IfNone-always, format_needs_both}
-use Rattle.mot_cli.proofs.program.task.format_of.Goals as goal
+use Rattle.mot_cli.proofs.task.format_of.Goals as goal
 
 pub returns-in_err-geometry_of-clause-none : goal.returns-in_err-geometry_of-clause-none
 returns-in_err-geometry_of-clause-none c = IfNone-always c.from_residual.result

@@ -6,7 +6,7 @@ use Rattle.mot_numbers.specs.Reading.{◌>>=◌}
 use Rattle.mot_numbers.specs.declared.geometry.Geometry.{Geometry}
 use Rattle.mot_objects.specs.Ids.{id_after}
 use Rattle.mot_cli.specs.Given.{IsGiven}
-use Rattle.mot_cli.specs.declared.program.options.Options.{Options}
+use Rattle.mot_cli.specs.declared.options.Options.{Options}
 
 -- these are the numbers that the words give
 pub record AreGiven (rows : List Row) (o : Options) : Type 0 where

@@ -1,6 +1,6 @@
 use Rattle.std.proofs.Common.{rules}
-use Rattle.mot_cli.specs.Program.Options.{geometry_asked}
-use Rattle.mot_cli.proofs.program.options.Options.geometry.Goals as goal
+use Rattle.mot_cli.specs.Options.{geometry_asked}
+use Rattle.mot_cli.proofs.options.Options.geometry.Goals as goal
 
 pub returns-in_err-field : goal.returns-in_err-field
 unfolding geometry_asked

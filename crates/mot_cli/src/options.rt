@@ -2,8 +2,8 @@
 ghost use Rattle.std.specs.Prelude.{ℕ, ◌≡◌, IfNone, IfSome};
 ghost use Rattle.clap.specs.Words.{found_of, rows_of};
 ghost use Rattle.mot_numbers.specs.declared.geometry.Geometry.{Geometry};
-ghost use Rattle.mot_cli.specs.Program.Options.{AreGiven, GiveDirectory, GiveGeometry, field_in};
-ghost use Rattle.mot_cli.specs.declared.program.options.Options.{Options};
+ghost use Rattle.mot_cli.specs.Options.{AreGiven, GiveDirectory, GiveGeometry, field_in};
+ghost use Rattle.mot_cli.specs.declared.options.Options.{Options};
 
 use crate::given::number_of;
 use clap::ArgMatches;
@@ -25,7 +25,7 @@ pub struct Options {
 }
 
 impl Options {
-    ghost use Rattle.mot_cli.specs.Program.Options.{geometry_asked};
+    ghost use Rattle.mot_cli.specs.Options.{geometry_asked};
 
     /// The geometry of these numbers, with the default for each that is not given; `None` if one
     /// does not fit its field.

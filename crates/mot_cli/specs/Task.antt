@@ -1,0 +1,86 @@
+-- The tasks of the commands.
+use Rattle.std.specs.Prelude.{ℕ, ◌≡◌, ◌⊎◌, ◌%◌, ◌&&◌, ◌||◌, ◌==◌, nat_le, Bool, true, false, List}
+use Rattle.std.specs.Prelude.{Option, Some, None, bytes_eq, codes, if◌then◌else◌, option_map}
+use Rattle.std.specs.Borrow.{Bor}
+use Rattle.clap.specs.Words.{Row, Text, first_of, subcommand_of}
+use Rattle.mot_cli.specs.Asked.{AreWrong}
+use Rattle.mot_cli.specs.Command.{motcar_app}
+use Rattle.mot_cli.specs.Given.{IsGiven, NameWord, is_set}
+use Rattle.mot_cli.specs.Options.{GiveDirectory, GiveGeometry}
+use Rattle.mot_cli.specs.Whole.{is_whole}
+use Rattle.mot_cli.specs.declared.playing.LookRules.{LookRules}
+use Rattle.mot_cli.specs.declared.task.NoTask.{NoTask}
+use Rattle.mot_cli.specs.declared.task.NoTask.TheVariants.{Lacks, OutOfRange}
+use Rattle.mot_cli.specs.declared.task.Task.{Task}
+use Rattle.mot_cli.specs.declared.task.Task.TheVariants.{Memory, Format, Serve, Check, Migrate}
+use Rattle.mot_cli.specs.declared.task.Task.TheVariants.{Play, Sync, Export, Inspect}
+use Rattle.mot_numbers.specs.declared.refusal.Refusal.{Refusal}
+use Rattle.mot_numbers.specs.declared.refusal.Refusal.TheVariants.{BadGeometry, BadNumber}
+
+-- this word was given for an option, or none was
+abbrev pub NameOption : List Row → Text → Option (Bor Text) → Type 0
+NameOption rows name word =
+    option_map (λ (word : Bor Text). word.now) word ≡ first_of name rows
+
+-- how a folder is looked at is said by two flags
+abbrev pub AreRules : List Row → LookRules → Type 0
+AreRules rows rules =
+    (rules.allow_empty ≡ is_set rows (codes "allow-empty"))
+    × (rules.at_once ≡ is_set rows (codes "at-once"))
+
+-- a sub-channel has this rate in kbit/s, if one is given (EN 300 401, clause 6.2.1: 864 capacity
+-- units, and at best 15 of them for each 32 kbit/s)
+abbrev pub is_rate : Option ℕ → Bool
+is_rate None = true
+is_rate (Some rate) = nat_le 8 rate && nat_le rate 1824 && rate % 8 == 0
+
+-- a command of this name, with these words behind it, is this task
+abbrev pub IsTask : Text → List Row → Task → Type 0
+IsTask name rows (Memory geometry) = (name ≡ codes "memory") × GiveGeometry rows geometry
+IsTask name rows (Format path geometry directory) =
+    (name ≡ codes "format") × NameWord rows (codes "DISK") path.now × GiveGeometry rows geometry
+    × GiveDirectory rows directory
+IsTask name rows (Serve path) = (name ≡ codes "serve") × NameWord rows (codes "DISK") path.now
+IsTask name rows (Check path) = (name ≡ codes "check") × NameWord rows (codes "DISK") path.now
+IsTask name rows (Migrate path) = (name ≡ codes "migrate") × NameWord rows (codes "DISK") path.now
+IsTask name rows (Play p) =
+    (name ≡ codes "play") × NameWord rows (codes "DISK") p.disk.now
+    × NameWord rows (codes "PACKETS") p.packets.now
+    × NameOption rows (codes "folder") p.folder × NameOption rows (codes "types") p.types
+    × AreRules rows p.rules × NameOption rows (codes "lines") p.lines
+    × IsGiven (first_of (codes "every") rows) p.every
+    × IsGiven (first_of (codes "turns") rows) p.turns
+    × IsGiven (first_of (codes "directory") rows) p.directory
+    × IsGiven (first_of (codes "look") rows) p.look
+    × NameOption rows (codes "status") p.status × (p.levels ≡ is_set rows (codes "levels"))
+    × (is_whole rows ≡ true)
+IsTask name rows (Sync disk folder types rules) =
+    (name ≡ codes "sync") × NameWord rows (codes "DISK") disk.now
+    × NameWord rows (codes "DIR") folder.now × NameOption rows (codes "types") types
+    × AreRules rows rules
+IsTask name rows (Export disk) = (name ≡ codes "export") × NameWord rows (codes "DISK") disk.now
+IsTask name rows (Inspect disk rate) =
+    (name ≡ codes "inspect") × NameWord rows (codes "DISK") disk.now
+    × IsGiven (first_of (codes "rate") rows) rate × (is_rate rate ≡ true)
+
+-- the refusal of a number that no task of a command of this name takes: of the sizes of a disk, or
+-- of another one
+abbrev pub bad_number : Text → Refusal
+bad_number name =
+    if bytes_eq name (codes "memory") || bytes_eq name (codes "format") then BadGeometry
+    else BadNumber
+
+-- why a command of this name, with these words behind it, is no task
+abbrev pub IsWhy : Text → List Row → NoTask → Type 0
+IsWhy name rows (Lacks option) = (name ≡ codes "play") × (is_whole rows ≡ false)
+IsWhy name rows (OutOfRange r) =
+    (r ≡ bad_number name) × (name ≡ codes "play" → is_whole rows ≡ true)
+
+-- the words name `play`, and give an option without the other of which it says more
+abbrev pub LackOption : List Text → Type 0
+LackOption words = (rows : List Row) × (subcommand_of motcar_app words ≡ Some (codes "play", rows))
+    × (is_whole rows ≡ false)
+
+-- a word is wrong, or none names a command; or the words lack an option
+abbrev pub AskForNothing : List Text → Type 0
+AskForNothing words = AreWrong motcar_app words ⊎ LackOption words

@@ -1,0 +1,129 @@
+//! What the commands on air are asked for.
+ghost use Rattle.std.specs.Prelude.{◌≡◌, IfNone, IfSome, codes};
+ghost use Rattle.clap.specs.Words.{found_of, rows_of};
+ghost use Rattle.mot_cli.specs.Given.{NameWord};
+ghost use Rattle.mot_cli.specs.Task.{AreRules, IsTask, is_rate};
+ghost use Rattle.mot_cli.specs.declared.task.Task.{Task};
+
+use crate::given::{is_set, number_of, option_of, word_of};
+use crate::task::Task;
+use crate::whole::is_whole;
+use clap::ArgMatches;
+
+/// How a folder is looked at.
+#[derive(Clone, Copy)]
+pub struct LookRules {
+    /// Whether all objects are withdrawn if the folder has none.
+    pub allow_empty: bool,
+    /// Whether files are taken that were changed less than two seconds ago.
+    pub at_once: bool,
+}
+
+/// What is played, and into what.
+#[derive(Clone, Copy)]
+pub struct PlayTask<'a> {
+    /// The path of the disk's file.
+    pub disk: &'a str,
+    /// The place of the packets: the path of a pipe, a device or a file, or `-`.
+    pub packets: &'a str,
+    /// The path of the folder that the carousel is made equal to, if one is given.
+    pub folder: Option<&'a str>,
+    /// The path of the file that adds suffixes, if one is given.
+    pub types: Option<&'a str>,
+    /// How the folder is looked at.
+    pub rules: LookRules,
+    /// The path of the folder whose files are answered as lines, if one is given.
+    pub lines: Option<&'a str>,
+    /// After how many packets lines are read; 8, if no number is given.
+    pub every: Option<u32>,
+    /// How many whole turns. If no number is given: without end, and into no file.
+    pub turns: Option<u32>,
+    /// After how many packets the directory is sent again; 0: at each turn's beginning alone. If no
+    /// number is given: 340 without end, and else 0.
+    pub directory: Option<u32>,
+    /// After how many packets of a turn the folder is looked at; 0: between turns alone. If no
+    /// number is given: 700 without end, and else 0.
+    pub look: Option<u32>,
+    /// The path of the file that the status is written to, if one is given.
+    pub status: Option<&'a str>,
+    /// Whether lines of the log begin with their level.
+    pub levels: bool,
+}
+
+/// The task of the command `play` on this disk.
+pub(crate) fn play_of<'a>(disk: &'a str, words: &ArgMatches<'a>) -> Option<Task<'a>>
+    ensures some { IfSome result (λ task.
+        NameWord (rows_of (found_of words.now)) (codes "DISK") disk.now
+        → IsTask (codes "play") (rows_of (found_of words.now)) task) }
+    ensures none { IfNone result ((task : Task)
+        → IsTask (codes "play") (rows_of (found_of words.now)) task → ⊥) }
+{
+    if !is_whole(words) {
+        return None;
+    }
+    Some(Task::Play(PlayTask {
+        disk,
+        packets: word_of(words, "PACKETS")?,
+        folder: option_of(words, "folder"),
+        types: option_of(words, "types"),
+        rules: rules_of(words),
+        lines: option_of(words, "lines"),
+        every: number_of(words, "every")?,
+        turns: number_of(words, "turns")?,
+        directory: number_of(words, "directory")?,
+        look: number_of(words, "look")?,
+        status: option_of(words, "status"),
+        levels: is_set(words, "levels"),
+    }))
+}
+
+/// The task of the command `sync` on this disk.
+pub(crate) fn sync_of<'a>(disk: &'a str, words: &ArgMatches<'a>) -> Option<Task<'a>>
+    ensures some { IfSome result (λ task.
+        NameWord (rows_of (found_of words.now)) (codes "DISK") disk.now
+        → IsTask (codes "sync") (rows_of (found_of words.now)) task) }
+    ensures none { IfNone result ((task : Task)
+        → IsTask (codes "sync") (rows_of (found_of words.now)) task → ⊥) }
+{
+    Some(Task::Sync {
+        disk,
+        folder: word_of(words, "DIR")?,
+        types: option_of(words, "types"),
+        rules: rules_of(words),
+    })
+}
+
+/// How the folder of a command is looked at.
+fn rules_of(words: &ArgMatches<'_>) -> LookRules
+    ensures { AreRules (rows_of (found_of words.now)) result }
+{
+    LookRules {
+        allow_empty: is_set(words, "allow-empty"),
+        at_once: is_set(words, "at-once"),
+    }
+}
+
+/// The task of the command `inspect` on this disk.
+pub(crate) fn inspect_of<'a>(disk: &'a str, words: &ArgMatches<'a>) -> Option<Task<'a>>
+    ensures some { IfSome result (λ task.
+        NameWord (rows_of (found_of words.now)) (codes "DISK") disk.now
+        → IsTask (codes "inspect") (rows_of (found_of words.now)) task) }
+    ensures none { IfNone result ((task : Task)
+        → IsTask (codes "inspect") (rows_of (found_of words.now)) task → ⊥) }
+{
+    let rate = number_of(words, "rate")?;
+    if !is_rate(rate) {
+        return None;
+    }
+    Some(Task::Inspect { disk, rate })
+}
+
+/// Whether a sub-channel has this rate in kbit/s, if one is given: a multiple of 8, at most 1,824.
+fn is_rate(rate: Option<u32>) -> bool
+    ensures { result ≡ is_rate rate }
+{
+    match rate {
+        Some(rate) => rate >= 8 && rate <= 1_824 && rate % 8 == 0,
+        None => true,
+    }
+}

@@ -1,0 +1,141 @@
+//! What the words of the command line ask for.
+ghost use Rattle.std.specs.Prelude.{◌≢◌, IfErr, IfNone, IfOk, IfSome, codes};
+ghost use Rattle.clap.specs.Words.{found_of, rows_of};
+ghost use Rattle.mot_cli.specs.Given.{NameWord};
+ghost use Rattle.mot_cli.specs.Task.{IsTask, IsWhy};
+ghost use Rattle.mot_cli.specs.declared.task.Task.{Task};
+
+use crate::given::word_of;
+use crate::options::{directory_of, geometry_of};
+use crate::playing::{LookRules, PlayTask, inspect_of, play_of, sync_of};
+use crate::whole::{is_whole, missing_option};
+use clap::ArgMatches;
+use mot_numbers::{Geometry, Refusal, TransportId};
+
+/// What the program is to do.
+#[derive(Clone, Copy)]
+pub enum Task<'a> {
+    /// Serve a carousel in memory.
+    Memory(Geometry),
+    /// Make a disk of the file at this path.
+    Format {
+        /// The file's path.
+        path: &'a str,
+        /// The sizes of the disk.
+        geometry: Geometry,
+        /// The transport id of the new directory, after which all later ones are taken.
+        directory: TransportId,
+    },
+    /// Serve the disk of the file at this path.
+    Serve(&'a str),
+    /// Tell what the disk of the file at this path keeps.
+    Check(&'a str),
+    /// Rewrite the disk of the file at this path into layout 2.
+    Migrate(&'a str),
+    /// Play a disk.
+    Play(PlayTask<'a>),
+    /// Make the carousel of a disk equal to a folder.
+    Sync {
+        /// The path of the disk's file.
+        disk: &'a str,
+        /// The path of the folder.
+        folder: &'a str,
+        /// The path of the file that adds suffixes, if one is given.
+        types: Option<&'a str>,
+        /// How the folder is looked at.
+        rules: LookRules,
+    },
+    /// Print the carousel of the disk of the file at this path.
+    Export(&'a str),
+    /// Print the sizes of a disk.
+    Inspect {
+        /// The path of the disk's file.
+        disk: &'a str,
+        /// The rate in kbit/s at which its turn is timed; if none is given, the usual ones.
+        rate: Option<u32>,
+    },
+}
+
+/// Why words ask for no task.
+#[derive(Clone, Copy)]
+pub enum NoTask {
+    /// An option is given without this one, of which it says more.
+    Lacks(&'static str),
+    /// A number is out of its range: `BadGeometry` of the sizes of a disk, else `BadNumber`.
+    OutOfRange(Refusal),
+}
+
+/// The task of a command and the words after it. There is none if a number does not fit its field,
+/// no sub-channel has the rate, or an option is given without the one of which it says more.
+pub fn task_of<'a>(name: &str, words: &ArgMatches<'a>) -> Result<Task<'a>, NoTask>
+    ensures some { IfOk result (IsTask name.now (rows_of (found_of words.now))) }
+    ensures none { IfErr result (λ why. (task : Task)
+        → IsTask name.now (rows_of (found_of words.now)) task → ⊥) }
+    ensures why { IfErr result (IsWhy name.now (rows_of (found_of words.now))) }
+{
+    match asked_of(name, words) {
+        Some(task) => Ok(task),
+        None => Err(why_none(name, words)),
+    }
+}
+
+/// Why words that ask for no task ask for none.
+fn why_none(name: &str, words: &ArgMatches<'_>) -> NoTask
+    ensures { IsWhy name.now (rows_of (found_of words.now)) result }
+{
+    if name == "play" && !is_whole(words) {
+        return NoTask::Lacks(missing_option(words));
+    }
+    if name == "memory" || name == "format" {
+        return NoTask::OutOfRange(Refusal::BadGeometry);
+    }
+    NoTask::OutOfRange(Refusal::BadNumber)
+}
+
+/// The task of a command and the words after it, if they ask for one.
+fn asked_of<'a>(name: &str, words: &ArgMatches<'a>) -> Option<Task<'a>>
+    ensures some { IfSome result (IsTask name.now (rows_of (found_of words.now))) }
+    ensures none { IfNone result ((task : Task)
+        → IsTask name.now (rows_of (found_of words.now)) task → ⊥) }
+{
+    match name {
+        "memory" => Some(Task::Memory(geometry_of(words)?)),
+        _ => disk_task(name, word_of(words, "DISK")?, words),
+    }
+}
+
+/// The task of a command on this disk.
+fn disk_task<'a>(name: &str, disk: &'a str, words: &ArgMatches<'a>) -> Option<Task<'a>>
+    ensures some { IfSome result (λ task.
+        NameWord (rows_of (found_of words.now)) (codes "DISK") disk.now
+        → IsTask name.now (rows_of (found_of words.now)) task) }
+    ensures none { IfNone result ((task : Task) → name.now ≢ codes "memory"
+        → IsTask name.now (rows_of (found_of words.now)) task → ⊥) }
+{
+    match name {
+        "format" => format_of(disk, words),
+        "serve" => Some(Task::Serve(disk)),
+        "check" => Some(Task::Check(disk)),
+        "migrate" => Some(Task::Migrate(disk)),
+        "play" => play_of(disk, words),
+        "sync" => sync_of(disk, words),
+        "export" => Some(Task::Export(disk)),
+        "inspect" => inspect_of(disk, words),
+        _ => None,
+    }
+}
+
+/// The task of the command `format` on this disk.
+fn format_of<'a>(path: &'a str, words: &ArgMatches<'a>) -> Option<Task<'a>>
+    ensures some { IfSome result (λ task.
+        NameWord (rows_of (found_of words.now)) (codes "DISK") path.now
+        → IsTask (codes "format") (rows_of (found_of words.now)) task) }
+    ensures none { IfNone result ((task : Task)
+        → IsTask (codes "format") (rows_of (found_of words.now)) task → ⊥) }
+{
+    Some(Task::Format {
+        path,
+        geometry: geometry_of(words)?,
+        directory: directory_of(words)?,
+    })
+}
