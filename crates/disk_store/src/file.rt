@@ -6,7 +6,6 @@ ghost use Rattle.disk_store.specs.Calls.{content_after};
 mod begun;
 mod calls;
 mod fault;
-mod files;
 mod opening;
 mod start;
 mod system;
@@ -14,11 +13,11 @@ mod system;
 use crate::call_count::CallCount;
 pub use begun::{Beginning, BegunFile, WasMade, WasThere, make_file, open_file};
 pub use fault::OpenFault;
-pub use files::{DiskFiles, SystemFiles};
 pub use opening::Unopened;
 pub use start::{Start, Unknown};
 use std::marker::PhantomData;
 use system::HeldFile;
+pub use system::SideFile;
 
 /// A regular file or a block device, as long as it was when it was opened. A lock that other
 /// programs may ignore keeps it from being opened so a second time.

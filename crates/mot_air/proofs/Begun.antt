@@ -1,12 +1,12 @@
 -- What the result of a task says that came of another one.
-use Rattle.std.proofs.Common.{◌≡◌, ℕ, Bool, true, false, List, Option, Some, None, Result, Ok, Err}
+use Rattle.std.proofs.Common.{◌≡◌, ℕ, Bool, false, List, Option, Some, None, Result, Ok, Err}
 use Rattle.std.proofs.Common.{inl, inr, refl, subst, sym}
+use Rattle.std.proofs.KnownBytes.{Keeps-refl}
 use Rattle.std.specs.Prelude.{MatchResult}
 use Rattle.std.specs.Result.{result_unwrap_or}
 use Rattle.disk_store.specs.declared.file.start.Start.{Ghosts}
-use Rattle.mot_air.specs.Inner.Concluded.{Concludes, ConcludesTask}
-use Rattle.mot_air.specs.Program.{Ends, IsBeginningRefusal}
-use Rattle.mot_cli.specs.declared.air.task.AirTask.{AirTask}
+use Rattle.mot_air.specs.Commands.{Concludes}
+use Rattle.mot_air.specs.Inner.Unbegun.{IsUnbegun}
 use Rattle.mot_numbers.specs.declared.refusal.Refusal.{Refusal}
 use Rattle.mot_outcome.specs.declared.used.UsedDisk.{UsedDisk}
 use Rattle.mot_playout.specs.Attempts.{fault_of}
@@ -37,20 +37,6 @@ concludes IsEarly IsEnded used old new all (Ok done) result is p =
 concludes IsEarly IsEnded used old new all (Err e) result is p =
     subst (λ (r : Result Bool Refusal). Concludes IsEarly IsEnded r used old new) (sym is) (inr p)
 
--- the same of a task that, if none ended it, is done whole
-pub concludes_whole : {S : Type 0} {start : Ghosts S} (IsEarly : Refusal → Type 0)
-    (IsEnded : Option Refusal → Type 0) (used : UsedDisk S start) (old new : Option (List ℕ))
-    (ended : Result Unit Refusal) (result : Result Bool Refusal)
-    → MatchResult ended (λ _. result ≡ Ok true) (λ r. result ≡ Err r) → IsEnded (fault_of ended)
-    → Concludes IsEarly (λ all ending. (ending ≡ None → all ≡ true) × IsEnded ending) result used
-    old new
-concludes_whole IsEarly IsEnded used old new (Ok done) result is p = subst (λ (r : Result Bool
-    Refusal). Concludes IsEarly (λ all ending. (ending ≡ None → all ≡ true) × IsEnded ending) r used
-    old new) (sym is) (λ none. refl, p)
-concludes_whole IsEarly IsEnded used old new (Err e) result is p = subst (λ (r : Result Bool
-    Refusal). Concludes IsEarly (λ all ending. (ending ≡ None → all ≡ true) × IsEnded ending) r used
-    old new) (sym is) (inr (λ none. absurd cc, p))
-
 -- the same of a result that tells both
 pub concludes_so : {S : Type 0} {start : Ghosts S} (IsEarly : Refusal → Type 0)
     (IsEnded : Bool → Option Refusal → Type 0) (used : UsedDisk S start)
@@ -60,16 +46,24 @@ pub concludes_so : {S : Type 0} {start : Ghosts S} (IsEarly : Refusal → Type 0
 concludes_so IsEarly IsEnded used old new (Ok all) p = p
 concludes_so IsEarly IsEnded used old new (Err r) p = inr p
 
--- what the result of a part of a task says is what the task's says
-pub concludes_task : {S : Type 0} {start : Ghosts S} (task : AirTask) (IsEarly : Refusal → Type 0)
-    (IsEnded : Bool → Option Refusal → Type 0) (used : UsedDisk S start)
+-- what the result of a part says is what that of the whole says
+pub concludes_more : {S : Type 0} {start : Ghosts S} (IsEarly IsFirst : Refusal → Type 0)
+    (IsEnded IsDone : Bool → Option Refusal → Type 0) (used : UsedDisk S start)
     (old new : Option (List ℕ)) (result : Result Bool Refusal)
-    → ((r : Refusal) → IsEarly r → IsBeginningRefusal task r)
-    → ((all : Bool) (ending : Option Refusal) → IsEnded all ending
-    → Ends task all ending used None None old new)
-    → Concludes IsEarly IsEnded result used old new → ConcludesTask task result used old new
-concludes_task task IsEarly IsEnded used old new (Ok all) early ended p = ended all None p
-concludes_task task IsEarly IsEnded used old new (Err r) early ended (inl p) =
+    → ((r : Refusal) → IsEarly r → IsFirst r)
+    → ((all : Bool) (ending : Option Refusal) → IsEnded all ending → IsDone all ending)
+    → Concludes IsEarly IsEnded result used old new → Concludes IsFirst IsDone result used old new
+concludes_more IsEarly IsFirst IsEnded IsDone used old new (Ok all) early ended p = ended all None p
+concludes_more IsEarly IsFirst IsEnded IsDone used old new (Err r) early ended (inl p) =
     inl (early r p.0, p.1)
-concludes_task task IsEarly IsEnded used old new (Err r) early ended (inr p) =
+concludes_more IsEarly IsFirst IsEnded IsDone used old new (Err r) early ended (inr p) =
     inr (ended false (Some r) p)
+
+-- what was not begun
+pub unbegun_so : {S : Type 0} {start : Ghosts S} (IsEarly : Refusal → Type 0)
+    (IsEnded : Bool → Option Refusal → Type 0) (result : Result Bool Refusal)
+    (used : UsedDisk S start) (log : Option (List ℕ)) → IsUnbegun IsEarly result used
+    → Concludes IsEarly IsEnded result used log log
+unbegun_so IsEarly IsEnded result used log is =
+    subst (λ (r : Result Bool Refusal). Concludes IsEarly IsEnded r used log log) (sym is.refused)
+    (inl (is.early, record { untouched = is.untouched; silent = Keeps-refl log }))

@@ -1,5 +1,5 @@
 -- How the beginning and the end of playing are told.
-use Rattle.std.proofs.Common.{◌≡◌, ◌∙◌, ℕ, Bool, false, List, [], None, Option, Result, Ok, Err}
+use Rattle.std.proofs.Common.{◌≡◌, ◌∙◌, ℕ, Bool, false, List, [], None, Result, Ok, Err}
 use Rattle.std.proofs.Common.{IsTrue, ap, refl}
 use Rattle.std.specs.Prelude.{◌≢◌, ◌↔◌, is_ok}
 use Rattle.mot_air.specs.Telling.{EndsTelling, no_looks}

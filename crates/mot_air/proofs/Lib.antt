@@ -6,3 +6,4 @@ pub mod Played
 pub mod Retold
 pub mod Synced
 pub mod Used
+pub mod Written

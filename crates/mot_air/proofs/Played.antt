@@ -6,7 +6,7 @@ use Rattle.std.proofs.lemmas.Bool.Decides.{nat_tests}
 use Rattle.disk_model.proofs.Laws.{keeps_on}
 use Rattle.disk_model.specs.Disk.{State, IsHonestDisk, KeepsLength, OnlySyncs}
 use Rattle.mot_air.specs.Playing.{HasAired, Manner, Plays, Tale, look_of_feed, tale_of}
-use Rattle.mot_air.specs.Program.{PlaysInto}
+use Rattle.mot_air.specs.Commands.{PlaysInto}
 use Rattle.mot_air.proofs.Opened.{ends_off, opened_leaves}
 use Rattle.mot_endpoints.specs.declared.packets.Target.{Target}
 use Rattle.mot_feed.specs.Feeding.{AreOf, AreTold, Event, FedPacketsAreContinuous}

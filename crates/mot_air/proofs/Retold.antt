@@ -3,6 +3,8 @@ use Rattle.std.proofs.Common.{◌≡◌, ◌∙◌, ℕ, Bool, false, List, [], 
 use Rattle.std.proofs.Common.{refl, subst, sym}
 use Rattle.disk_model.specs.Disk.{State}
 use Rattle.mot_air.specs.Playing.{HasAired, Manner, Plays, Tale, look_of_feed, tale_of}
+use Rattle.mot_air.specs.Inner.Beside.{Beside, beside, tells_alone_of, tells_answered}
+use Rattle.mot_air.specs.Inner.Beside.{tells_lines_of, tells_reported}
 use Rattle.mot_air.specs.Inner.Fed.{IsEndOf, disk_of, ending_of}
 use Rattle.mot_air.specs.declared.playing.Fed.{Fed}
 use Rattle.mot_air.specs.Telling.{Same, Sources, first_sources, no_looks, tale_told, tale_with}
@@ -13,6 +15,8 @@ use Rattle.mot_events.proofs.Laws.{hears_as}
 use Rattle.mot_feed_lines.specs.Answering.{TellsBetween, TellsInTurn, TellsOnTime, TellsRead}
 use Rattle.mot_feed_lines.specs.Answering.{late_behind}
 use Rattle.mot_feed_lines.specs.Answering.TellsBetween.{other_alone, then_lines}
+use Rattle.mot_feed_lines.specs.declared.lines.Lines.{Lines}
+use Rattle.mot_feed_lines.specs.declared.reported.Reported.{Reported}
 use Rattle.mot_folder.specs.Looked.{LooksSoFar, TellsLooks, TellsWatch, Watch}
 use Rattle.mot_export.specs.declared.ended.Ended.{Ended}
 use Rattle.mot_outcome.specs.declared.used.Inputs.{Inputs}
@@ -210,6 +214,19 @@ module _ {W : Type 0} (view : W → TellerView) (same : Same) where
             }),
       )
 
+  -- calls between which so many come
+  in_turn : (between : ℕ) {other : W → Telling} {then_other : TellerView → Telling}
+      {P : Type 0} {left then_left : ℕ} {hand then_hand : List ℕ} {earlier later : List (List ℕ)}
+      {c : Carousel} {commands : List Command} {marks : List Bool} {fault : Option Refusal} {at : W}
+      → ((told : W) (commands : List Command) (marks : List Bool) (fault : Option Refusal)
+      → other told c commands marks fault → P × then_other (view told) c commands marks fault)
+      → TellsInTurn HearsSo between left then_left hand then_hand earlier later other at c commands
+      marks fault
+      → P × TellsInTurn (HearsAll Hears Misses) between left then_left hand then_hand earlier later
+      then_other (view at) c commands marks fault
+  in_turn between {commands = commands} {marks = marks} {fault = fault} on tells =
+      let one = between_on on commands marks fault tells.1 in (one.0, (tells.0, one.1))
+
   -- calls that go on keep how many come between two that read
   on_time : {other : W → Telling} {then_other : TellerView → Telling} {P : Type 0}
       {between now then left then_left : ℕ} {hand then_hand : List ℕ}
@@ -236,138 +253,181 @@ module _ {W : Type 0} (view : W → TellerView) (same : Same) where
         ),
       )
 
-begins : (looks : LooksSoFar) (late : ℕ) (lines : List (List ℕ)) (hand other : List ℕ)
-    (t : TellerView) → looks ≡ no_looks → late ≡ 0 → lines ≡ [] → hand ≡ other
-    → record { looks = looks; late = late; lines = lines; hand = hand; teller = t }
-    ≡ first_sources other t
-begins looks late lines hand other t none due unread same =
-    ap (λ (l : LooksSoFar).
-    record { looks = l; late = late; lines = lines; hand = hand; teller = t }) none
-    ∙ ap (λ n. record { looks = no_looks; late = n; lines = lines; hand = hand; teller = t }) due
-    ∙ ap (λ l. record { looks = no_looks; late = 0; lines = l; hand = hand; teller = t }) unread
-    ∙ ap (λ h. first_sources h t) same
+-- ---- any update, of what stands beside the disk
 
-module _ {U W : Type 0} (view : W → TellerView) (same : Same) (watch : U → W) (how : Manner)
-    (first last : U) (given : Inputs) where
+begins : {U : Type 0} (update so : U) (late : ℕ) (lines : List (List ℕ)) (hand kept : List ℕ)
+    (teller t : TellerView) → update ≡ so → late ≡ 0 → lines ≡ [] → hand ≡ kept → teller ≡ t
+    → record { update = update; late = late; lines = lines; hand = hand; teller = teller }
+    ≡ beside so kept t
+begins {U} update so late lines hand kept teller t is due unread same starts =
+    ap (λ (u : U). record { update = u; late = late; lines = lines; hand = hand; teller = teller }) is
+    ∙ ap (λ n. record { update = so; late = n; lines = lines; hand = hand; teller = teller }) due
+    ∙ ap (λ l. record { update = so; late = 0; lines = l; hand = hand; teller = teller }) unread
+    ∙ ap (λ h. beside so h teller) same
+    ∙ ap (beside so kept) starts
+
+module _ {U W : Type 0} (view : W → TellerView) (same : Same) (known : U → LooksKnown)
+    (tells : U → U → Moment → Telling) (how : Manner) where
+  -- an update that is watched
+  pub reported_retold : (first last : Reported U W) (update : U) {t : TellerView}
+      → view first.watch ≡ t → update ≡ last.update
+      → Retells
+      (tale_of (tells_reported (Begins view same) (Ends view same) known tells) how first last)
+      (tale_of (tells_alone_of same known tells) how (beside first.update [] t)
+      (beside update [] (view last.watch)))
+  reported_retold first last update starts is limit c stage events commands marks made told =
+      let see : Reported U W → Beside U = λ r. beside r.update [] (view r.watch) in
+      let one = told_as (tells_alone_of same known tells) see (λ r. Unit {0})
+      (λ u v moment found these so_marked fault stays tale.
+      watched_on view same {P = Unit {0}} (λ them so_answered broken one. (tt, one))
+      these so_marked fault tale) tt stage events commands marks last made told in
+      subst (λ (b : Beside U). AreTold (tells_alone_of same known tells) (look_of_feed how) limit b c
+      stage events commands marks (beside update [] (view last.watch)) made)
+      (ap (beside first.update []) starts)
+      (subst (λ (u : U). AreTold (tells_alone_of same known tells) (look_of_feed how) limit
+      (see first) c stage events commands marks (beside u [] (view last.watch)) made) (sym is) one.1)
+
+-- lines, and the update behind which they are answered
+abbrev pub seen : {R U W : Type 0} → Lines R U W → (W → TellerView) → (R → List (List ℕ)) → Beside U
+seen l view gave = record {
+  update = l.reported.update;
+  late = l.left;
+  lines = gave l.reader;
+  hand = l.intake.hand;
+  teller = view l.reported.watch;
+}
+
+module _ {R U W : Type 0} (first last : Lines R U W) (view : W → TellerView)
+    (gave : R → List (List ℕ)) where
+  pub answered_retold : (same : Same) (known : U → LooksKnown) (tells : U → U → Moment → Telling)
+      (how : Manner) (between : ℕ) (update : U) (hand : List ℕ)
+      {t : TellerView} → first.between ≡ between → first.left ≡ 0 → gave first.reader ≡ []
+      → first.intake.hand ≡ hand → first.reported.update ≡ update
+      → view first.reported.watch ≡ t
+      → Retells
+      (tale_of (tells_answered (HearsSo view same) (Begins view same) (Ends view same) gave known
+      tells) how first last)
+      (tale_of (tells_lines_of same between known tells) how (beside update hand t)
+      (seen last view gave))
+  answered_retold same known tells how between update hand {t} apart due unread kept is
+      starts limit c stage events commands marks made told =
+      let one = told_as (tells_lines_of same between known tells) (λ l. seen l view gave)
+      (λ l. l.between ≡ between) (λ u v moment found these so_marked fault stays tale.
+      let one = on_time view same {P = Unit {0}} (λ told them so_answered broken one.
+      watched_on view same {P = Unit {0}} (λ those so_marked up one. (tt, one))
+      them so_answered broken one) stays tale in one.1)
+      apart stage events commands marks last made told in
+      subst (λ (b : Beside U). AreTold (tells_lines_of same between known tells) (look_of_feed how)
+      limit b c stage events commands marks (seen last view gave) made)
+      (begins first.reported.update update first.left (gave first.reader) first.intake.hand hand
+      (view first.reported.watch) t is due unread kept starts) one.1
+
+module _ {U : Type 0} (same : Same) (how : Manner) (given : Inputs) (update : U)
+    (last : Beside U) where
   module _ (at : U → Watch) (looks : U → LooksSoFar) (w : Watch) (refused : Bool)
-      (begun : at first ≡ w) (none : looks first ≡ no_looks)
-      (looked : (looks last).given ≡ given.looks.all)
-      (any : (looks last).refused ≡ refused) where
+      (begun : at update ≡ w) (none : looks update ≡ no_looks)
+      (looked : (looks last.update).given ≡ given.looks.all)
+      (any : (looks last.update).refused ≡ refused) where
+    -- what is seen of looks
+    abbrev of_looks : Beside U → Sources
+    of_looks b = record {
+      looks = looks b.update;
+      late = b.late;
+      lines = b.lines;
+      hand = b.hand;
+      teller = b.teller;
+    }
+
+    begin_so : (hand : List ℕ) (t : TellerView)
+        → of_looks (beside update hand t) ≡ first_sources hand t
+    begin_so hand t = ap (λ (l : LooksSoFar).
+        record { looks = l; late = 0; lines = []; hand = hand; teller = t }) none
+
     -- looks alone
-    pub looks_retold : {t : TellerView} → view (watch first) ≡ t → given.lines.notes.all ≡ []
-        → Retells
-        (tale_of (λ u v moment. TellsWatched (Begins view same) (Ends view same) (watch u)
-        (looks v).known (watch v) moment (TellsWatch (at u) (at v) moment (looks u) (looks v))) how
-        first last)
-        (tale_told same (Some w) None how given refused t (view (watch last)))
-    looks_retold starts unread limit c stage events commands marks made told =
-        let see : U → Sources = λ u.
-        record { looks = looks u; late = 0; lines = []; hand = []; teller = view (watch u) } in
-        let is = told_as (tells_alone same (Some w)) see (λ u. at u ≡ w)
-        (λ u v moment found commands marks fault stays tells.
-        watched_on view same (λ these so_marked broken one.
-        watch_on w (at u) (at v) moment (looks u) (looks v) found these so_marked broken stays one)
-        commands marks fault tells) begun stage events commands marks last made told in (
-          see last,
+    pub looks_retold : {t : TellerView} → given.lines.notes.all ≡ [] → Retells
+        (tale_of (tells_alone_of same (λ u. (looks u).known)
+        (λ u v moment. TellsWatch (at u) (at v) moment (looks u) (looks v))) how
+        (beside update [] t) last)
+        (tale_told same (Some w) None how given refused t last.teller)
+    looks_retold {t} unread limit c stage events commands marks made told =
+        let is = told_as (tells_alone same (Some w)) of_looks (λ b. at b.update ≡ w)
+        (λ u v moment found these so_marked fault stays tale.
+        watched_on (λ t. t) same (λ them so_answered broken one.
+        watch_on w (at u.update) (at v.update) moment (looks u.update) (looks v.update) found them
+        so_answered broken stays one) these so_marked fault tale)
+        begun stage events commands marks last made told in (
+          of_looks last,
           record { looks = looked; any = any; teller = refl },
           unread,
           subst (λ (b : Sources). AreTold (tells_alone same (Some w)) (look_of_feed how) limit b c
-              stage events commands marks (see last) made)
-              (begins (looks first) 0 [] [] [] (view (watch first)) none refl refl refl
-              ∙ ap (first_sources []) starts) is.1,
+              stage events commands marks (of_looks last) made) (begin_so [] t) is.1,
         )
 
     -- looks and lines
-    pub lines_retold : (gap late : U → ℕ) (hand : U → List ℕ) (read : U → List (List ℕ))
-        (between : ℕ) (held : List ℕ) {t : TellerView} → view (watch first) ≡ t
-        → gap first ≡ between → late first ≡ 0 → hand first ≡ held
-        → read first ≡ [] → read last ≡ given.lines.notes.all
-        → Retells
-        (tale_of (λ u v moment. TellsOnTime (HearsSo view same) (gap u) (gap v) (late u) (late v)
-        (hand u) (hand v) (read u) (read v) (λ told. TellsWatched (Begins view same)
-        (Ends view same) (watch u) (looks v).known told moment
-        (TellsWatch (at u) (at v) moment (looks u) (looks v))) (watch v)) how first last)
-        (tale_told same (Some w) (Some (held, between)) how given refused t (view (watch last)))
-    lines_retold gap late hand read between held starts apart soon kept unread heard limit c stage events
-        commands marks made told =
-        let see : U → Sources = λ u. record {
-          looks = looks u;
-          late = late u;
-          lines = read u;
-          hand = hand u;
-          teller = view (watch u);
-        } in
-        let is = told_as (tells_lines same between (Some w)) see
-        (λ u. (at u ≡ w) × (gap u ≡ between))
-        (λ u v moment found commands marks fault stays tells.
-        let one = on_time view same (λ told these so_marked broken one.
-        watched_on view same (λ them so_answered up one.
-        watch_on w (at u) (at v) moment (looks u) (looks v) found them so_answered up stays.0 one)
-        these so_marked broken one) stays.1 tells in
-        ((one.0, one.1.0), one.1.1)) (begun, apart) stage events commands marks last made told in (
-          see last,
+    pub lines_retold : (between : ℕ) (hand : List ℕ) {t : TellerView}
+        → last.lines ≡ given.lines.notes.all → Retells
+        (tale_of (tells_lines_of same between (λ u. (looks u).known)
+        (λ u v moment. TellsWatch (at u) (at v) moment (looks u) (looks v))) how
+        (beside update hand t) last)
+        (tale_told same (Some w) (Some (hand, between)) how given refused t last.teller)
+    lines_retold between hand {t} heard limit c stage events commands marks made told =
+        let is = told_as (tells_lines same between (Some w)) of_looks (λ b. at b.update ≡ w)
+        (λ u v moment found these so_marked fault stays tale.
+        in_turn (λ t. t) same between (λ told them so_answered broken one.
+        watched_on (λ t. t) same (λ those so_accepted up one.
+        watch_on w (at u.update) (at v.update) moment (looks u.update) (looks v.update) found those
+        so_accepted up stays one) them so_answered broken one) tale)
+        begun stage events commands marks last made told in (
+          of_looks last,
           record { looks = looked; any = any; teller = refl },
           heard,
           subst (λ (b : Sources). AreTold (tells_lines same between (Some w)) (look_of_feed how)
-              limit b c stage events commands marks (see last) made)
-              (begins (looks first) (late first) (read first) (hand first) held
-              (view (watch first)) none soon unread kept ∙ ap (first_sources held) starts) is.1,
+              limit b c stage events commands marks (of_looks last) made) (begin_so hand t) is.1,
         )
 
-  module _ (unlooked : given.looks.all ≡ []) where
+  module _ (unlooked : given.looks.all ≡ []) {refused : Bool} (fine : false ≡ refused) where
+    -- what is seen where there are no looks
+    abbrev of_none : Beside U → Sources
+    of_none b = record {
+      looks = no_looks;
+      late = b.late;
+      lines = b.lines;
+      hand = b.hand;
+      teller = b.teller;
+    }
+
     -- no looks
-    pub none_retold : {t : TellerView} {refused : Bool} → view (watch first) ≡ t
-        → false ≡ refused → given.lines.notes.all ≡ [] → Retells
-        (tale_of (λ u v moment. TellsWatched (Begins view same) (Ends view same) (watch u)
-        no_looks.known (watch v) moment (λ c commands marks fault. commands ≡ [])) how first last)
-        (tale_told same None None how given refused t (view (watch last)))
-    none_retold starts fine unread limit c stage events commands marks made told =
-        let is = told_as (tells_alone same None)
-        (λ (u : U). first_sources [] (view (watch u))) (λ u. Unit {0})
-        (λ u v moment found commands marks fault stays tells.
-        watched_on view same {P = Unit {0}} (λ these so_marked broken one. (tt, (refl, one)))
-        commands marks fault tells) tt stage events commands marks last made told in (
-          first_sources [] (view (watch last)),
+    pub none_retold : {t : TellerView} → given.lines.notes.all ≡ [] → Retells
+        (tale_of (tells_alone_of same (λ u. no_looks.known)
+        (λ u v moment c commands marks fault. commands ≡ [])) how (beside update [] t) last)
+        (tale_told same None None how given refused t last.teller)
+    none_retold unread limit c stage events commands marks made told =
+        let is = told_as (tells_alone same None) of_none (λ b. Unit {0})
+        (λ u v moment found these so_marked fault stays tale.
+        watched_on (λ t. t) same {P = Unit {0}} (λ them so_answered broken one. (tt, (refl, one)))
+        these so_marked fault tale) tt stage events commands marks last made told in (
+          of_none last,
           record { looks = sym unlooked; any = fine; teller = refl },
           unread,
-          subst (λ (b : Sources). AreTold (tells_alone same None) (look_of_feed how) limit b c stage
-              events commands marks (first_sources [] (view (watch last))) made)
-              (ap (first_sources []) starts) is.1,
+          is.1,
         )
 
     -- lines alone
-    pub lines_alone : (gap late : U → ℕ) (hand : U → List ℕ) (read : U → List (List ℕ))
-        (between : ℕ) (held : List ℕ) {t : TellerView} {refused : Bool} → view (watch first) ≡ t
-        → false ≡ refused → gap first ≡ between → late first ≡ 0 → hand first ≡ held
-        → read first ≡ [] → read last ≡ given.lines.notes.all
-        → Retells
-        (tale_of (λ u v moment. TellsOnTime (HearsSo view same) (gap u) (gap v) (late u) (late v)
-        (hand u) (hand v) (read u) (read v) (λ told. TellsWatched (Begins view same)
-        (Ends view same) (watch u) no_looks.known told moment
-        (λ c commands marks fault. commands ≡ [])) (watch v)) how first last)
-        (tale_told same None (Some (held, between)) how given refused t (view (watch last)))
-    lines_alone gap late hand read between held starts fine apart soon kept unread heard limit c stage events
-        commands marks made told =
-        let see : U → Sources = λ u. record {
-          looks = no_looks;
-          late = late u;
-          lines = read u;
-          hand = hand u;
-          teller = view (watch u);
-        } in
-        let is = told_as (tells_lines same between None) see (λ u. gap u ≡ between)
-        (λ u v moment found commands marks fault stays tells.
-        let one = on_time view same {P = Unit {0}} (λ told these so_marked broken one.
-        watched_on view same {P = Unit {0}} (λ them so_answered up one. (tt, (refl, one)))
-        these so_marked broken one) stays tells in
-        one.1) apart stage events commands marks last made told in (
-          see last,
+    pub lines_alone : (between : ℕ) (hand : List ℕ) {t : TellerView}
+        → last.lines ≡ given.lines.notes.all → Retells
+        (tale_of (tells_lines_of same between (λ u. no_looks.known)
+        (λ u v moment c commands marks fault. commands ≡ [])) how (beside update hand t) last)
+        (tale_told same None (Some (hand, between)) how given refused t last.teller)
+    lines_alone between hand heard limit c stage events commands marks made told =
+        let is = told_as (tells_lines same between None) of_none (λ b. Unit {0})
+        (λ u v moment found these so_marked fault stays tale.
+        in_turn (λ t. t) same between {P = Unit {0}} (λ told them so_answered broken one.
+        watched_on (λ t. t) same {P = Unit {0}} (λ those so_accepted up one. (tt, (refl, one)))
+        them so_answered broken one) tale) tt stage events commands marks last made told in (
+          of_none last,
           record { looks = sym unlooked; any = fine; teller = refl },
           heard,
-          subst (λ (b : Sources). AreTold (tells_lines same between None) (look_of_feed how) limit b
-              c stage events commands marks (see last) made)
-              (begins no_looks (late first) (read first) (hand first) held (view (watch first))
-              refl soon unread kept ∙ ap (first_sources held) starts) is.1,
+          is.1,
         )
 
 -- playing is told of the end that is handed out
@@ -390,15 +450,22 @@ fed_out state tale how before after start fed ended is plays =
     (subst (λ f. Plays tale how f before after start (state (disk_of fed))) (sym is.ending) plays)
 
 -- the log that is handed out has what was told
-pub told_out : {D L : Type 0} (contents : L → Option (List ℕ)) (fed : Fed D)
-    (ended out : Ended D Unit) (log handed : L)
-    (Tells : Option Refusal → Option (List ℕ) → Type 0) → IsEndOf fed ended → out ≡ ended
+pub told_out : {D L : Type 0} (contents : L → Option (List ℕ)) (fed : Fed D) (ended : Ended D Unit)
+    (log handed : L) (Tells : Option Refusal → Option (List ℕ) → Type 0) → IsEndOf fed ended
     → handed ≡ log → Tells (ending_of fed) (contents log)
+    → Tells (fault_of ended.result) (contents handed)
+told_out contents fed ended log handed Tells is given told =
+    subst (λ f. Tells f (contents handed)) (sym is.ending)
+    (subst (λ l. Tells (ending_of fed) (contents l)) (sym given) told)
+
+-- and so of an end that is handed out
+pub ended_out : {D L : Type 0} (contents : L → Option (List ℕ)) (ended out : Ended D Unit)
+    (log handed : L) (Tells : Option Refusal → Option (List ℕ) → Type 0) → out ≡ ended
+    → handed ≡ log → Tells (fault_of ended.result) (contents log)
     → Tells (fault_of out.result) (contents handed)
-told_out contents fed ended out log handed Tells is same given told =
+ended_out contents ended out log handed Tells same given told =
     subst (λ (e : Ended _ Unit). Tells (fault_of e.result) (contents handed)) (sym same)
-    (subst (λ f. Tells f (contents handed)) (sym is.ending)
-    (subst (λ l. Tells (ending_of fed) (contents l)) (sym given) told))
+    (subst (λ l. Tells (fault_of ended.result) (contents l)) (sym given) told)
 
 -- whoever tells, it is so
 pub whoever : (same : Same) (w : Option Watch) (reads : Option (List ℕ × ℕ)) (how : Manner)

@@ -1,17 +1,13 @@
 -- What was opened, one after the other.
-use Rattle.std.proofs.Common.{◌≡◌, ◌∙◌, List, [], ◌∷◌, ◌++◌, ap, append-nil, append_assoc, refl}
+use Rattle.std.proofs.Common.{◌≡◌, ◌∙◌, List, [], ◌∷◌, ◌++◌, ap, append_assoc}
 use Rattle.std.proofs.Common.{sym}
 use Rattle.std.specs.Prelude.{codes}
 use Rattle.clap.specs.Words.{Text}
 use Rattle.disk_store.specs.declared.file.start.Start.{Ghosts}
-use Rattle.mot_air.specs.Program.{Opens}
 use Rattle.mot_endpoints.specs.Opened.{BeginsTo}
+use Rattle.mot_outcome.specs.Outcome.{IsUntouched, Opens}
 use Rattle.mot_outcome.specs.declared.used.UsedDisk.{UsedDisk}
 use Rattle.mot_outcome.specs.declared.used.UsedDisk.TheVariants.{InMemory, OfFile, Untouched}
-
--- nothing is a beginning
-pub none_begun : (others before : List (Text × Text)) → BeginsTo others before before
-none_begun others before = ([], others, refl, sym (append-nil before))
 
 -- a beginning of what comes first is one of all
 pub begun_first : (first others before after : List (Text × Text)) → BeginsTo first before after
@@ -51,3 +47,11 @@ opened_after first others path (Untouched value) before mid after came is =
 opened_after first others path (InMemory disk value) before mid after came is = is
 opened_after first others path (OfFile disk beside) before mid after came is =
     opened_whole first others ((codes "disk", path) ∷ []) before mid after came is
+
+-- where no disk was used, a beginning was opened
+pub opened_none : {S : Type 0} {start : Ghosts S} (others : List (Text × Text)) (path : Text)
+    (used : UsedDisk S start) (before after : List (Text × Text)) → IsUntouched used
+    → BeginsTo others before after → Opens others path used before after
+opened_none others path (Untouched value) before after untouched begins = begins
+opened_none others path (InMemory disk value) before after untouched begins = absurd untouched
+opened_none others path (OfFile disk beside) before after untouched begins = absurd untouched

@@ -1,3 +1,4 @@
-pub mod Concluded
+pub mod Beside
 pub mod Fed
 pub mod Looked
+pub mod Unbegun

@@ -3,17 +3,17 @@
 #![tactic(auto)]
 
 mod answered;
+mod commands;
 mod lives;
 mod missing;
 mod on_air;
 mod playing;
-mod program;
 
+pub use commands::{export_file, inspect_file, play, sync};
 pub use lives::{keep_done, open_done};
-pub use mot_cli::{AirTask as Task, PlayTask};
-pub use mot_endpoints::{LineFolder, Station, Target};
+pub use mot_cli::PlayTask;
+pub use mot_endpoints::{Host, LineFolder, Target};
 pub use mot_export::Ended;
 pub use mot_outcome::{Exit, UsedDisk};
 pub use mot_status::Telling;
 pub use playing::{Aired, Followed, play_and_answer, play_disk, play_with, sync_disk};
-pub use program::{is_air, run_command};

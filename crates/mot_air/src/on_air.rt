@@ -1,13 +1,18 @@
 //! Playing the disk of a file into what a path names.
-ghost use Rattle.std.specs.Prelude.{◌≡◌, ◌≢◌, ◌⊎◌, ◌-◌, [], ◌∷◌, true, Some, None, Err, Ok, codes};
-ghost use Rattle.std.specs.Prelude.{option_map, unwrap_or};
+ghost use Rattle.std.specs.Prelude.{◌≡◌, ◌≢◌, ◌⊎◌, ◌-◌, [], ◌∷◌, false, true, Some, None, Err, Ok, codes};
+ghost use Rattle.std.specs.Prelude.{◌++◌, IfErr, IfOk, List, MatchResult, option_map, unwrap_or};
 ghost use Rattle.std.specs.Io.KnownBytes.{Keeps};
+ghost use Rattle.clap.specs.Words.{Text};
+ghost use Rattle.disk_store.specs.Beginning.{IsFirst};
 ghost use Rattle.mot_air.specs.Directory.{directory_of, look_of};
-ghost use Rattle.mot_air.specs.Inner.Concluded.{Concludes};
+ghost use Rattle.mot_air.specs.Commands.{Concludes};
+ghost use Rattle.mot_air.specs.Inner.Unbegun.{IsUnbegun};
 ghost use Rattle.mot_air.specs.Playing.{Plays};
-ghost use Rattle.mot_air.specs.Program.{Opens, PlaysInto, PlaysTo, is_all_done, played_as};
+ghost use Rattle.mot_air.specs.Commands.{PlaysInto, PlaysTo, is_all_done, played_as};
+ghost use Rattle.mot_outcome.specs.Outcome.{Opens};
 ghost use Rattle.mot_air.specs.Telling.{EndsAs, tale_told, tale_with, watch_in, watched};
-ghost use Rattle.mot_endpoints.specs.Packets.{begun_of, target_of};
+ghost use Rattle.mot_endpoints.specs.Opened.{BeginsTo};
+ghost use Rattle.mot_endpoints.specs.Packets.{IsTarget, begun_of, target_of};
 ghost use Rattle.mot_numbers.specs.declared.refusal.Refusal.TheVariants.{DeviceFault, WriteFault};
 ghost use Rattle.mot_playout.specs.Attempts.{fault_of};
 ghost use Rattle.mot_status.specs.Teller.{TellerView, starts};
@@ -17,15 +22,15 @@ use crate::answered::answered;
 use crate::missing::folder_cause;
 use crate::playing::{Aired, Followed, play_and_answer, play_disk};
 use disk_model::Disk;
-use disk_store::Start;
+use disk_store::{BegunFile, Start, WasThere};
 use mot_cli::PlayTask;
-use mot_endpoints::{Cause, LineFolder, OpenPackets, Station, StatusFile, Taken, Target};
+use mot_endpoints::{Cause, LineFolder, OpenPackets, Host, StatusFile, Taken, Target};
 use mot_events::LookEvent;
-use mot_files::System;
+use mot_files::{HostSystem, System};
 use mot_numbers::Refusal;
 use mot_outcome::{Beside, Finished, Inputs};
 use mot_packets::Outlet;
-use mot_shelf::Shelf;
+use mot_shelf::{Shelf, SystemShelf};
 use mot_status::Telling;
 use std::alloc::Global;
 use std::io::{self, Write};
@@ -62,36 +67,90 @@ struct Played<D: Disk> {
 
 /// Plays the disk of the file that the words name into what they name for packets. The log goes to
 /// `writer`, and to `errors` if the packets go to `writer`.
-pub(crate) fn play_file<'a, B: Start, F: Shelf + Drop, Y: System + Drop, W: Write, E: Write>(
-    station: &mut Station<'a>,
+pub(crate) fn play_file<'a, B: Start, Y: System + Drop, W: Write, E: Write>(
+    host: &mut Host<'a>,
     alloc: Global,
-    airing: Airing<'a, '_, F, Y>,
+    airing: Airing<'a, '_, SystemShelf<'a, Y>, Y>,
     start: B,
     writer: &mut W,
     errors: &mut E,
 ) -> Finished<B, bool>
     ensures ended { Concludes (λ r. (r ≡ DeviceFault) ⊎ (r ≡ WriteFault)) (λ all ending.
         let how = played_as airing.entry.task in PlaysTo airing.entry.task
-        (tale_with (watched airing.entry.folder (λ followed. watch_in how (F.path followed.shelf)
+        (tale_with (watched airing.entry.folder (λ followed. watch_in how followed.shelf.path.now
         followed.types.now followed.allows_empty followed.every))
         (option_map (λ lines. (lines.hand, lines.every - 1)) airing.entry.lines) how)
         all ending (W.contents writer.old) (W.contents writer.new) result.disk)
         result.result result.disk (W.contents writer.old) (W.contents writer.new) }
     ensures opens { Opens ((codes "packets", airing.entry.task.packets.now) ∷ [])
-        airing.entry.task.disk.now result.disk station.old.opened.all station.new.opened.all }
+        airing.entry.task.disk.now result.disk host.old.paths.all host.new.paths.all }
 {
-    let PlayTask { disk, packets, .. } = airing.task;
-    let mut opened = match station.packets(packets, disk, airing.task.turns) {
+    match open_both(host, airing.task, start) {
+        Ok((opened, disk)) => play_both(alloc, disk, opened, airing, writer, errors),
+        Err(unbegun) => unbegun,
+    }
+}
+
+/// Opens what the words name for packets, and then the disk. If that is not opened, a new file is
+/// taken away again.
+fn open_both<'a, B: Start>(
+    host: &mut Host<'a>,
+    task: PlayTask<'a>,
+    start: B,
+) -> Result<
+    (
+        OpenPackets<'a, HostSystem<'a, HostRuntime>>,
+        BegunFile<B, WasThere>,
+    ),
+    Finished<B, bool>,
+>
+    ensures target { IfOk result (λ both. IsTarget task.entry.packets.now (target_of both.0)) }
+    ensures begun { IfOk result (λ both. begun_of both.0 ≡ task.entry.packets.now ∷ []) }
+    ensures first { IfOk result (λ both. IsFirst false both.1.disk) }
+    ensures refused { IfErr result (λ unbegun. IsUnbegun
+        (λ r. (r ≡ DeviceFault) ⊎ (r ≡ WriteFault)) unbegun.result unbegun.disk) }
+    ensures opens { MatchResult result
+        (λ _. host.new.paths.all ≡ host.old.paths.all
+        ++ (codes "packets", task.entry.packets.now) ∷ (codes "disk", task.entry.disk.now) ∷ [])
+        (λ _. BeginsTo ((codes "packets", task.entry.packets.now) ∷ [])
+        host.old.paths.all host.new.paths.all) }
+{
+    let mut opened = match host.packets(task.packets, task.disk, task.turns) {
         Ok(opened) => opened,
-        Err(cause) => return Finished::unbegun(Refusal::WriteFault, Some(cause), start),
+        Err(cause) => return Err(Finished::unbegun(Refusal::WriteFault, Some(cause), start)),
     };
-    let disk = match station.disk(disk, start) {
-        Ok(disk) => disk,
+    match host.disk(task.disk, start) {
+        Ok(disk) => Ok((opened, disk)),
         Err(unopened) => {
             opened.take_away();
-            return Finished::unopened(unopened);
+            Err(Finished::unopened(unopened))
         }
-    };
+    }
+}
+
+/// Plays the disk of a file into what was opened for packets. (It is a function of its own since a
+/// proof at any system of files is shorter than one at the program's.)
+fn play_both<B: Start, P: System + Drop, F: Shelf + Drop, Y: System + Drop, W: Write, E: Write>(
+    alloc: Global,
+    disk: BegunFile<B, WasThere>,
+    opened: OpenPackets<'_, P>,
+    airing: Airing<'_, '_, F, Y>,
+    writer: &mut W,
+    errors: &mut E,
+) -> Finished<B, bool>
+    ensures ended { IsTarget airing.entry.task.packets.now (target_of opened.entry)
+        → begun_of opened.entry ≡ airing.entry.task.packets.now ∷ [] → IsFirst false disk.disk
+        → Concludes (λ r. (r ≡ DeviceFault) ⊎ (r ≡ WriteFault)) (λ all ending.
+        let how = played_as airing.entry.task in PlaysTo airing.entry.task
+        (tale_with (watched airing.entry.folder (λ followed. watch_in how (F.path followed.shelf)
+        followed.types.now followed.allows_empty followed.every))
+        (option_map (λ lines. (lines.hand, lines.every - 1)) airing.entry.lines) how)
+        all ending (W.contents writer.old) (W.contents writer.new) result.disk)
+        result.result result.disk (W.contents writer.old) (W.contents writer.new) }
+    ensures opens { (path : Text) (others before after : List (Text × Text))
+        → after ≡ before ++ (others ++ (codes "disk", path) ∷ [])
+        → Opens others path result.disk before after }
+{
     let target = opened.target();
     let Played {
         ended,

@@ -8,6 +8,8 @@ ghost use Rattle.mot_air.specs.Lives.{AirsOn, KeepsDone};
 ghost use Rattle.mot_air.specs.Playing.{Plays, manner, tale_of};
 ghost use Rattle.mot_air.specs.Syncing.{Syncs};
 ghost use Rattle.mot_air.specs.Telling.{EndsLines, EndsTelling, no_looks, tale_told, watch_in, watched};
+ghost use Rattle.mot_air.specs.Inner.Beside.{Beside, beside, tells_alone_of, tells_answered, tells_lines_of};
+ghost use Rattle.mot_air.specs.Inner.Beside.{tells_reported};
 ghost use Rattle.mot_air.specs.Inner.Fed.{IsEndOf, disk_of, ending_of};
 ghost use Rattle.mot_air.specs.Inner.Looked.{LooksAndTells};
 ghost use Rattle.mot_endpoints.specs.Spooling.{Finishes};
@@ -40,7 +42,7 @@ use mot_outcome::Inputs;
 use mot_packets::Outlet;
 use mot_playout::Server;
 use mot_reason::{Explained, open_server};
-use mot_shelf::{LookNotes, Shelf};
+use mot_shelf::{Inlet, LookNotes, Shelf};
 use mot_status::{Reporter, Telling};
 use mot_update::{Facts, NoUpdate, Update, Watch};
 use std::alloc::Global;
@@ -146,23 +148,20 @@ pub fn play_disk<S: Shelf + Drop, F: System + Drop, D: Disk, O: Outlet, L: Write
         (D.state disk) (D.state result.ended.disk)
         × EndsTelling (fault_of result.ended.result) turns last (L.contents result.log) }
 {
-    let watch = Reporter::new(alloc, log, telling);
     match folder {
         Some(followed) => {
             let update = looks_at(alloc, followed, directory, look);
-            let mut looks = Reported { update, watch };
-            let fed = feed_disk(alloc, disk, &mut looks, outlet, turns, directory, look);
-            let ended = end_telling(alloc, fed, turns, &mut looks);
-            let (looks, watch) = looks.into_parts();
-            Aired::looking(ended, watch.into_log(), looks, LineNotes::new())
+            let (ended, looks, log) = play_telling(
+                alloc, disk, update, outlet, telling, log, turns, directory, look,
+            );
+            Aired::looking(ended, log, looks, LineNotes::new())
         }
         None => {
             let update = NoUpdate;
-            let mut none = Reported { update, watch };
-            let fed = feed_disk(alloc, disk, &mut none, outlet, turns, directory, look);
-            let ended = end_telling(alloc, fed, turns, &mut none);
-            let (_, watch) = none.into_parts();
-            Aired::unwatched(ended, watch.into_log(), LineNotes::new())
+            let (ended, _, log) = play_telling(
+                alloc, disk, update, outlet, telling, log, turns, directory, look,
+            );
+            Aired::unwatched(ended, log, LineNotes::new())
         }
     }
 }
@@ -194,25 +193,119 @@ pub fn play_and_answer<S: Shelf + Drop, F: System + Drop, D: Disk, O: Outlet, L:
         (D.state disk) (D.state result.ended.disk)
         × EndsLines (fault_of result.ended.result) turns last (L.contents result.log) }
 {
-    let watch = Reporter::new(alloc, log, telling);
     match folder {
         Some(followed) => {
             let update = looks_at(alloc, followed, directory, look);
-            let mut lines = lines_between(alloc, lines, Reported { update, watch });
-            let fed = feed_disk(alloc, disk, &mut lines, outlet, turns, directory, look);
-            let ended = end_lines(alloc, fed, turns, &mut lines);
-            let (spool, looks, watch) = lines.into_parts();
-            Aired::looking(ended, watch.into_log(), looks, spool.into_lines())
+            let (ended, looks, log, lines) = play_answering(
+                alloc, disk, update, outlet, lines, telling, log, turns, directory, look,
+            );
+            Aired::looking(ended, log, looks, lines)
         }
         None => {
             let update = NoUpdate;
-            let mut lines = lines_between(alloc, lines, Reported { update, watch });
-            let fed = feed_disk(alloc, disk, &mut lines, outlet, turns, directory, look);
-            let ended = end_lines(alloc, fed, turns, &mut lines);
-            let (spool, _, watch) = lines.into_parts();
-            Aired::unwatched(ended, watch.into_log(), spool.into_lines())
+            let (ended, _, log, lines) = play_answering(
+                alloc, disk, update, outlet, lines, telling, log, turns, directory, look,
+            );
+            Aired::unwatched(ended, log, lines)
         }
     }
+}
+
+/// Opens the disk and plays it into the outlet with these updates, and tells of them and of the
+/// end. The updates and the log are handed out. (Each layer of updates has a function of its own,
+/// since the proof of a call at a type of several layers takes minutes.)
+fn play_telling<D: Disk, U: Update + Facts + Drop, F: System + Drop, O: Outlet, L: Write + Drop>(
+    alloc: Global,
+    disk: D,
+    update: U,
+    outlet: &mut O,
+    telling: Telling<'_, F>,
+    log: L,
+    turns: u64,
+    directory: u32,
+    look: u32,
+) -> (Ended<D, ()>, U, L)
+    ensures { let how = manner directory look turns in
+        let same = ⟦<LookEvent as PartialEq>⟧.eq in
+        (last : TellerView) × Plays (tale_of (tells_alone_of same U.known U.tells) how
+        (beside update [] (starts F.calls (L.contents log) telling.entry))
+        (beside result.1 [] last)) how (fault_of result.0.result) (O.writes outlet.old)
+        (O.writes outlet.new) (D.state disk) (D.state result.0.disk)
+        × EndsTelling (fault_of result.0.result) turns last (L.contents result.2) }
+{
+    let watch = Reporter::new(alloc, log, telling);
+    let mut reported = Reported { update, watch };
+    let fed = feed_reported(alloc, disk, &mut reported, outlet, turns, directory, look);
+    let ended = end_telling(alloc, fed, turns, &mut reported);
+    let (update, watch) = reported.into_parts();
+    (ended, update, watch.into_log())
+}
+
+/// Opens the disk and feeds it into the outlet with updates that are watched.
+fn feed_reported<D: Disk, U: Update + Facts + Drop, T: Watch + Drop, O: Outlet>(
+    alloc: Global,
+    disk: D,
+    reported: &mut Reported<U, T>,
+    outlet: &mut O,
+    turns: u64,
+    directory: u32,
+    look: u32,
+) -> Fed<D>
+    ensures { let how = manner directory look turns in
+        Plays (tale_of (tells_reported T.begins T.ends U.known U.tells) how
+        reported.old reported.new) how (ending_of result)
+        (O.writes outlet.old) (O.writes outlet.new) (D.state disk) (D.state (disk_of result)) }
+{
+    feed_disk(alloc, disk, reported, outlet, turns, directory, look)
+}
+
+/// The same as `play_telling`, with answers to the lines of the files in a folder. What was read of
+/// them is handed out, too.
+fn play_answering<D: Disk, U: Update + Facts + Drop, F: System + Drop, O: Outlet, L: Write + Drop>(
+    alloc: Global,
+    disk: D,
+    update: U,
+    outlet: &mut O,
+    lines: LineFolder<'_, F>,
+    telling: Telling<'_, F>,
+    log: L,
+    turns: u64,
+    directory: u32,
+    look: u32,
+) -> (Ended<D, ()>, U, L, LineNotes)
+    ensures { let how = manner directory look turns in
+        let same = ⟦<LookEvent as PartialEq>⟧.eq in
+        (last : Beside U) × (last.update ≡ result.1) × (last.lines ≡ result.3.notes.all)
+        × Plays (tale_of (tells_lines_of same (lines.entry.every - 1) U.known U.tells) how
+        (beside update lines.entry.hand (starts F.calls (L.contents log) telling.entry))
+        last) how (fault_of result.0.result) (O.writes outlet.old)
+        (O.writes outlet.new) (D.state disk) (D.state result.0.disk)
+        × EndsLines (fault_of result.0.result) turns last.teller (L.contents result.2) }
+{
+    let watch = Reporter::new(alloc, log, telling);
+    let mut lines = lines_between(alloc, lines, Reported { update, watch });
+    let fed = feed_lines(alloc, disk, &mut lines, outlet, turns, directory, look);
+    let ended = end_lines(alloc, fed, turns, &mut lines);
+    let (spool, update, watch) = lines.into_parts();
+    (ended, update, watch.into_log(), spool.into_lines())
+}
+
+/// Opens the disk and feeds it into the outlet with lines behind updates that are watched.
+fn feed_lines<D: Disk, R: Inlet + Drop, U: Update + Facts + Drop, T: Watch + Drop, O: Outlet>(
+    alloc: Global,
+    disk: D,
+    lines: &mut Lines<R, U, T>,
+    outlet: &mut O,
+    turns: u64,
+    directory: u32,
+    look: u32,
+) -> Fed<D>
+    ensures { let how = manner directory look turns in
+        Plays (tale_of (tells_answered (HearsAll T.hears T.misses) T.begins T.ends R.gave U.known
+        U.tells) how lines.old lines.new) how (ending_of result)
+        (O.writes outlet.old) (O.writes outlet.new) (D.state disk) (D.state (disk_of result)) }
+{
+    feed_disk(alloc, disk, lines, outlet, turns, directory, look)
 }
 
 /// Looks at the folder while a disk is played so: behind so many packets, if looks come within

@@ -1,4 +1,3 @@
-pub mod Inner
-pub mod Program
+pub mod Commands
 pub mod Report
 pub mod Serving

@@ -1,16 +1,17 @@
 //! What `check` does.
 ghost use Rattle.mot_playout.specs.Attempts.{fault_of};
-ghost use Rattle.std.specs.Prelude.{◌≡◌, ◌++◌, List, Option, ℕ};
-ghost use Rattle.mot_cli.specs.declared.program.task.Task.TheVariants.{Check};
+ghost use Rattle.std.specs.Prelude.{◌≡◌, ◌++◌, []};
+ghost use Rattle.mot_numbers.specs.declared.refusal.Refusal.TheVariants.{DeviceFault};
 ghost use Rattle.mot_lines.specs.Listing.{listing_text_beside};
-ghost use Rattle.mot_outcome.specs.Outcome.{Prints};
-ghost use Rattle.mot_commands.specs.Inner.Finishing.{Finishes};
-ghost use Rattle.mot_commands.specs.Program.{UsesFor};
+ghost use Rattle.mot_outcome.specs.Outcome.{Opens, Prints};
+ghost use Rattle.mot_commands.specs.Commands.{ChecksFile};
+ghost use Rattle.mot_outcome.specs.Outcome.{Finishes};
 ghost use Rattle.mot_commands.specs.Report.{Checks, clean_line, layout_line};
 
 use crate::unfit::clear_unfit;
 use disk_model::Disk;
-use disk_store::{DiskFiles, Start};
+use disk_store::Start;
+use mot_endpoints::Host;
 use mot_export::Ended;
 use mot_journal::Layout;
 use mot_numbers::Refusal;
@@ -22,23 +23,22 @@ use std::alloc::Global;
 use std::io::Write;
 
 /// Prints what the disk of the file at the path keeps, whether it is clean, and its layout.
-pub(crate) fn check_file<F: DiskFiles, S: Start, W: Write>(
-    files: &mut F,
+pub fn check_file<S: Start, W: Write>(
+    host: &mut Host<'_>,
     alloc: Global,
     path: &str,
     start: S,
     writer: &mut W,
 ) -> Finished<S, ()>
-    ensures ended { (unread : Option (List ℕ)) → Finishes (Check path.entry) result unread unread
-        (W.contents writer.old) (W.contents writer.new) }
-    ensures files { UsesFor (fault_of result.result) (Check path.entry) result.disk
-        (F.opened files.old, F.taken_away files.old)
-        (F.opened files.new, F.taken_away files.new) }
+    ensures ended { Finishes (λ r. r ≡ DeviceFault) (λ ending used.
+        ChecksFile ending used (W.contents writer.old) (W.contents writer.new))
+        result (W.contents writer.old) (W.contents writer.new) }
+    ensures files { Opens [] path.now result.disk host.old.paths.all host.new.paths.all }
 {
-    match files.open_disk(path, start) {
+    match host.disk(path, start) {
         Ok(disk) => {
             let ended = check_disk(alloc, disk, writer);
-            clear_unfit(files, &ended.result);
+            clear_unfit(host, &ended.result);
             Finished::of_file(ended, Beside::nothing(), None)
         }
         Err(unopened) => Finished::unopened(unopened),

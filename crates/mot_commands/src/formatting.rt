@@ -1,20 +1,20 @@
 //! What `format` does.
 ghost use Rattle.mot_playout.specs.Attempts.{fault_of};
-ghost use Rattle.std.specs.Prelude.{◌≡◌, true, List, Option, Some, ℕ};
-ghost use Rattle.mot_cli.specs.declared.program.task.Task.TheVariants.{Format};
+ghost use Rattle.std.specs.Prelude.{◌≡◌, true, Some};
 ghost use Rattle.mot_numbers.specs.Geometry.{IsValid};
 ghost use Rattle.mot_numbers.specs.declared.refusal.Refusal.TheVariants.{DeviceFault};
 ghost use Rattle.mot_outcome.specs.Outcome.{Prints};
-ghost use Rattle.mot_commands.specs.Inner.Finishing.{Finishes};
-ghost use Rattle.mot_commands.specs.Program.{LooksFor, UsesFor};
+ghost use Rattle.mot_commands.specs.Commands.{FormatsFile, IsUnformatted, LooksFirst};
+ghost use Rattle.mot_outcome.specs.Outcome.{Finishes};
+ghost use Rattle.mot_commands.specs.Commands.{OpensOrMakes};
 ghost use Rattle.mot_commands.specs.Report.{Formats, formatted_line};
 
 use crate::unfit::clear_unfit;
 use disk_model::Disk;
-use disk_store::{DiskFiles, Start, Unopened};
+use disk_store::{Start, Unopened};
 use itoa::Buffer;
 use mot_devices::use_of;
-use mot_endpoints::Cause;
+use mot_endpoints::{Cause, Host};
 use mot_export::Ended;
 use mot_files::System;
 use mot_journal::format_from;
@@ -26,8 +26,8 @@ use std::io::Write;
 
 /// Makes a disk of the file at the path, as `format_free` does. No file is touched for a geometry
 /// out of range, or if the path names a device in use.
-pub(crate) fn format_file<F: DiskFiles, Y: System, S: Start, W: Write>(
-    files: &mut F,
+pub fn format_file<Y: System, S: Start, W: Write>(
+    host: &mut Host<'_>,
     system: &mut Y,
     alloc: Global,
     path: &str,
@@ -36,13 +36,12 @@ pub(crate) fn format_file<F: DiskFiles, Y: System, S: Start, W: Write>(
     directory: TransportId,
     writer: &mut W,
 ) -> Finished<S, ()>
-    ensures ended { (unread : Option (List ℕ))
-        → Finishes (Format path.entry geometry directory) result unread unread
-        (W.contents writer.old) (W.contents writer.new) }
-    ensures files { UsesFor (fault_of result.result) (Format path.entry geometry directory) result.disk
-        (F.opened files.old, F.taken_away files.old)
-        (F.opened files.new, F.taken_away files.new) }
-    ensures looked { LooksFor (Format path.entry geometry directory) result.disk
+    ensures ended { Finishes (IsUnformatted geometry) (λ ending used.
+        FormatsFile geometry directory ending used (W.contents writer.old) (W.contents writer.new))
+        result (W.contents writer.old) (W.contents writer.new) }
+    ensures files { OpensOrMakes (fault_of result.result) path.now result.disk
+        host.old.paths.all host.new.paths.all }
+    ensures looked { LooksFirst path.now result.disk
         (Y.calls system.old) (Y.calls system.new) }
 {
     if !geometry.is_valid() {
@@ -50,14 +49,14 @@ pub(crate) fn format_file<F: DiskFiles, Y: System, S: Start, W: Write>(
     }
     match use_of(system, alloc, path) {
         Some(found) => Finished::unbegun(Refusal::DeviceFault, Some(Cause::from(found)), start),
-        None => format_free(files, path, start, geometry, directory, writer),
+        None => format_free(host, path, start, geometry, directory, writer),
     }
 }
 
 /// Makes a disk of the file at the path. The file is made if it can't be opened, and removed again
 /// if the disk could not be made of it.
-fn format_free<F: DiskFiles, S: Start, W: Write>(
-    files: &mut F,
+fn format_free<S: Start, W: Write>(
+    host: &mut Host<'_>,
     path: &str,
     start: S,
     geometry: Geometry,
@@ -65,17 +64,16 @@ fn format_free<F: DiskFiles, S: Start, W: Write>(
     writer: &mut W,
 ) -> Finished<S, ()>
     requires { IsValid geometry }
-    ensures ended { (unread : Option (List ℕ))
-        → Finishes (Format path.entry geometry directory) result unread unread
-        (W.contents writer.old) (W.contents writer.new) }
-    ensures files { UsesFor (fault_of result.result) (Format path.entry geometry directory) result.disk
-        (F.opened files.old, F.taken_away files.old)
-        (F.opened files.new, F.taken_away files.new) }
+    ensures ended { Finishes (IsUnformatted geometry) (λ ending used.
+        FormatsFile geometry directory ending used (W.contents writer.old) (W.contents writer.new))
+        result (W.contents writer.old) (W.contents writer.new) }
+    ensures files { OpensOrMakes (fault_of result.result) path.now result.disk
+        host.old.paths.all host.new.paths.all }
 {
-    match files.open_disk(path, start) {
+    match host.disk(path, start) {
         Ok(mut disk) => {
             let result = format_disk(&mut disk, &geometry, directory, writer);
-            clear_unfit(files, &result);
+            clear_unfit(host, &result);
             let ended = Ended {
                 reason: reason_of(&result, &disk, &geometry),
                 disk,
@@ -83,13 +81,13 @@ fn format_free<F: DiskFiles, S: Start, W: Write>(
             };
             Finished::of_file(ended, Beside::nothing(), None)
         }
-        Err(unopened) => format_new_file(files, path, unopened, geometry, directory, writer),
+        Err(unopened) => format_new_file(host, path, unopened, geometry, directory, writer),
     }
 }
 
 /// Makes a new file, and a disk of it. If it can't be formatted, it is removed again.
-fn format_new_file<F: DiskFiles, S: Start, W: Write>(
-    files: &mut F,
+fn format_new_file<S: Start, W: Write>(
+    host: &mut Host<'_>,
     path: &str,
     unopened: Unopened<S>,
     geometry: Geometry,
@@ -97,20 +95,19 @@ fn format_new_file<F: DiskFiles, S: Start, W: Write>(
     writer: &mut W,
 ) -> Finished<S, ()>
     requires { IsValid geometry }
-    ensures ended { (unread : Option (List ℕ))
-        → Finishes (Format path.entry geometry directory) result unread unread
-        (W.contents writer.old) (W.contents writer.new) }
-    ensures files { UsesFor (fault_of result.result) (Format path.entry geometry directory) result.disk
-        (F.opened files.old, F.taken_away files.old)
-        (F.opened files.new, F.taken_away files.new) }
+    ensures ended { Finishes (IsUnformatted geometry) (λ ending used.
+        FormatsFile geometry directory ending used (W.contents writer.old) (W.contents writer.new))
+        result (W.contents writer.old) (W.contents writer.new) }
+    ensures files { OpensOrMakes (fault_of result.result) path.now result.disk
+        host.old.paths.all host.new.paths.all }
 {
-    let mut disk = match files.make_disk(path, geometry.length(), unopened.start) {
+    let mut disk = match host.make_disk(path, geometry.length(), unopened.start) {
         Ok(disk) => disk,
         Err(unmade) => return Finished::unopened(unmade.behind(unopened.fault)),
     };
     let result = format_disk(&mut disk, &geometry, directory, writer);
     if is_unformatted(&result) {
-        files.take_away(path);
+        host.take_away(path);
     }
     let ended = Ended {
         disk,

@@ -1,13 +1,13 @@
-//! The program over any streams and files, but for the commands on air.
+//! The commands that serve, make, check and migrate a disk, over any streams.
 #![tactic(auto)]
 
 mod checking;
 mod formatting;
 mod migrating;
-mod program;
 mod serving;
 mod unfit;
 
-pub use mot_cli::{Options, Task};
-pub use mot_outcome::{Exit, UsedDisk};
-pub use program::run_command;
+pub use checking::check_file;
+pub use formatting::format_file;
+pub use migrating::migrate_file;
+pub use serving::{serve_file, serve_memory};

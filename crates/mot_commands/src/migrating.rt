@@ -1,14 +1,16 @@
 //! What `migrate` does.
 ghost use Rattle.mot_playout.specs.Attempts.{fault_of};
-ghost use Rattle.std.specs.Prelude.{◌≡◌, List, Option, ℕ};
-ghost use Rattle.mot_cli.specs.declared.program.task.Task.TheVariants.{Migrate};
-ghost use Rattle.mot_commands.specs.Inner.Finishing.{Finishes};
-ghost use Rattle.mot_commands.specs.Program.{UsesFor};
+ghost use Rattle.std.specs.Prelude.{◌≡◌, []};
+ghost use Rattle.mot_numbers.specs.declared.refusal.Refusal.TheVariants.{DeviceFault};
+ghost use Rattle.mot_outcome.specs.Outcome.{Opens};
+ghost use Rattle.mot_commands.specs.Commands.{MigratesFile};
+ghost use Rattle.mot_outcome.specs.Outcome.{Finishes};
 ghost use Rattle.mot_commands.specs.Report.{Migrates, migrated_line};
 
 use crate::unfit::clear_unfit;
 use disk_model::Disk;
-use disk_store::{DiskFiles, Start};
+use disk_store::Start;
+use mot_endpoints::Host;
 use mot_export::Ended;
 use mot_outcome::{Beside, Finished, write_last};
 use mot_reason::open_repository;
@@ -17,23 +19,22 @@ use std::io::Write;
 
 /// Rewrites the disk of the file at the path into layout 2, and prints whether there was anything
 /// to do.
-pub(crate) fn migrate_file<F: DiskFiles, S: Start, W: Write>(
-    files: &mut F,
+pub fn migrate_file<S: Start, W: Write>(
+    host: &mut Host<'_>,
     alloc: Global,
     path: &str,
     start: S,
     writer: &mut W,
 ) -> Finished<S, ()>
-    ensures ended { (unread : Option (List ℕ)) → Finishes (Migrate path.entry) result unread unread
-        (W.contents writer.old) (W.contents writer.new) }
-    ensures files { UsesFor (fault_of result.result) (Migrate path.entry) result.disk
-        (F.opened files.old, F.taken_away files.old)
-        (F.opened files.new, F.taken_away files.new) }
+    ensures ended { Finishes (λ r. r ≡ DeviceFault) (λ ending used.
+        MigratesFile ending used (W.contents writer.old) (W.contents writer.new))
+        result (W.contents writer.old) (W.contents writer.new) }
+    ensures files { Opens [] path.now result.disk host.old.paths.all host.new.paths.all }
 {
-    match files.open_disk(path, start) {
+    match host.disk(path, start) {
         Ok(disk) => {
             let ended = migrate_disk(alloc, disk, writer);
-            clear_unfit(files, &ended.result);
+            clear_unfit(host, &ended.result);
             Finished::of_file(ended, Beside::nothing(), None)
         }
         Err(unopened) => Finished::unopened(unopened),

@@ -1,15 +1,18 @@
 //! What `memory` and `serve` do.
 ghost use Rattle.mot_playout.specs.Attempts.{fault_of};
-ghost use Rattle.std.specs.Prelude.{◌≡◌};
+ghost use Rattle.std.specs.Prelude.{◌≡◌, []};
+ghost use Rattle.std.specs.Io.KnownBytes.{Keeps};
+ghost use Rattle.mot_numbers.specs.declared.refusal.Refusal.TheVariants.{DeviceFault};
+ghost use Rattle.mot_outcome.specs.Outcome.{Opens};
 ghost use Rattle.disk_model.specs.Disk.{KeepsLength};
-ghost use Rattle.mot_cli.specs.declared.program.task.Task.TheVariants.{Memory, Serve};
-ghost use Rattle.mot_commands.specs.Inner.Finishing.{Finishes};
-ghost use Rattle.mot_commands.specs.Program.{UsesFor};
+ghost use Rattle.mot_commands.specs.Commands.{IsUnmade, ServesFile, ServesMemory};
+ghost use Rattle.mot_outcome.specs.Outcome.{Finishes};
 ghost use Rattle.mot_commands.specs.Serving.{Serves};
 
 use crate::unfit::clear_unfit;
 use disk_model::Disk;
-use disk_store::{DiskFiles, RamDisk, Start};
+use disk_store::{RamDisk, Start};
+use mot_endpoints::Host;
 use mot_export::Ended;
 use mot_journal::format;
 use mot_numbers::{Geometry, Refusal};
@@ -21,15 +24,19 @@ use std::io::{Read, Write};
 
 /// Serves the reader's lines from a new disk in memory; answers what ended it before the input's
 /// end.
-pub(crate) fn serve_memory<S: Start, R: Read, W: Write>(
+pub fn serve_memory<S: Start, R: Read, W: Write>(
     alloc: Global,
     geometry: Geometry,
     start: S,
     reader: &mut R,
     writer: &mut W,
 ) -> Finished<S, ()>
-    ensures { Finishes (Memory geometry) result (R.remaining reader.old) (R.remaining reader.new)
-        (W.contents writer.old) (W.contents writer.new) }
+    ensures { Finishes
+        (λ r. IsUnmade geometry r × Keeps (R.remaining reader.old) (R.remaining reader.new))
+        (λ ending used. ServesMemory geometry ending used
+        (R.remaining reader.old) (R.remaining reader.new)
+        (W.contents writer.old) (W.contents writer.new))
+        result (W.contents writer.old) (W.contents writer.new) }
 {
     if !geometry.is_valid() {
         return Finished::unbegun(Refusal::BadGeometry, None, start);
@@ -52,25 +59,25 @@ pub(crate) fn serve_memory<S: Start, R: Read, W: Write>(
 
 /// Serves the reader's lines from the disk of the file at the path; answers what ended it before
 /// the input's end.
-pub(crate) fn serve_file<F: DiskFiles, S: Start, R: Read, W: Write>(
-    files: &mut F,
+pub fn serve_file<S: Start, R: Read, W: Write>(
+    host: &mut Host<'_>,
     alloc: Global,
     path: &str,
     start: S,
     reader: &mut R,
     writer: &mut W,
 ) -> Finished<S, ()>
-    ensures ended { Finishes (Serve path.entry) result
-        (R.remaining reader.old) (R.remaining reader.new)
-        (W.contents writer.old) (W.contents writer.new) }
-    ensures files { UsesFor (fault_of result.result) (Serve path.entry) result.disk
-        (F.opened files.old, F.taken_away files.old)
-        (F.opened files.new, F.taken_away files.new) }
+    ensures ended { Finishes
+        (λ r. (r ≡ DeviceFault) × Keeps (R.remaining reader.old) (R.remaining reader.new))
+        (λ ending used. ServesFile ending used (R.remaining reader.old) (R.remaining reader.new)
+        (W.contents writer.old) (W.contents writer.new))
+        result (W.contents writer.old) (W.contents writer.new) }
+    ensures files { Opens [] path.now result.disk host.old.paths.all host.new.paths.all }
 {
-    match files.open_disk(path, start) {
+    match host.disk(path, start) {
         Ok(disk) => {
             let ended = serve_disk(alloc, disk, reader, writer);
-            clear_unfit(files, &ended.result);
+            clear_unfit(host, &ended.result);
             Finished::of_file(ended, Beside::nothing(), None)
         }
         Err(unopened) => Finished::unopened(unopened),

@@ -1,17 +1,16 @@
 //! What an opening leaves beside a file that is no disk, or not one for what is asked.
 ghost use Rattle.std.specs.Prelude.{◌≡◌};
 
-use disk_store::DiskFiles;
+use mot_endpoints::Host;
 use mot_numbers::Refusal;
 
 /// Takes away the empty file that the last opening has made beside a file, if that was refused as it
 /// was found: no disk, a disk already, or too short.
-pub(crate) fn clear_unfit<F: DiskFiles>(files: &mut F, ended: &Result<(), Refusal>)
-    ensures opened { F.opened files.new ≡ F.opened files.old }
-    ensures stays { F.taken_away files.new ≡ F.taken_away files.old }
+pub(crate) fn clear_unfit(host: &mut Host<'_>, ended: &Result<(), Refusal>)
+    ensures { host.new.paths.all ≡ host.old.paths.all }
 {
     if is_unfit(ended) {
-        files.clear_beside();
+        host.clear_side();
     }
 }
 

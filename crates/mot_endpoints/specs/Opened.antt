@@ -1,4 +1,4 @@
--- What a station opened, in order: what it was opened as, and its path.
+-- What a host came to, in order: as what, and by which path.
 use Rattle.std.specs.Prelude.{ℕ, ◌≡◌, List, [], ◌∷◌, ◌++◌, Option, Some, None}
 use Rattle.std.specs.Borrow.{Bor}
 

@@ -13,7 +13,7 @@ use crate::beside::{folder_of, leads_to};
 use crate::fault::{Cause, LinesFault, Unbegun};
 use crate::packets::OUTPUT;
 use crate::spool::Spool;
-use crate::station::Station;
+use crate::host::Host;
 use mot_files::{Fault, HostSystem, Kind, Seen, System};
 use mot_lines::Hand;
 use std::alloc::Global;
@@ -80,7 +80,7 @@ pub struct Others<'a> {
 /// The folder at the path, if one is given, with room for a line. It is not that of the objects,
 /// and none of the other files stands in it.
 pub fn line_folder<'a>(
-    station: &mut Station<'a>,
+    host: &mut Host<'a>,
     alloc: Global,
     path: Option<&'a str>,
     every: Option<u32>,
@@ -94,14 +94,14 @@ pub fn line_folder<'a>(
         ≡ option_map (λ _. []) path.entry) }
     ensures refused { IfErr result (λ unbegun. IsUnlined path.entry unbegun.refusal) }
     ensures opens { MatchResult result
-        (λ _. station.new.opened.all ≡ station.old.opened.all ++ named (codes "lines") path.entry)
+        (λ _. host.new.paths.all ≡ host.old.paths.all ++ named (codes "lines") path.entry)
         (λ _. BeginsTo (named (codes "lines") path.entry)
-        station.old.opened.all station.new.opened.all) }
+        host.old.paths.all host.new.paths.all) }
 {
     let Some(path) = path else {
         return Ok(None);
     };
-    let place = match station.lines(path, others) {
+    let place = match host.lines(path, others) {
         Ok(place) => place,
         Err(fault) => return Err(Unbegun::unread(Cause::Lines(fault))),
     };

@@ -9,7 +9,7 @@ ghost use Rattle.mot_files.specs.Reading.{IsSame};
 ghost use Rattle.mot_files.specs.declared.system.Seen.{Seen};
 
 use crate::fault::{Cause, TypesFault, Unbegun};
-use crate::station::Station;
+use crate::host::Host;
 use mot_files::{Fault, Handle, How, Seen, System, is_regular, is_same};
 use mot_numbers::Refusal;
 use mot_suffixes::{FileTypes, RefusedLine};
@@ -21,16 +21,16 @@ const MOST: usize = 65_536;
 /// The known suffixes, and those that the file at the path adds, if one is given: `ReadFault` if it
 /// can't be read or has more than 65,536 bytes, and the refusals of its lines.
 pub fn file_types(
-    station: &mut Station<'_>,
+    host: &mut Host<'_>,
     alloc: Global,
     path: Option<&str>,
 ) -> Result<FileTypes, Unbegun>
     ensures typed { IfOk result (IsTyped path.entry) }
     ensures refused { IfErr result (λ unbegun. IsUntyped path.entry unbegun.refusal) }
     ensures opens { MatchResult result
-        (λ _. station.new.opened.all ≡ station.old.opened.all ++ named (codes "types") path.entry)
+        (λ _. host.new.paths.all ≡ host.old.paths.all ++ named (codes "types") path.entry)
         (λ _. BeginsTo (named (codes "types") path.entry)
-        station.old.opened.all station.new.opened.all) }
+        host.old.paths.all host.new.paths.all) }
 {
     let mut types = match FileTypes::new(alloc) {
         Ok(types) => types,
@@ -39,7 +39,7 @@ pub fn file_types(
     let Some(path) = path else {
         return Ok(types);
     };
-    let text = match station.types(alloc, path) {
+    let text = match host.types(alloc, path) {
         Ok(text) => text,
         Err(fault) => return Err(Unbegun::unread(Cause::Types(fault))),
     };

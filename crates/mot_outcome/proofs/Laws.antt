@@ -6,3 +6,5 @@ pub use Rattle.mot_outcome.proofs.Explained.{explained}
 pub use Rattle.mot_outcome.proofs.Parts.{Prints-after, Prints-before, Prints-passed}
 -- what follows from a fact of a result
 pub use Rattle.mot_outcome.proofs.Results.{IfErr-one, IfOk-one}
+-- what a host came to of which nothing was opened
+pub use Rattle.mot_outcome.proofs.Opened.{none_begun, none_opened}

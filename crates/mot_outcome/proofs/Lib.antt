@@ -1,4 +1,5 @@
 mod Explained
 pub mod Laws
+mod Opened
 mod Parts
 mod Results

@@ -1,17 +1,21 @@
 -- What a run of the program comes to, whatever its tasks are.
-use Rattle.std.specs.Prelude.{ℕ, ◌≡◌, Bool, true, List, Option, Some, None, Result, Ok, Err}
+use Rattle.std.specs.Prelude.{ℕ, ◌≡◌, ◌++◌, ◌∷◌, [], Bool, true, List, Option, Some, None, codes}
+use Rattle.std.specs.Prelude.{◌⊎◌, IsErrAnd}
 use Rattle.std.specs.Io.KnownBytes.{Appends, Keeps}
 use Rattle.clap.specs.Words.{Row, Text}
 use Rattle.disk_model.specs.Disk.{State}
 use Rattle.disk_store.specs.Beginning.{SinceOpened}
 use Rattle.disk_store.specs.declared.file.start.Start.{Ghosts}
 use Rattle.disk_store.specs.declared.file.FileDiskFrom.{FileDiskFrom}
+use Rattle.mot_endpoints.specs.Opened.{BeginsTo}
 use Rattle.mot_numbers.specs.declared.refusal.Refusal.{Refusal}
 use Rattle.mot_numbers.specs.declared.refusal.Refusal.TheVariants.{OutOfMemory, WriteFault}
 use Rattle.mot_outcome.specs.declared.exit.Exit.{Exit}
 use Rattle.mot_outcome.specs.declared.used.Beside.{Beside}
+use Rattle.mot_outcome.specs.declared.used.Finished.{Finished}
 use Rattle.mot_outcome.specs.declared.used.UsedDisk.{UsedDisk}
-use Rattle.mot_outcome.specs.declared.used.UsedDisk.TheVariants.{OfFile, Untouched}
+use Rattle.mot_outcome.specs.declared.used.UsedDisk.TheVariants.{InMemory, OfFile, Untouched}
+use Rattle.mot_playout.specs.Attempts.{fault_of}
 use Rattle.mot_session.specs.Served.{WritesFront}
 use Rattle.mot_cli.specs.Asked.{AskFor, AskForHelp}
 use Rattle.mot_cli.specs.Command.{motcar_app}
@@ -42,6 +46,24 @@ module _ {S : Type 0} {start : Ghosts S} where
   pub record IsUntold (used : UsedDisk S start) (old new : Option (List ℕ)) : Type 0 where
     pub untouched : IsUntouched used
     pub silent : Keeps old new
+
+  -- A command was not begun, for such a refusal, and nothing was printed; or it was, and ended so.
+  abbrev pub Finishes : (IsEarly : Refusal → Type 0)
+      → (IsEnded : Option Refusal → UsedDisk S start → Type 0) → Finished S Unit start
+      → (old new : Option (List ℕ)) → Type 0
+  Finishes IsEarly IsEnded finished old new =
+      IsErrAnd finished.result (λ refusal. IsEarly refusal × IsUntold finished.disk old new)
+      ⊎ IsEnded (fault_of finished.result) finished.disk
+
+  -- In this a list of what a host came to has of each as what, and by which path. Where the disk of
+  -- a file is handed out, it came to these others, each once and in order, and then to the disk of
+  -- this path, once; where none is, to a beginning of these others, and to no disk.
+  abbrev pub Opens : (others : List (Text × Text)) → Text → UsedDisk S start
+      → (before after : List (Text × Text)) → Type 0
+  Opens others path (Untouched value) before after = BeginsTo others before after
+  Opens others path (InMemory disk value) before after = ⊥
+  Opens others path (OfFile disk beside) before after =
+      after ≡ before ++ (others ++ (codes "disk", path) ∷ [])
 
 -- Which files were used: none, or those of the task that the words ask for, as OfTask says of it.
 -- Which words ask for which task IsTask says; before and after is what was used so far.

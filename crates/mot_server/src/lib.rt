@@ -3,6 +3,8 @@
 #![tactic(auto)]
 
 mod program;
+mod running;
+mod telling;
 
 pub use mot_journal::Layout;
 pub use mot_numbers::Geometry;

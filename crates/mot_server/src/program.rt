@@ -1,14 +1,15 @@
 //! The program, of all its commands.
 ghost use Rattle.std.specs.Prelude.{◌≢◌, Some, map};
-ghost use Rattle.mot_air.specs.Program.{LackOption};
+ghost use Rattle.mot_cli.specs.Task.{IsTask, LackOption};
 ghost use Rattle.mot_numbers.specs.declared.refusal.Refusal.TheVariants.{BadNumber};
 ghost use Rattle.mot_outcome.specs.Outcome.{UsesFiles};
-ghost use Rattle.mot_server.specs.Program.{IsProgramTask, LooksFor, Ran, RunsTo, Uses};
+ghost use Rattle.mot_server.specs.Program.{LooksFor, Ran, RunsTo, Uses};
 
-use disk_store::{DiskFiles, Start, SystemFiles, Unknown};
-use mot_air::{Station, is_air, run_command as run_air_command};
-use mot_cli::motcar_matches;
-use mot_commands::run_command;
+use crate::running::execute;
+use crate::telling::{conclude, tell_no_task};
+use disk_store::{Start, Unknown};
+use mot_cli::{motcar_matches, task_of};
+use mot_endpoints::Host;
 use mot_files::{HostSystem, System};
 use mot_outcome::{Exit, UsedDisk, explain};
 use std::alloc::Global;
@@ -19,7 +20,7 @@ use std::io::{Read, Write};
 /// answers the exit status: 0 if everything was done or help was asked for, 1 after a refusal, 2 if
 /// the words are wrong. What went wrong is printed to `errors`.
 ///
-/// It is `run_program_on` with the three handles on the machine's files. What is promised is that the
+/// It is `run_program_on` with the two handles on the machine's files. What is promised is that the
 /// status, the bytes that were read and those that were printed are those of one such run: there is
 /// an exit of it. What the files hold then is promised of that call, which hands out the disk. Here
 /// no clause can speak of them, nor see a call on the runtime beside that one; nor can it say what is
@@ -36,13 +37,11 @@ pub fn run_program<R: Read, W: Write, E: Write>(
         result (R.remaining reader.old) (R.remaining reader.new)
         (W.contents writer.old) (W.contents writer.new) }
 {
-    let mut files = SystemFiles::new(rt);
+    let mut host = Host::new(rt);
     let mut system = HostSystem::new(rt, alloc, rt.stdout());
-    let mut station = Station::new(rt);
     let exit = run_program_on(
-        &mut files,
+        &mut host,
         &mut system,
-        &mut station,
         alloc,
         words,
         Unknown,
@@ -62,10 +61,9 @@ pub fn run_program<R: Read, W: Write, E: Write>(
 ///
 /// `start` is for clauses alone: the content of the disk's file when it was opened. A program gives
 /// `Unknown`.
-pub fn run_program_on<'a, F: DiskFiles, Y: System, S: AsStr, B: Start, R: Read, W: Write, E: Write>(
-    files: &mut F,
+pub fn run_program_on<'a, Y: System, S: AsStr, B: Start, R: Read, W: Write, E: Write>(
+    host: &mut Host<'a>,
     system: &mut Y,
-    station: &mut Station<'a>,
     alloc: Global,
     words: &'a [S],
     start: B,
@@ -82,20 +80,12 @@ pub fn run_program_on<'a, F: DiskFiles, Y: System, S: AsStr, B: Start, R: Read, 
     // An option of `play` that lacks the one of which it says more is not told as a bad number.
     ensures lacking { LackOption (map S.text words.now) → result.refusal ≢ Some BadNumber }
 
-    // Nothing was opened, made or taken away but what the words name, each at most once.
-    ensures files { Uses (map S.text words.now) result
-        (record {
-          station = station.old.opened.all;
-          files = (F.opened files.old, F.taken_away files.old);
-        })
-        (record {
-          station = station.new.opened.all;
-          files = (F.opened files.new, F.taken_away files.new);
-        }) }
+    // Nothing was opened, made or removed but what the words name, each at most once.
+    ensures files { Uses (map S.text words.now) result host.old.paths.all host.new.paths.all }
 
     // The system was only looked at. A disk was made only of what was found free: no device that is
     // mounted or has a signature.
-    ensures looked { UsesFiles IsProgramTask LooksFor (map S.text words.now) result.disk
+    ensures looked { UsesFiles IsTask LooksFor (map S.text words.now) result.disk
         (Y.calls system.old) (Y.calls system.new) }
 {
     let matches = match motcar_matches(alloc, words) {
@@ -105,11 +95,12 @@ pub fn run_program_on<'a, F: DiskFiles, Y: System, S: AsStr, B: Start, R: Read, 
     let Some((name, rest)) = matches.subcommand() else {
         return Exit::unrefused(2, UsedDisk::Untouched(start));
     };
-    if is_air(name) {
-        run_air_command(station, alloc, name, rest, start, writer, errors)
-    } else {
-        run_command(
-            files, system, alloc, name, rest, start, reader, writer, errors,
-        )
-    }
+    let task = match task_of(name, rest) {
+        Ok(task) => task,
+        Err(why) => return tell_no_task(errors, why, rest, start),
+    };
+    let finished = execute(
+        host, system, alloc, &task, start, reader, writer, errors,
+    );
+    conclude(errors, rest, finished)
 }

@@ -6,7 +6,7 @@ ghost use Rattle.disk_store.specs.Inner.Noting.{HasOnlyOpened};
 ghost use Rattle.disk_model.specs.Disk.{IsNew, LeavesAll};
 ghost use Rattle.disk_store.specs.File.{file_state, calls_on, CanSync};
 
-use super::system::{Beside, HeldFile};
+use super::system::{HeldFile, SideFile};
 use super::{FileDisk, FileDiskFrom, OpenFault, Start, Unknown};
 use crate::DiskFault;
 use crate::call_count::CallCount;
@@ -147,7 +147,7 @@ impl<S: Start> FileDiskFrom<S> {
         ensures all { IfOk result (λ disk. LeavesAll (file_state disk)) }
         ensures order { IfOk result (λ disk. calls_on disk ≡ making_calls len) }
     {
-        let beside = Beside::of(rt, path)?;
+        let beside = SideFile::of(rt, path)?;
         let file = OpenOptions::new()
             .read(true)
             .write(true)

@@ -172,26 +172,26 @@ fn drop_cached_pages(rt: &HostRuntime, file: &File, path: &str) -> io::Result<()
 /// The empty file that `drop_cached_pages` wants beside a file: its path, and whether anything
 /// stands there before it is made.
 #[derive(Drop)]
-pub struct Beside {
+pub struct SideFile {
     path: String,
     was_there: bool,
 }
 
-impl Beside {
+impl SideFile {
     /// Looks beside the file of this path. What can't be looked at counts as there.
-    pub fn of(rt: &HostRuntime, path: &str) -> io::Result<Beside> {
+    pub fn of(rt: &HostRuntime, path: &str) -> io::Result<SideFile> {
         let path = format!(in rt.alloc(); "{path}-wal")?;
         let was_there = match fs::symlink_metadata(rt, path.as_str()) {
             Ok(_) => true,
             Err(error) => error.kind() != ErrorKind::NotFound,
         };
-        Ok(Beside { path, was_there })
+        Ok(SideFile { path, was_there })
     }
 
     /// Looks beside the file that this path leads to. That file is there.
-    pub fn of_target(rt: &HostRuntime, path: &str) -> io::Result<Beside> {
+    pub fn of_target(rt: &HostRuntime, path: &str) -> io::Result<SideFile> {
         let real = fs::canonicalize(rt, path)?;
-        Beside::of(rt, real.as_str())
+        SideFile::of(rt, real.as_str())
     }
 
     /// Removes the file of this path that was made and is of no use, and the empty one that was

@@ -1,99 +1,36 @@
-use Rattle.std.proofs.Common.{true, ℕ, ◌⊎◌, ◌≡◌, ◌∙◌, List, Option, [], ◌∷◌, ap, subst, sym}
-use Rattle.disk_model.specs.Disk.{State}
-use Rattle.disk_store.specs.Beginning.{SinceOpened}
-use Rattle.disk_store.specs.Begun.{begun_state}
-use Rattle.disk_store.proofs.Laws.{since_opened}
-use Rattle.mot_air.proofs.Begun.{concludes, ended_so}
-use Rattle.mot_air.proofs.Played.{into_keeps}
-use Rattle.mot_air.proofs.on_air.play_file.Given as given
+use Rattle.std.proofs.Common.{[], ◌∷◌, ◌-◌}
+use Rattle.std.specs.Prelude.{codes, option_map}
+use Rattle.mot_air.specs.Commands.{PlaysTo, played_as}
+use Rattle.mot_air.specs.Telling.{tale_with, watch_in, watched}
+use Rattle.mot_air.proofs.Begun.{unbegun_so}
+use Rattle.mot_endpoints.specs.declared.lines.LineFolder.{LineFolder}
+use Rattle.mot_air.proofs.Used.{opened_none}
 use Rattle.mot_air.proofs.on_air.play_file.Goals as goal
-use Rattle.mot_air.specs.Inner.Concluded.{Concludes}
-use Rattle.mot_air.specs.Program.{PlaysInto, PlaysTo, is_all_done, played_as}
-use Rattle.mot_air.specs.Telling.{tale_with}
-use Rattle.mot_endpoints.specs.Packets.{begun_of, target_of}
-use Rattle.mot_endpoints.specs.declared.packets.Target.{Target}
-use Rattle.mot_endpoints.specs.declared.taken.Taken.{Taken}
-use Rattle.mot_folder.specs.Looked.{Watch}
-use Rattle.mot_numbers.specs.declared.refusal.Refusal.TheVariants.{DeviceFault, WriteFault}
-use Rattle.mot_outcome.specs.Outcome.{OnFile}
-use Rattle.mot_outcome.specs.declared.used.Inputs.{Inputs}
-use Rattle.mot_outcome.specs.declared.used.UsedDisk.TheVariants.{OfFile}
-use Rattle.mot_playout.specs.Attempts.{fault_of}
 
--- the disk that is handed out, the packets and what was given are those of playing
-handed : (g : given.Over) (c : goal.After-of_file g)
-    (P : List (List ℕ) → Inputs → State → State → Type 0)
-    → SinceOpened (P c.play_into-ended.result.taken.notes.all c.play_into-ended.result.inputs)
-    c.play_into-ended.result.ended.disk.disk
-    → OnFile (λ disk beside. SinceOpened (P beside.taken.notes.all beside.inputs) disk)
-    (OfFile c.answered.result.disk.disk c.played-beside.result)
-handed g c P since =
-    subst (λ (d : _). OnFile (λ disk beside.
-    SinceOpened (P beside.taken.notes.all beside.inputs) disk)
-    (OfFile d.disk c.played-beside.result))
-    (sym c.answered.ensures.disk)
-    (subst (λ (t : Taken). SinceOpened (P t.notes.all c.played-beside.result.inputs)
-    c.play_into-ended.result.ended.disk.disk)
-    (sym c.played-beside.ensures.taken)
-    (subst (λ (i : Inputs). SinceOpened (P c.play_into-ended.result.taken.notes.all i)
-    c.play_into-ended.result.ended.disk.disk) (sym c.played-beside.ensures.inputs) since))
+pub returns-in-Ok-clause-ended : goal.returns-in-Ok-clause-ended
+returns-in-Ok-clause-ended g c =
+    let both = c.in-Ok.ensures in c.play_both.ensures.ended both.target both.begun both.first
 
--- what was played is told of what was opened
-played : (g : given.Over) (c : goal.After-of_file g) (w : Option Watch) (hand : Option (List ℕ × ℕ))
-    → PlaysInto (target_of c.in-Ok.opened)
-    (tale_with w hand (played_as c.args.airing.task) c.play_into-ended.result.inputs
-    c.play_into-ended.result.any_refused)
-    (played_as c.args.airing.task) (fault_of c.play_into-ended.result.ended.result)
-    (begun_of c.in-Ok.opened) c.play_into-ended.result.taken.notes.all
-    (begun_state c.in-Ok-disk.disk) (begun_state c.play_into-ended.result.ended.disk)
-    → Concludes (λ r. (r ≡ DeviceFault) ⊎ (r ≡ WriteFault))
-    (λ all ending. PlaysTo c.args.airing.task (tale_with w hand (played_as c.args.airing.task))
-    all ending (g.W.Write.contents c.args.writer.now)
-    (g.W.Write.contents c.play_into-ended.new.writer) c.of_file.result.disk)
-    c.of_file.result.result c.of_file.result.disk
-    (g.W.Write.contents c.args.writer.now) (g.W.Write.contents c.play_into-ended.new.writer)
-played g c w hand plays =
-    let target = target_of c.in-Ok.opened in
+pub returns-in-Ok-clause-opens : goal.returns-in-Ok-clause-opens
+returns-in-Ok-clause-opens g c =
+    c.play_both.ensures.opens c.args.airing.task.disk.now
+    ((codes "packets", c.args.airing.task.packets.now) ∷ []) c.args.host.now.paths.all
+    c.open_both.new.host.paths.all c.in-Ok.ensures.opens
+
+pub returns-in-Err-clause-ended : goal.returns-in-Err-clause-ended
+returns-in-Err-clause-ended g c =
     let task = c.args.airing.task in
-    let ended = c.play_into-ended.result.ended in
     let how = played_as task in
-    let tale = tale_with w hand how in
-    let taken = c.play_into-ended.result.taken.notes.all in
-    let inputs = c.play_into-ended.result.inputs in
-    let refused = c.play_into-ended.result.any_refused in
-    let old = g.W.Write.contents c.args.writer.now in
-    let new = g.W.Write.contents c.play_into-ended.new.writer in
-    let first = begun_state c.in-Ok-disk.disk in
-    let last = begun_state ended.disk in
-    let used = OfFile c.answered.result.disk.disk c.played-beside.result in
-    let path = task.packets.now ∷ [] in
-    let P = λ (l : List (List ℕ)) (given : Inputs). PlaysInto target (tale given refused) how
-    (fault_of ended.result) path l in
-    let told = subst (λ (b : List (List ℕ)). PlaysInto target (tale inputs refused) how
-    (fault_of ended.result) b taken first last) c.in-Ok.ensures.begun plays in
-    subst (λ (f : _). Concludes (λ r. (r ≡ DeviceFault) ⊎ (r ≡ WriteFault))
-    (λ all ending. PlaysTo task tale all ending old new f.disk) f.result f.disk old new)
-    (sym c.of_file.ensures)
-    (concludes _ (λ all ending. PlaysTo task tale all ending old new used) used old new
-    c.is_all_done.result ended.result c.answered.result.result c.answered.ensures.answer
-    (ended_so (λ all ending. PlaysTo task tale all ending old new used) c.is_all_done.result
-    ended.result
-    (λ all whole. (
-      target,
-      c.in-Ok.ensures.target,
-      c.play_into-ended.ensures.quiet,
-      (λ file none. subst (λ (t : Taken). t.is_placed ≡ true) (sym c.played-beside.ensures.taken)
-          (c.play_into-ended.ensures.placed file none)),
-      (
-        refused,
-        (λ none. whole none ∙ c.is_all_done.ensures
-            ∙ ap (λ (t : Target). is_all_done t refused) c.target-target.ensures),
-        handed g c P (since_opened c.in-Ok-disk.disk.disk ended.disk.disk (P taken inputs)
-            c.in-Ok-disk.ensures.first ended.disk.begins
-            (into_keeps target (tale inputs refused) how (fault_of ended.result) path taken first
-            last told) told),
-      ),
-    ))))
+    let log = g.W.Write.contents c.args.writer.now in
+    let used = c.in-Err.unbegun.disk in
+    unbegun_so _ (λ all ending. PlaysTo task (tale_with (watched c.args.airing.folder
+    (λ followed. watch_in how followed.shelf.path.now followed.types.now followed.allows_empty
+    followed.every)) (option_map (λ (lines : LineFolder _). (lines.hand, lines.every - 1))
+    c.args.airing.lines) how) all ending log log used) c.in-Err.unbegun.result used log
+    c.in-Err.ensures.refused
 
-pub returns-clause-ended : goal.returns-clause-ended
-returns-clause-ended g c = played g c _ _ c.play_into-ended.ensures.played
+pub returns-in-Err-clause-opens : goal.returns-in-Err-clause-opens
+returns-in-Err-clause-opens g c =
+    opened_none ((codes "packets", c.args.airing.task.packets.now) ∷ [])
+    c.args.airing.task.disk.now c.in-Err.unbegun.disk c.args.host.now.paths.all
+    c.open_both.new.host.paths.all c.in-Err.ensures.refused.untouched c.in-Err.ensures.opens

@@ -2,7 +2,7 @@ use Rattle.std.proofs.Common.{◌≡◌, ◌∙◌, ◌⊎◌, true, List, ℕ, 
 use Rattle.std.proofs.Common.{Some}
 use Rattle.disk_model.specs.Disk.{State}
 use Rattle.mot_air.specs.Playing.{Manner, Plays, Tale}
-use Rattle.mot_air.specs.Program.{PlaysInto}
+use Rattle.mot_air.specs.Commands.{PlaysInto}
 use Rattle.mot_air.proofs.Retold.{plays_as, whoever}
 use Rattle.mot_air.proofs.on_air.play_opened.Goals as goal
 use Rattle.mot_endpoints.specs.Packets.{target_of}

@@ -1,99 +1,60 @@
 use Rattle.std.proofs.Common.{◌∙◌, ◌-◌, ap, sym}
-use Rattle.mot_air.specs.Inner.Fed.{disk_of, ending_of}
 use Rattle.mot_air.specs.Playing.{manner}
-use Rattle.mot_air.specs.Telling.{EndsLines}
-use Rattle.mot_folder.specs.Looked.{so_far, watch}
-use Rattle.mot_status.specs.Teller.{teller}
-use Rattle.mot_update.specs.Watching.{looks_known}
-use Rattle.mot_air.proofs.Retold.{fed_out, handed_out, lines_alone, lines_retold, plays_as, told_out}
+use Rattle.mot_air.specs.Telling.{EndsLines, watch_in}
+use Rattle.mot_air.proofs.Retold.{ended_out, handed_out, lines_alone, lines_retold, plays_as}
 use Rattle.mot_air.proofs.playing.play_and_answer.Goals as goal
+use Rattle.mot_folder.specs.Looked.{so_far, watch}
+use Rattle.mot_playout.specs.Attempts.{fault_of}
+use Rattle.mot_update.specs.Watching.{looks_known}
 
 pub returns-in-Some : goal.returns-in-Some
 returns-in-Some g c =
     let how = manner c.args.directory c.args.look c.args.turns in
-    let fed = c.feed_disk-fed.result in
-    let ended = c.end_lines-ended.result in
+    let told = c.play_answering-ended.ensures in
+    let ended = c.play_answering-ended.result.0 in
     let before = g.O.Outlet.writes c.args.outlet.now in
-    let after = g.O.Outlet.writes c.feed_disk-fed.new.outlet in
+    let after = g.O.Outlet.writes c.play_answering-ended.new.outlet in
     let start = g.D.Disk.state c.args.disk in
     let out = c.looking.result in
-    let same = c.lines_between-lines.ensures.reported in
-    let last = c.feed_disk-fed.new.update in
-    let view = teller g.F.System.calls g.L.Write.contents in
-    let update = c.into_parts-spool.ensures.update ∙ c.end_lines-ended.ensures.update in
-    let heard = c.looking.ensures.lines ∙ c.into_lines.ensures
-    ∙ ap (λ (s : _). s.lines) c.into_parts-spool.ensures.reader ∙ c.end_lines-ended.ensures.lines in
     rw (c.in-Some.is) (
-      view last.reported.watch,
+      told.0.teller,
       handed_out g.D.Disk.state _ how before after start ended out.ended c.looking.ensures.ended
-          (fed_out g.D.Disk.state _ how before after start fed ended c.end_lines-ended.ensures.ended
-          (plays_as _ _ (lines_retold view _ (λ (u : _). u.reported.watch) how
-          c.lines_between-lines.result last out.inputs
-          (λ (u : _). watch (g.S.Shelf.path u.reported.update.folder.shelf)
-          u.reported.update.folder.types.now u.reported.update.folder.allows_empty
-          u.reported.update.every u.reported.update.within)
-          (λ (u : _). so_far u.reported.update.left u.reported.update.looks.all
-          u.reported.update.any_refused (looks_known u.reported.update.count
-          u.reported.update.folder.report.events.items u.reported.update.before.items))
-          _ out.any_refused
-          (ap (λ (u : _). watch (g.S.Shelf.path u.update.folder.shelf)
-          u.update.folder.types.now u.update.folder.allows_empty u.update.every u.update.within) same
-          ∙ c.looks_at-update.ensures.watch c.args.turns)
-          (ap (λ (u : _). so_far u.update.left u.update.looks.all u.update.any_refused
-          (looks_known u.update.count u.update.folder.report.events.items u.update.before.items)) same
-          ∙ c.looks_at-update.ensures.none)
-          (ap (λ (l : _). l.all) (sym (c.looking.ensures.looks ∙ ap (λ (l : _). l.looks) update)))
-          (sym (c.looking.ensures.refused ∙ ap (λ (l : _). l.any_refused) update))
-          (λ (u : _). u.between) (λ (u : _). u.left) (λ (u : _). u.intake.hand)
-          (λ (u : _). u.reader.lines.notes.all) (c.args.lines.every - 1) c.args.lines.hand
-          (ap (λ (u : _). view u.watch) same ∙ c.new-watch.ensures.starts)
-          c.lines_between-lines.ensures.every c.lines_between-lines.ensures.due
-          c.lines_between-lines.ensures.hand c.lines_between-lines.ensures.unread
-          (ap (λ (l : _). l.notes.all) (sym heard)))
-          how (ending_of fed) before after start (g.D.Disk.state (disk_of fed))
-          c.feed_disk-fed.ensures.ended)),
-      told_out g.L.Write.contents fed ended out.ended _ out.log
-          (λ f b. EndsLines f c.args.turns (view last.reported.watch) b)
-          c.end_lines-ended.ensures.ended c.looking.ensures.ended
-          (c.looking.ensures.log ∙ c.into_log.ensures
-          ∙ ap (λ (w : _). w.log.writer) c.into_parts-spool.ensures.watch)
-          c.end_lines-ended.ensures.told,
+          (plays_as _ _ (lines_retold _ how out.inputs c.looks_at-update.result told.0
+          (λ (u : _). watch (g.S.Shelf.path u.folder.shelf) u.folder.types.now u.folder.allows_empty
+          u.every u.within)
+          (λ (u : _). so_far u.left u.looks.all u.any_refused
+          (looks_known u.count u.folder.report.events.items u.before.items))
+          (watch_in how (g.S.Shelf.path c.in-Some.followed.shelf) c.in-Some.followed.types.now
+          c.in-Some.followed.allows_empty c.in-Some.followed.every)
+          out.any_refused (c.looks_at-update.ensures.watch c.args.turns)
+          c.looks_at-update.ensures.none
+          (ap (λ (u : _). u.looks.all) told.1 ∙ ap (λ (l : _). l.all) (sym c.looking.ensures.looks))
+          (ap (λ (u : _). u.any_refused) told.1 ∙ sym c.looking.ensures.refused)
+          (c.args.lines.every - 1) c.args.lines.hand
+          (told.2 ∙ ap (λ (l : _). l.notes.all) (sym c.looking.ensures.lines)))
+          how (fault_of ended.result) before after start (g.D.Disk.state ended.disk) told.3),
+      ended_out g.L.Write.contents ended out.ended _ out.log
+          (λ f b. EndsLines f c.args.turns told.0.teller b) c.looking.ensures.ended
+          c.looking.ensures.log told.4,
     )
 
 pub returns-in-None : goal.returns-in-None
 returns-in-None g c =
     let how = manner c.args.directory c.args.look c.args.turns in
-    let fed = c.feed_disk-fed-in-None.result in
-    let ended = c.end_lines-ended-in-None.result in
+    let told = c.play_answering-ended-in-None.ensures in
+    let ended = c.play_answering-ended-in-None.result.0 in
     let before = g.O.Outlet.writes c.args.outlet.now in
-    let after = g.O.Outlet.writes c.feed_disk-fed-in-None.new.outlet in
+    let after = g.O.Outlet.writes c.play_answering-ended-in-None.new.outlet in
     let start = g.D.Disk.state c.args.disk in
     let out = c.unwatched.result in
-    let same = c.lines_between-lines-in-None.ensures.reported in
-    let last = c.feed_disk-fed-in-None.new.update in
-    let view = teller g.F.System.calls g.L.Write.contents in
-    let heard = c.unwatched.ensures.lines ∙ c.into_lines-in-None.ensures
-    ∙ ap (λ (s : _). s.lines) c.into_parts-spool-in-None.ensures.reader
-    ∙ c.end_lines-ended-in-None.ensures.lines in
     rw (c.in-None.is) (
-      view last.reported.watch,
+      told.0.teller,
       handed_out g.D.Disk.state _ how before after start ended out.ended c.unwatched.ensures.ended
-          (fed_out g.D.Disk.state _ how before after start fed ended c.end_lines-ended-in-None.ensures.ended
-          (plays_as _ _ (lines_alone view _ (λ (u : _). u.reported.watch) how
-          c.lines_between-lines-in-None.result last out.inputs c.unwatched.ensures.looks
-          (λ (u : _). u.between) (λ (u : _). u.left) (λ (u : _). u.intake.hand)
-          (λ (u : _). u.reader.lines.notes.all) (c.args.lines.every - 1) c.args.lines.hand
-          (ap (λ (u : _). view u.watch) same ∙ c.new-watch.ensures.starts)
-          (sym c.unwatched.ensures.refused)
-          c.lines_between-lines-in-None.ensures.every c.lines_between-lines-in-None.ensures.due
-          c.lines_between-lines-in-None.ensures.hand c.lines_between-lines-in-None.ensures.unread
-          (ap (λ (l : _). l.notes.all) (sym heard)))
-          how (ending_of fed) before after start (g.D.Disk.state (disk_of fed))
-          c.feed_disk-fed-in-None.ensures.ended)),
-      told_out g.L.Write.contents fed ended out.ended _ out.log
-          (λ f b. EndsLines f c.args.turns (view last.reported.watch) b)
-          c.end_lines-ended-in-None.ensures.ended c.unwatched.ensures.ended
-          (c.unwatched.ensures.log ∙ c.into_log-in-None.ensures
-          ∙ ap (λ (w : _). w.log.writer) c.into_parts-spool-in-None.ensures.watch)
-          c.end_lines-ended-in-None.ensures.told,
+          (plays_as _ _ (lines_alone _ how out.inputs _ told.0 c.unwatched.ensures.looks
+          (sym c.unwatched.ensures.refused) (c.args.lines.every - 1) c.args.lines.hand
+          (told.2 ∙ ap (λ (l : _). l.notes.all) (sym c.unwatched.ensures.lines)))
+          how (fault_of ended.result) before after start (g.D.Disk.state ended.disk) told.3),
+      ended_out g.L.Write.contents ended out.ended _ out.log
+          (λ f b. EndsLines f c.args.turns told.0.teller b) c.unwatched.ensures.ended
+          c.unwatched.ensures.log told.4,
     )

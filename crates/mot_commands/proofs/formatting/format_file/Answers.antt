@@ -1,38 +1,36 @@
 use Rattle.std.proofs.Common.{[], append-nil, inl, inr, refl, subst, sym}
 use Rattle.std.proofs.KnownBytes.{Keeps-refl}
 use Rattle.std.proofs.lemmas.List.Elements.{All-nil}
-use Rattle.mot_cli.specs.declared.program.task.Task.TheVariants.{Format}
-use Rattle.mot_commands.specs.Inner.Finishing.{Finishes}
-use Rattle.mot_commands.specs.Program.{LooksFor}
+use Rattle.mot_commands.specs.Commands.{FormatsFile, IsUnformatted, LooksFirst}
+use Rattle.mot_outcome.specs.Outcome.{Finishes}
 use Rattle.mot_commands.proofs.formatting.format_file.Goals as goal
 
 pub returns-then-not-is_valid-clause-ended : goal.returns-then-not-is_valid-clause-ended
-returns-then-not-is_valid-clause-ended g c = λ unread.
+returns-then-not-is_valid-clause-ended g c =
     let old = g.W.Write.contents c.args.writer.now in
-    subst (λ (f : _). Finishes (Format c.args.path c.args.geometry c.args.directory) f unread unread
-    old old) (sym c.unbegun.ensures) (inl (
+    subst (λ (f : _). Finishes (IsUnformatted c.args.geometry) (λ ending used. FormatsFile c.args.geometry c.args.directory ending used old old)
+    f old old) (sym c.unbegun.ensures) (inl (
       inr (refl, λ v. let e = c.if-not-is_valid.ensures.1 v in absurd (cc (e))),
       record { untouched = tt; silent = Keeps-refl _ },
-      Keeps-refl _,
     ))
 
 pub returns-then-not-is_valid-clause-looked : goal.returns-then-not-is_valid-clause-looked
 returns-then-not-is_valid-clause-looked g c =
     let calls = g.Y.System.calls c.args.system.now in
-    subst (λ (f : _). LooksFor (Format c.args.path c.args.geometry c.args.directory) f.disk calls calls)
+    subst (λ (f : _). LooksFirst c.args.path.now f.disk calls calls)
     (sym c.unbegun.ensures)
     (record { more = []; calls = sym (append-nil calls); still = All-nil _ }, inl tt)
 
 pub returns-in-Some-clause-ended : goal.returns-in-Some-clause-ended
-returns-in-Some-clause-ended g c = λ unread.
+returns-in-Some-clause-ended g c =
     let old = g.W.Write.contents c.args.writer.now in
-    subst (λ (f : _). Finishes (Format c.args.path c.args.geometry c.args.directory) f unread unread
-    old old) (sym c.unbegun-in-Some.ensures)
-    (inl (inl refl, record { untouched = tt; silent = Keeps-refl _ }, Keeps-refl _))
+    subst (λ (f : _). Finishes (IsUnformatted c.args.geometry) (λ ending used. FormatsFile c.args.geometry c.args.directory ending used old old)
+    f old old) (sym c.unbegun-in-Some.ensures)
+    (inl (inl refl, record { untouched = tt; silent = Keeps-refl _ }))
 
 pub returns-in-Some-clause-looked : goal.returns-in-Some-clause-looked
 returns-in-Some-clause-looked g c =
-    subst (λ (f : _). LooksFor (Format c.args.path c.args.geometry c.args.directory) f.disk
+    subst (λ (f : _). LooksFirst c.args.path.now f.disk
     (g.Y.System.calls c.args.system.now) (g.Y.System.calls c.use_of.new.system))
     (sym c.unbegun-in-Some.ensures) (c.in-Some.ensures.looks, inl tt)
 

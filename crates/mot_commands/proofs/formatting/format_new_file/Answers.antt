@@ -1,8 +1,8 @@
 use Rattle.mot_playout.specs.Attempts.{fault_of}
 use Rattle.std.proofs.Common.{◌∙◌, inl, inr, refl, subst, sym}
 use Rattle.std.proofs.KnownBytes.{Keeps-refl}
-use Rattle.mot_cli.specs.declared.program.task.Task.TheVariants.{Format}
-use Rattle.mot_commands.specs.Inner.Finishing.{Finishes}
+use Rattle.mot_commands.specs.Commands.{FormatsFile, IsUnformatted}
+use Rattle.mot_outcome.specs.Outcome.{Finishes}
 use Rattle.mot_commands.specs.Report.{Formats}
 use Rattle.mot_numbers.specs.Geometry.{length_of}
 use Rattle.disk_store.proofs.Laws.{since_made}
@@ -10,7 +10,7 @@ use Rattle.mot_commands.proofs.Ends.{Formats-keeps}
 use Rattle.mot_commands.proofs.formatting.format_new_file.Goals as goal
 
 pub returns-clause-ended : goal.returns-clause-ended
-returns-clause-ended g c = λ unread.
+returns-clause-ended g c =
     let geometry = c.args.geometry in
     let directory = c.args.directory in
     let last = c.format_disk-result.new.disk in
@@ -18,7 +18,8 @@ returns-clause-ended g c = λ unread.
     let new = g.W.Write.contents c.format_disk-result.new.writer in
     let ending = fault_of c.format_disk-result.result in
     let formats = c.format_disk-result.ensures in
-    subst (λ (f : _). Finishes (Format c.args.path geometry directory) f unread unread old new)
+    subst (λ (f : _). Finishes (IsUnformatted c.args.geometry) (λ ending used. FormatsFile c.args.geometry c.args.directory ending used old new)
+    f old new)
     (sym c.of_file.ensures) (inr (
       c.requires,
       inr (since_made c.in-Ok.disk.disk last.disk (Formats geometry directory ending old new)
@@ -27,8 +28,8 @@ returns-clause-ended g c = λ unread.
     ))
 
 pub returns-in-Err-clause-ended : goal.returns-in-Err-clause-ended
-returns-in-Err-clause-ended g c = λ unread.
+returns-in-Err-clause-ended g c =
     let old = g.W.Write.contents c.args.writer.now in
-    subst (λ (f : _). Finishes (Format c.args.path c.args.geometry c.args.directory) f unread unread
-    old old) (sym c.unopened.ensures)
-    (inl (inl refl, record { untouched = tt; silent = Keeps-refl _ }, Keeps-refl _))
+    subst (λ (f : _). Finishes (IsUnformatted c.args.geometry) (λ ending used. FormatsFile c.args.geometry c.args.directory ending used old old)
+    f old old) (sym c.unopened.ensures)
+    (inl (inl refl, record { untouched = tt; silent = Keeps-refl _ }))

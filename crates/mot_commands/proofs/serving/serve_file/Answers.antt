@@ -1,11 +1,14 @@
 use Rattle.mot_playout.specs.Attempts.{fault_of}
-use Rattle.std.proofs.Common.{◌∙◌, inl, inr, refl, subst, sym}
+use Rattle.std.proofs.Common.{[], ◌≡◌, ◌∙◌, inl, inr, refl, subst, sym}
 use Rattle.std.proofs.KnownBytes.{Keeps-refl}
+use Rattle.std.specs.Io.KnownBytes.{Keeps}
 use Rattle.disk_store.specs.File.{file_state}
 use Rattle.disk_store.proofs.Laws.{since_opened}
-use Rattle.mot_cli.specs.declared.program.task.Task.TheVariants.{Serve}
-use Rattle.mot_commands.specs.Inner.Finishing.{Finishes}
-use Rattle.mot_commands.specs.Program.{UsesFor}
+use Rattle.mot_commands.specs.Commands.{ServesFile}
+use Rattle.mot_outcome.specs.Outcome.{Finishes}
+use Rattle.mot_numbers.specs.declared.refusal.Refusal.TheVariants.{DeviceFault}
+use Rattle.mot_outcome.proofs.Laws.{none_opened}
+use Rattle.mot_outcome.specs.Outcome.{Opens}
 use Rattle.mot_commands.specs.Serving.{Serves}
 use Rattle.mot_commands.proofs.Served.{serves-on}
 use Rattle.mot_commands.proofs.serving.serve_file.Goals as goal
@@ -18,7 +21,7 @@ returns-in-Ok-clause-ended g c =
     let new = g.W.Write.contents c.serve_disk-ended.new.writer in
     let ended = c.serve_disk-ended.result in
     let ending = fault_of ended.result in
-    subst (λ (f : _). Finishes (Serve c.args.path) f remains left old new) (sym c.of_file.ensures)
+    subst (λ (f : _). Finishes (λ r. (r ≡ DeviceFault) × Keeps remains left) (λ ending used. ServesFile ending used remains left old new) f old new) (sym c.of_file.ensures)
     (inr (since_opened c.in-Ok.disk.disk ended.disk.disk
     (λ first now. Serves file_state ended.disk.disk ending remains left old new first)
     c.in-Ok.ensures.first ended.disk.begins c.serve_disk-ended.ensures.keeps
@@ -29,27 +32,17 @@ pub returns-in-Err-clause-ended : goal.returns-in-Err-clause-ended
 returns-in-Err-clause-ended g c =
     let remains = g.R.Read.remaining c.args.reader.now in
     let old = g.W.Write.contents c.args.writer.now in
-    subst (λ (f : _). Finishes (Serve c.args.path) f remains remains old old)
+    subst (λ (f : _). Finishes (λ r. (r ≡ DeviceFault) × Keeps remains remains) (λ ending used. ServesFile ending used remains remains old old) f old old)
     (sym c.unopened.ensures)
-    (inl (refl, record { untouched = tt; silent = Keeps-refl _ }, Keeps-refl _))
+    (inl ((refl, Keeps-refl _), record { untouched = tt; silent = Keeps-refl _ }))
 
 pub returns-in-Ok-clause-files : goal.returns-in-Ok-clause-files
 returns-in-Ok-clause-files g c =
-    let opened = g.F.DiskFiles.opened in
-    let gone = g.F.DiskFiles.taken_away in
-    let old = c.args.files.now in
-    let new = c.clear_unfit.new.files in
-    subst (λ (f : _). UsesFor (fault_of f.result) (Serve c.args.path) f.disk (opened old, gone old)
-    (opened new, gone new)) (sym c.of_file.ensures) (
-      c.clear_unfit.ensures.opened ∙ c.in-Ok.ensures.one,
-      c.clear_unfit.ensures.stays ∙ c.in-Ok.ensures.stays,
-    )
+    subst (λ (f : _). Opens [] c.args.path.now f.disk c.args.host.now.paths.all
+    c.clear_unfit.new.host.paths.all) (sym c.of_file.ensures)
+    (c.clear_unfit.ensures ∙ c.in-Ok.ensures.paths)
 
 pub returns-in-Err-clause-files : goal.returns-in-Err-clause-files
 returns-in-Err-clause-files g c =
-    let opened = g.F.DiskFiles.opened in
-    let gone = g.F.DiskFiles.taken_away in
-    let old = c.args.files.now in
-    let new = c.open_disk.new.self in
-    subst (λ (f : _). UsesFor (fault_of f.result) (Serve c.args.path) f.disk (opened old, gone old)
-    (opened new, gone new)) (sym c.unopened.ensures) (c.in-Err.ensures.one, c.in-Err.ensures.stays)
+    subst (λ (f : _). Opens [] c.args.path.now f.disk c.args.host.now.paths.all
+    c.disk.new.self.paths.all) (sym c.unopened.ensures) (none_opened c.in-Err.ensures.paths)

@@ -1,30 +1,40 @@
-use Rattle.std.proofs.Common.{◌≡◌, ◌∙◌, ℕ, List, Option, None, Some, ap, inl, inr, map, refl}
-use Rattle.std.proofs.Common.{subst, sym}
+use Rattle.std.proofs.Common.{◌≡◌, ◌∙◌, ℕ, List, Option, None, Some, ap, inl, inr, map, refl, subst}
+use Rattle.std.proofs.Common.{sym}
 use Rattle.std.proofs.KnownBytes.{Keeps-refl}
-use Rattle.clap.specs.Words.{found_of, rows_of}
-use Rattle.mot_air.specs.Program.{AskForNothing}
+use Rattle.std.specs.Result.{result_unwrap_or}
+use Rattle.std.specs.Prelude.{false}
+use Rattle.clap.specs.Words.{Row, Text, found_of, rows_of, subcommand_of}
 use Rattle.mot_cli.proofs.Laws.{AreWrong-none, AskBy-matched, motcar_simple}
-use Rattle.mot_cli.specs.Air.Task.{IsAirTask}
+use Rattle.mot_cli.specs.Asked.{AskBy, AskFor}
 use Rattle.mot_cli.specs.Command.{motcar_app}
-use Rattle.mot_cli.specs.Program.Task.{IsTask}
+use Rattle.mot_cli.specs.Task.{AskForNothing, IsTask, IsWhy, LackOption}
+use Rattle.mot_cli.specs.declared.task.NoTask.{NoTask}
+use Rattle.mot_cli.specs.declared.task.NoTask.TheVariants.{Lacks, OutOfRange}
+use Rattle.mot_cli.specs.declared.task.Task.{Task}
 use Rattle.mot_numbers.specs.declared.refusal.Refusal.{Refusal}
-use Rattle.mot_numbers.specs.declared.refusal.Refusal.TheVariants.{BadNumber, OutOfMemory}
-use Rattle.mot_numbers.specs.declared.refusal.Refusal.TheVariants.{WriteFault}
+use Rattle.mot_numbers.specs.declared.refusal.Refusal.TheVariants.{BadNumber, WriteFault}
+use Rattle.disk_store.specs.declared.file.start.Start.{Ghosts}
 use Rattle.mot_outcome.proofs.Laws.{explained}
-use Rattle.mot_outcome.specs.Outcome.{IsUntouched, Prints}
-use Rattle.mot_outcome.specs.Outcome.ComesTo.{wrong}
-use Rattle.mot_outcome.specs.Outcome.UsesFiles.{none}
-use Rattle.mot_server.proofs.Halves.{IsNamed, lacks_nothing_off_air, lacks_on_air, named_so}
-use Rattle.mot_server.proofs.Halves.{off_air_looks, off_air_named, off_air_runs, off_air_uses}
-use Rattle.mot_server.proofs.Halves.{on_air_looks, on_air_named, on_air_runs, on_air_uses}
+use Rattle.mot_outcome.specs.Outcome.{IsUntold, IsUntouched, Prints, UsesFiles, status_of}
+use Rattle.mot_outcome.specs.Outcome.ComesTo.{no_task, wrong}
+use Rattle.mot_outcome.specs.Outcome.UsesFiles.{asked, none}
+use Rattle.mot_outcome.specs.declared.exit.Exit.{Exit}
+use Rattle.mot_outcome.specs.declared.used.UsedDisk.{UsedDisk}
+use Rattle.mot_playout.specs.Attempts.{fault_of}
+use Rattle.mot_server.proofs.Asking.{IsNamed, lacks, lacks_none, memory_is, named_so, none_is}
+use Rattle.mot_server.proofs.Asking.{number_of_named}
+use Rattle.mot_server.proofs.Coming.{runs}
 use Rattle.mot_server.proofs.program.run_program_on.Goals as goal
-use Rattle.mot_server.specs.Program.{Ends, IsBeginningRefusal, IsProgramTask, RunsTo}
-use Rattle.mot_server.specs.Program.{bad_number}
+use Rattle.mot_server.specs.Inner.Coming.{TellsWhy}
+use Rattle.mot_server.specs.Program.{Ends, IsBeginningRefusal, LooksFor, RunsTo, Uses}
+use Rattle.mot_server.specs.Program.{refused_number}
+
+-- ---- words that are wrong, or ask for help
 
 pub returns-in-Err-clause-ended : goal.returns-in-Err-clause-ended
 returns-in-Err-clause-ended g c =
     let words = map g.S.AsStr.text c.args.words.now in
-    explained IsProgramTask AskForNothing (bad_number words) IsBeginningRefusal Ends words
+    explained IsTask AskForNothing (refused_number words) IsBeginningRefusal Ends words
     c.explain.result (g.R.Read.remaining c.args.reader.now)
     (g.W.Write.contents c.args.writer.now) (g.W.Write.contents c.explain.new.writer)
     (λ are. inl are) c.in-Err.error c.in-Err.ensures.kinds c.args.start
@@ -39,15 +49,6 @@ returns-in_default-clause-ended g c =
     (wrong (inl (AreWrong-none motcar_app words motcar_simple c.in-Ok.matches
     c.in-Ok.ensures.matches c.in_default.ensures.rows))
     (refl, refl, record { untouched = tt; silent = Keeps-refl _ }, Keeps-refl _))
-
--- ---- an option that lacks the one of which it says more
-
-none_is : (r : Option Refusal) → r ≡ None → r ≡ Some BadNumber → ⊥
-none_is r is was = absurd (let e : None ≡ Some BadNumber = sym is ∙ was in cc)
-
-memory_is : (r : Option Refusal) → r ≡ Some OutOfMemory → r ≡ Some BadNumber → ⊥
-memory_is r is was =
-    absurd (let e : Some OutOfMemory ≡ Some BadNumber = sym is ∙ was in cc)
 
 printed : (r : Option Refusal) (text : List ℕ) (old new : Option (List ℕ))
     → Prints r text old new → r ≡ Some BadNumber → ⊥
@@ -78,86 +79,6 @@ pub returns-in_default-clause-files : goal.returns-in_default-clause-files
 returns-in_default-clause-files g c =
     none (subst (λ (e : _). IsUntouched e.disk) (sym c.unrefused.ensures) tt) refl
 
--- ---- a command on air, or another one
-
-pub returns-then-is_air-clause-ended : goal.returns-then-is_air-clause-ended
-returns-then-is_air-clause-ended g c =
-    let words = map g.S.AsStr.text c.args.words.now in
-    let name = c.in-Some.name.now in
-    let rows = rows_of (found_of c.in-Some.rest.now) in
-    let matched = named_so name rows words
-    (AskBy-matched motcar_app words IsNamed motcar_simple c.in-Ok.matches name rows
-    c.in-Ok.ensures.matches c.in-Some.ensures.name c.in-Some.ensures.rows) in
-    on_air_runs words c.run_command.result name rows matched
-    (on_air_named name (c.if-is_air.ensures.0 refl)) (g.R.Read.remaining c.args.reader.now)
-    (g.W.Write.contents c.args.writer.now) (g.W.Write.contents c.run_command.new.writer)
-    (c.run_command.ensures.ended words
-    (AskBy-matched motcar_app words IsAirTask motcar_simple c.in-Ok.matches name rows
-    c.in-Ok.ensures.matches c.in-Some.ensures.name c.in-Some.ensures.rows) matched)
-
-pub returns-clause-ended : goal.returns-clause-ended
-returns-clause-ended g c =
-    let words = map g.S.AsStr.text c.args.words.now in
-    let name = c.in-Some.name.now in
-    let rows = rows_of (found_of c.in-Some.rest.now) in
-    let matched = named_so name rows words
-    (AskBy-matched motcar_app words IsNamed motcar_simple c.in-Ok.matches name rows
-    c.in-Ok.ensures.matches c.in-Some.ensures.name c.in-Some.ensures.rows) in
-    off_air_runs words c.run_command-else-is_air.result name rows matched
-    (off_air_named name (λ is. let h = c.if-is_air.ensures.1 is in cc))
-    (g.R.Read.remaining c.args.reader.now) (g.R.Read.remaining c.run_command-else-is_air.new.reader)
-    (g.W.Write.contents c.args.writer.now) (g.W.Write.contents c.run_command-else-is_air.new.writer)
-    (c.run_command-else-is_air.ensures.ended words
-    (AskBy-matched motcar_app words IsTask motcar_simple c.in-Ok.matches name rows
-    c.in-Ok.ensures.matches c.in-Some.ensures.name c.in-Some.ensures.rows))
-
-pub returns-then-is_air-clause-lacking : goal.returns-then-is_air-clause-lacking
-returns-then-is_air-clause-lacking g c = λ lack.
-    let words = map g.S.AsStr.text c.args.words.now in
-    let name = c.in-Some.name.now in
-    let rows = rows_of (found_of c.in-Some.rest.now) in
-    let matched = named_so name rows words
-    (AskBy-matched motcar_app words IsNamed motcar_simple c.in-Ok.matches name rows
-    c.in-Ok.ensures.matches c.in-Some.ensures.name c.in-Some.ensures.rows) in
-    let lacks = lacks_on_air words name rows matched lack in
-    c.run_command.ensures.lacking lacks.0 lacks.1
-
-pub returns-clause-lacking : goal.returns-clause-lacking
-returns-clause-lacking g c = λ lack.
-    let words = map g.S.AsStr.text c.args.words.now in
-    let name = c.in-Some.name.now in
-    let rows = rows_of (found_of c.in-Some.rest.now) in
-    let matched = named_so name rows words
-    (AskBy-matched motcar_app words IsNamed motcar_simple c.in-Ok.matches name rows
-    c.in-Ok.ensures.matches c.in-Some.ensures.name c.in-Some.ensures.rows) in
-    absurd (lacks_nothing_off_air words name rows matched
-    (off_air_named name (λ is. let h = c.if-is_air.ensures.1 is in cc)) lack)
-
-pub returns-then-is_air-clause-files : goal.returns-then-is_air-clause-files
-returns-then-is_air-clause-files g c =
-    let words = map g.S.AsStr.text c.args.words.now in
-    let name = c.in-Some.name.now in
-    let rows = rows_of (found_of c.in-Some.rest.now) in
-    on_air_uses words c.run_command.result c.args.station.now.opened.all
-    c.run_command.new.station.opened.all
-    (g.F.DiskFiles.opened c.args.files.now, g.F.DiskFiles.taken_away c.args.files.now)
-    (c.run_command.ensures.files words
-    (AskBy-matched motcar_app words IsAirTask motcar_simple c.in-Ok.matches name rows
-    c.in-Ok.ensures.matches c.in-Some.ensures.name c.in-Some.ensures.rows))
-
-pub returns-clause-files : goal.returns-clause-files
-returns-clause-files g c =
-    let words = map g.S.AsStr.text c.args.words.now in
-    let name = c.in-Some.name.now in
-    let rows = rows_of (found_of c.in-Some.rest.now) in
-    off_air_uses words c.run_command-else-is_air.result
-    (g.F.DiskFiles.opened c.args.files.now, g.F.DiskFiles.taken_away c.args.files.now)
-    (g.F.DiskFiles.opened c.run_command-else-is_air.new.files, g.F.DiskFiles.taken_away c.run_command-else-is_air.new.files)
-    c.args.station.now.opened.all
-    (c.run_command-else-is_air.ensures.files words
-    (AskBy-matched motcar_app words IsTask motcar_simple c.in-Ok.matches name rows
-    c.in-Ok.ensures.matches c.in-Some.ensures.name c.in-Some.ensures.rows))
-
 pub returns-in-Err-clause-looked : goal.returns-in-Err-clause-looked
 returns-in-Err-clause-looked g c =
     none (subst (λ (d : _). IsUntouched d) (sym c.explain.ensures.untouched) tt) refl
@@ -166,24 +87,122 @@ pub returns-in_default-clause-looked : goal.returns-in_default-clause-looked
 returns-in_default-clause-looked g c =
     none (subst (λ (e : _). IsUntouched e.disk) (sym c.unrefused.ensures) tt) refl
 
-pub returns-then-is_air-clause-looked : goal.returns-then-is_air-clause-looked
-returns-then-is_air-clause-looked g c =
+-- ---- words that ask for no task
+
+-- it is told of them why
+told_so : {S : Type 0} {start : Ghosts S} (words : List Text) (name : Text) (rows : List Row)
+    (exit : Exit S start) (unread old : Option (List ℕ)) (why : NoTask)
+    → subcommand_of motcar_app words ≡ Some (name, rows) → AskBy motcar_app IsTask name rows words
+    → ((task : Task) → IsTask name rows task → ⊥) → IsWhy name rows why → IsUntouched exit.disk
+    → TellsWhy why exit → RunsTo words exit unread unread old old
+told_so words name rows exit unread old (Lacks option) named asks untaken is untouched tells =
+    wrong (inr (rows, subst (λ n. subcommand_of motcar_app words ≡ Some (n, rows)) is.0 named, is.1))
+    (tells.0, tells.1, record { untouched = untouched; silent = Keeps-refl _ }, Keeps-refl _)
+told_so words name rows exit unread old (OutOfRange r) named asks untaken is untouched tells =
+    no_task (λ task is_asked. untaken task ((asks task).0 is_asked)) (
+      tells.0,
+      tells.1 ∙ ap Some (is.0 ∙ sym (number_of_named words name rows named)),
+      record { untouched = untouched; silent = Keeps-refl _ },
+      Keeps-refl _,
+    )
+
+told_lacking : {S : Type 0} {start : Ghosts S} (words : List Text) (name : Text) (rows : List Row)
+    (exit : Exit S start) (why : NoTask) → subcommand_of motcar_app words ≡ Some (name, rows)
+    → IsWhy name rows why → TellsWhy why exit → LackOption words
+    → exit.refusal ≡ Some BadNumber → ⊥
+told_lacking words name rows exit (Lacks option) named is tells lack =
+    none_is exit.refusal tells.1
+told_lacking words name rows exit (OutOfRange r) named is tells lack =
+    let both = lacks words name rows named lack in
+    let whole = is.1 both.0 in
+    let less = both.1 in
+    absurd (cc)
+
+pub returns-in-Err-task_of-clause-ended : goal.returns-in-Err-task_of-clause-ended
+returns-in-Err-task_of-clause-ended g c =
     let words = map g.S.AsStr.text c.args.words.now in
     let name = c.in-Some.name.now in
     let rows = rows_of (found_of c.in-Some.rest.now) in
-    on_air_looks words c.run_command.result c.args.station.now.opened.all
-    c.run_command.new.station.opened.all (g.Y.System.calls c.args.system.now)
-    (c.run_command.ensures.files words
-    (AskBy-matched motcar_app words IsAirTask motcar_simple c.in-Ok.matches name rows
-    c.in-Ok.ensures.matches c.in-Some.ensures.name c.in-Some.ensures.rows))
+    let named = named_so name rows words
+    (AskBy-matched motcar_app words IsNamed motcar_simple c.in-Ok.matches name rows
+    c.in-Ok.ensures.matches c.in-Some.ensures.name c.in-Some.ensures.rows) in
+    told_so words name rows c.tell_no_task.result (g.R.Read.remaining c.args.reader.now)
+    (g.W.Write.contents c.args.writer.now) c.in-Err-task_of.why named
+    (AskBy-matched motcar_app words IsTask motcar_simple c.in-Ok.matches name rows
+    c.in-Ok.ensures.matches c.in-Some.ensures.name c.in-Some.ensures.rows)
+    c.in-Err-task_of.ensures.none c.in-Err-task_of.ensures.why
+    (subst (λ (d : _). IsUntouched d) (sym c.tell_no_task.ensures.untouched) tt)
+    c.tell_no_task.ensures.told
+
+pub returns-in-Err-task_of-clause-lacking : goal.returns-in-Err-task_of-clause-lacking
+returns-in-Err-task_of-clause-lacking g c = λ lack.
+    let words = map g.S.AsStr.text c.args.words.now in
+    let name = c.in-Some.name.now in
+    let rows = rows_of (found_of c.in-Some.rest.now) in
+    let named = named_so name rows words
+    (AskBy-matched motcar_app words IsNamed motcar_simple c.in-Ok.matches name rows
+    c.in-Ok.ensures.matches c.in-Some.ensures.name c.in-Some.ensures.rows) in
+    told_lacking words name rows c.tell_no_task.result c.in-Err-task_of.why named
+    c.in-Err-task_of.ensures.why c.tell_no_task.ensures.told lack
+
+pub returns-in-Err-task_of-clause-files : goal.returns-in-Err-task_of-clause-files
+returns-in-Err-task_of-clause-files g c =
+    none (subst (λ (d : _). IsUntouched d) (sym c.tell_no_task.ensures.untouched) tt) refl
+
+pub returns-in-Err-task_of-clause-looked : goal.returns-in-Err-task_of-clause-looked
+returns-in-Err-task_of-clause-looked g c =
+    none (subst (λ (d : _). IsUntouched d) (sym c.tell_no_task.ensures.untouched) tt) refl
+
+-- ---- a task
+
+pub returns-clause-ended : goal.returns-clause-ended
+returns-clause-ended g c =
+    let words = map g.S.AsStr.text c.args.words.now in
+    let name = c.in-Some.name.now in
+    let rows = rows_of (found_of c.in-Some.rest.now) in
+    let task = c.in-Ok-task_of.task in
+    let unread = g.R.Read.remaining c.args.reader.now in
+    let left = g.R.Read.remaining c.execute-finished.new.reader in
+    let old = g.W.Write.contents c.args.writer.now in
+    let new = g.W.Write.contents c.execute-finished.new.writer in
+    let finished = c.execute-finished.result in
+    subst (λ (e : _). RunsTo words e unread left old new) (sym c.conclude.ensures)
+    (runs task unread left old new words
+    ((AskBy-matched motcar_app words IsTask motcar_simple c.in-Ok.matches name rows
+    c.in-Ok.ensures.matches c.in-Some.ensures.name c.in-Some.ensures.rows task).1
+    c.in-Ok-task_of.ensures.some) finished.result finished.disk c.execute-finished.ensures.ended)
+
+pub returns-clause-lacking : goal.returns-clause-lacking
+returns-clause-lacking g c = λ lack.
+    let words = map g.S.AsStr.text c.args.words.now in
+    let name = c.in-Some.name.now in
+    let rows = rows_of (found_of c.in-Some.rest.now) in
+    let named = named_so name rows words
+    (AskBy-matched motcar_app words IsNamed motcar_simple c.in-Ok.matches name rows
+    c.in-Ok.ensures.matches c.in-Some.ensures.name c.in-Some.ensures.rows) in
+    let both = lacks words name rows named lack in
+    absurd (lacks_none name rows c.in-Ok-task_of.task c.in-Ok-task_of.ensures.some both.0 both.1)
+
+pub returns-clause-files : goal.returns-clause-files
+returns-clause-files g c =
+    let words = map g.S.AsStr.text c.args.words.now in
+    let name = c.in-Some.name.now in
+    let rows = rows_of (found_of c.in-Some.rest.now) in
+    let task = c.in-Ok-task_of.task in
+    subst (λ (e : _). Uses words e c.args.host.now.paths.all c.execute-finished.new.host.paths.all)
+    (sym c.conclude.ensures)
+    (asked task ((AskBy-matched motcar_app words IsTask motcar_simple c.in-Ok.matches name rows
+    c.in-Ok.ensures.matches c.in-Some.ensures.name c.in-Some.ensures.rows task).1
+    c.in-Ok-task_of.ensures.some) c.execute-finished.ensures.files)
 
 pub returns-clause-looked : goal.returns-clause-looked
 returns-clause-looked g c =
     let words = map g.S.AsStr.text c.args.words.now in
     let name = c.in-Some.name.now in
     let rows = rows_of (found_of c.in-Some.rest.now) in
-    off_air_looks words c.run_command-else-is_air.result
-    (g.Y.System.calls c.args.system.now) (g.Y.System.calls c.run_command-else-is_air.new.system)
-    (c.run_command-else-is_air.ensures.looked words
-    (AskBy-matched motcar_app words IsTask motcar_simple c.in-Ok.matches name rows
-    c.in-Ok.ensures.matches c.in-Some.ensures.name c.in-Some.ensures.rows))
+    let task = c.in-Ok-task_of.task in
+    subst (λ (e : _). UsesFiles IsTask LooksFor words e.disk (g.Y.System.calls c.args.system.now)
+    (g.Y.System.calls c.execute-finished.new.system)) (sym c.conclude.ensures)
+    (asked task ((AskBy-matched motcar_app words IsTask motcar_simple c.in-Ok.matches name rows
+    c.in-Ok.ensures.matches c.in-Some.ensures.name c.in-Some.ensures.rows task).1
+    c.in-Ok-task_of.ensures.some) c.execute-finished.ensures.looked)

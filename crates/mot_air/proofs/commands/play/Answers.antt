@@ -1,0 +1,140 @@
+use Rattle.std.proofs.Common.{◌≡◌, ◌⊎◌, ◌∙◌, ◌-◌, ℕ, List, [], ◌∷◌, ◌++◌, Option, Some, None, Result, Bool, ap, inl, inr, refl, subst}
+use Rattle.std.proofs.Common.{sym}
+use Rattle.std.specs.Prelude.{IfSome, codes, option_map, unwrap_or}
+use Rattle.std.specs.Borrow.{Bor}
+use Rattle.disk_store.specs.declared.file.start.Start.{Ghosts}
+use Rattle.mot_air.specs.Commands.{Concludes, IsUnplayed, PlaysTask, PlaysTo, played_as, played_with}
+use Rattle.mot_air.specs.Commands.{watch_asked}
+use Rattle.mot_air.specs.Telling.{tale_with}
+use Rattle.mot_folder.specs.Looked.{Watch}
+use Rattle.mot_numbers.specs.declared.refusal.Refusal.{Refusal}
+use Rattle.mot_outcome.specs.Outcome.{Opens}
+use Rattle.mot_outcome.specs.declared.used.UsedDisk.{UsedDisk}
+use Rattle.mot_cli.specs.declared.playing.PlayTask.{PlayTask}
+use Rattle.std.proofs.KnownBytes.{Keeps-refl}
+use Rattle.mot_air.proofs.Begun.{concludes_more}
+use Rattle.mot_air.proofs.Used.{begun_after, begun_first, opened_after}
+use Rattle.mot_air.proofs.commands.play.Goals as goal
+use Rattle.mot_endpoints.specs.Opened.{named}
+use Rattle.mot_endpoints.specs.declared.lines.LineFolder.{LineFolder}
+use Rattle.mot_endpoints.specs.Types.{IsTyped}
+use Rattle.mot_suffixes.specs.Types.{SuffixType}
+use Rattle.mot_numbers.specs.declared.refusal.Refusal.TheVariants.{DeviceFault, WriteFault}
+
+-- the same folder and lines, told of the words
+asked : {S : Type 0} {start : Ghosts S} (task : PlayTask) (used : UsedDisk S start)
+    (old new : Option (List ℕ)) {w v : Option Watch} {h k : Option (List ℕ × ℕ)} (all : Bool)
+    (ending : Option Refusal) → w ≡ v → h ≡ k
+    → PlaysTo task (tale_with w h (played_as task)) all ending old new used
+    → PlaysTo task (tale_with v k (played_as task)) all ending old new used
+asked task used old new {w} {v} {h} {k} all ending same held plays =
+    subst (λ x. PlaysTo task (tale_with x k (played_as task)) all ending old new used) same
+    (subst (λ x. PlaysTo task (tale_with w x (played_as task)) all ending old new used) held plays)
+
+pub returns-in-Err-clause-ended : goal.returns-in-Err-clause-ended
+returns-in-Err-clause-ended g c =
+    let old = g.W.Write.contents c.args.writer.now in
+    subst (λ (f : _). Concludes (IsUnplayed c.args.task)
+    (λ all ending. PlaysTask c.args.task all ending f.disk old old) f.result f.disk old old)
+    (sym c.unbegun.ensures)
+    (inl (inl c.in-Err.ensures.refused, record { untouched = tt; silent = Keeps-refl _ }))
+
+pub returns-in-Err-line_folder-clause-ended : goal.returns-in-Err-line_folder-clause-ended
+returns-in-Err-line_folder-clause-ended g c =
+    let old = g.W.Write.contents c.args.writer.now in
+    subst (λ (f : _). Concludes (IsUnplayed c.args.task)
+    (λ all ending. PlaysTask c.args.task all ending f.disk old old) f.result f.disk old old)
+    (sym c.unbegun-in-Err-line_folder.ensures) (inl (
+      inr (inl c.in-Err-line_folder.ensures.refused),
+      record { untouched = tt; silent = Keeps-refl _ },
+    ))
+
+-- the lines that are read are those of the words
+reads_asked : {S : Type 0} (eight : ℕ) (every : Option ℕ) (path : Option (Bor (List ℕ)))
+    (lines : Option (LineFolder S)) → option_map (λ (l : LineFolder S). l.hand) lines
+    ≡ option_map (λ _. []) path
+    → IfSome lines (λ (l : LineFolder S). l.every ≡ unwrap_or every eight)
+    → option_map {U = List ℕ × ℕ} (λ (l : LineFolder S). (l.hand, l.every - 1)) lines
+    ≡ option_map {U = List ℕ × ℕ} (λ _. ([], unwrap_or every eight - 1)) path
+reads_asked eight every None None same is = refl
+reads_asked eight every (Some path) None same is = absurd (let e : None ≡ Some [] = same in cc)
+reads_asked eight every None (Some lines) same is = absurd (let e : Some lines.hand ≡ None = same in cc)
+reads_asked eight every (Some path) (Some lines) same is =
+    let with_count : ℕ → Option (List ℕ × ℕ) = λ n. Some (lines.hand, n - 1) in
+    ap with_count is
+    ∙ ap (λ (h : Option (List ℕ)). option_map {U = List ℕ × ℕ} (λ (x : List ℕ). (x, unwrap_or every eight - 1)) h) same
+
+-- what was played is told of the words
+played : {S : Type 0} {start : Ghosts S} (task : PlayTask) (table : List SuffixType)
+    (used : UsedDisk S start) (old new : Option (List ℕ)) (result : Result Bool Refusal)
+    (w : Option Watch) (hand : Option (List ℕ × ℕ)) → IsTyped task.types table
+    → w ≡ watch_asked table task
+    → hand ≡ option_map (λ path. ([], unwrap_or task.every 8 - 1)) task.lines
+    → Concludes (λ r. (r ≡ DeviceFault) ⊎ (r ≡ WriteFault)) (λ all ending.
+    PlaysTo task (tale_with w hand (played_as task)) all ending old new used) result used old new
+    → Concludes (IsUnplayed task) (λ all ending. PlaysTask task all ending used old new) result
+    used old new
+played task table used old new result w hand typed same held plays =
+    concludes_more (λ r. (r ≡ DeviceFault) ⊎ (r ≡ WriteFault)) (IsUnplayed task) (λ all ending.
+    PlaysTo task (tale_with w hand (played_as task)) all ending old new used)
+    (λ all ending. PlaysTask task all ending used old new) used old new result
+    (λ r early. inr (inr early))
+    (λ all ending so. (table, typed, asked task used old new all ending same held so)) plays
+
+pub returns-clause-ended : goal.returns-clause-ended
+returns-clause-ended g c =
+    played c.args.task c.in-Ok.types c.play_file.result.disk
+    (g.W.Write.contents c.args.writer.now) (g.W.Write.contents c.play_file.new.writer)
+    c.play_file.result.result _ _ c.in-Ok.ensures.typed
+    (c.followed-folder.ensures.given (played_as c.args.task)) (reads_asked 8 c.args.task.every
+    c.args.task.lines c.in-Ok-line_folder.lines c.in-Ok-line_folder.ensures.hand
+    c.in-Ok-line_folder.ensures.every)
+    c.play_file.ensures.ended
+
+pub returns-in-Err-clause-opens : goal.returns-in-Err-clause-opens
+returns-in-Err-clause-opens g c =
+    let task = c.args.task in
+    let old = c.args.host.now.paths.all in
+    let new = c.file_types.new.host.paths.all in
+    subst (λ (f : _). Opens (played_with task) task.disk.now f.disk old new) (sym c.unbegun.ensures)
+    (begun_first (named (codes "types") task.types) (named (codes "lines") task.lines
+    ++ (named (codes "folder") task.folder ++ (named (codes "status") task.status
+    ++ (codes "packets", task.packets.now) ∷ []))) old new c.in-Err.ensures.opens)
+
+pub returns-in-Err-line_folder-clause-opens : goal.returns-in-Err-line_folder-clause-opens
+returns-in-Err-line_folder-clause-opens g c =
+    let task = c.args.task in
+    let types = named (codes "types") task.types in
+    let lines = named (codes "lines") task.lines in
+    let others = named (codes "folder") task.folder ++ (named (codes "status") task.status
+    ++ (codes "packets", task.packets.now) ∷ []) in
+    let old = c.args.host.now.paths.all in
+    let mid = c.file_types.new.host.paths.all in
+    let new = c.line_folder.new.host.paths.all in
+    subst (λ (f : _). Opens (played_with task) task.disk.now f.disk old new)
+    (sym c.unbegun-in-Err-line_folder.ensures)
+    (begun_after types (lines ++ others) old mid new c.in-Ok.ensures.opens
+    (begun_first lines others mid new c.in-Err-line_folder.ensures.opens))
+
+pub returns-clause-opens : goal.returns-clause-opens
+returns-clause-opens g c =
+    let task = c.args.task in
+    let types = named (codes "types") task.types in
+    let lines = named (codes "lines") task.lines in
+    let folder = named (codes "folder") task.folder in
+    let status = named (codes "status") task.status in
+    let packets = (codes "packets", task.packets.now) ∷ [] in
+    let used = c.play_file.result.disk in
+    let first = c.file_types.new.host.paths.all in
+    let second = c.line_folder.new.host.paths.all in
+    let third = c.followed-folder.new.host.paths.all in
+    let fourth = c.status_file-status.new.host.paths.all in
+    let last = c.play_file.new.host.paths.all in
+    opened_after types (lines ++ (folder ++ (status ++ packets))) task.disk.now used
+    c.args.host.now.paths.all first last c.in-Ok.ensures.opens
+    (opened_after lines (folder ++ (status ++ packets)) task.disk.now used first second last
+    c.in-Ok-line_folder.ensures.opens
+    (opened_after folder (status ++ packets) task.disk.now used second third last
+    c.followed-folder.ensures.opens
+    (opened_after status packets task.disk.now used third fourth last
+    c.status_file-status.ensures.opens c.play_file.ensures.opens)))

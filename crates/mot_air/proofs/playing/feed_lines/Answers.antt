@@ -1,0 +1,4 @@
+use Rattle.mot_air.proofs.playing.feed_lines.Goals as goal
+
+pub returns : goal.returns
+returns g c = c.feed_disk.ensures.ended

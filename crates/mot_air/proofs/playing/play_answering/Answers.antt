@@ -1,0 +1,39 @@
+use Rattle.std.proofs.Common.{◌∙◌, ◌-◌, ap, sym}
+use Rattle.mot_air.specs.Inner.Fed.{disk_of, ending_of}
+use Rattle.mot_air.specs.Playing.{manner}
+use Rattle.mot_air.specs.Telling.{EndsLines}
+use Rattle.mot_air.proofs.Retold.{answered_retold, fed_out, plays_as, seen, told_out}
+use Rattle.mot_air.proofs.playing.play_answering.Goals as goal
+use Rattle.mot_status.specs.Teller.{teller}
+
+pub returns : goal.returns
+returns g c =
+    let how = manner c.args.directory c.args.look c.args.turns in
+    let fed = c.feed_lines-fed.result in
+    let ended = c.end_lines-ended.result in
+    let before = g.O.Outlet.writes c.args.outlet.now in
+    let after = g.O.Outlet.writes c.feed_lines-fed.new.outlet in
+    let start = g.D.Disk.state c.args.disk in
+    let last = c.feed_lines-fed.new.lines in
+    let view = teller g.F.System.calls g.L.Write.contents in
+    let made = c.lines_between-lines.ensures in (
+      seen last view (λ (s : _). s.lines.notes.all),
+      sym (c.into_parts-spool.ensures.update ∙ c.end_lines-ended.ensures.update),
+      ap (λ (l : _). l.notes.all) (sym (c.into_lines.ensures
+          ∙ ap (λ (s : _). s.lines) c.into_parts-spool.ensures.reader
+          ∙ c.end_lines-ended.ensures.lines)),
+      fed_out g.D.Disk.state _ how before after start fed ended c.end_lines-ended.ensures.ended
+          (plays_as _ _ (answered_retold c.lines_between-lines.result last view
+          (λ (s : _). s.lines.notes.all) _ g.U.Facts.known g.U.Update.tells how
+          (c.args.lines.every - 1) c.args.update
+          c.args.lines.hand made.every made.due made.unread made.hand
+          (ap (λ (r : _). r.update) made.reported)
+          (ap (λ (r : _). view r.watch) made.reported ∙ c.new-watch.ensures.starts))
+          how (ending_of fed) before after start (g.D.Disk.state (disk_of fed))
+          c.feed_lines-fed.ensures),
+      told_out g.L.Write.contents fed ended _ c.into_log.result
+          (λ f b. EndsLines f c.args.turns (view last.reported.watch) b)
+          c.end_lines-ended.ensures.ended
+          (c.into_log.ensures ∙ ap (λ (w : _). w.log.writer) c.into_parts-spool.ensures.watch)
+          c.end_lines-ended.ensures.told,
+    )

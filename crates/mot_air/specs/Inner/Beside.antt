@@ -1,0 +1,69 @@
+-- What stands beside a disk while it is played with any update, and what is told of that.
+use Rattle.std.specs.Prelude.{ℕ, List, []}
+use Rattle.mot_air.specs.Telling.{Same}
+use Rattle.mot_events.specs.Log.{Entry, HearsAll}
+use Rattle.mot_feed_lines.specs.Answering.{TellsInTurn, TellsOnTime}
+use Rattle.mot_feed_lines.specs.declared.lines.Lines.{Lines}
+use Rattle.mot_feed_lines.specs.declared.reported.Reported.{Reported}
+use Rattle.mot_repository.specs.Repository.{RepositoryView}
+use Rattle.mot_status.specs.Teller.{Hears, Misses, TellerView, TellsAfter, TellsBefore}
+use Rattle.mot_update.specs.Between.{Telling}
+use Rattle.mot_update.specs.Watching.{LooksKnown, TellsWatched}
+use Rattle.mot_update.specs.declared.moment.Moment.{Moment}
+
+-- the update; how many packets are to come before the next read of lines, what each of these gave so
+-- far, what has come of the next line; and what was told
+pub record Beside (U : Type 0) : Type 0 where
+  pub update : U
+  pub late : ℕ
+  pub lines : List (List ℕ)
+  pub hand : List ℕ
+  pub teller : TellerView
+
+-- nothing was read
+abbrev pub beside : {U : Type 0} → U → (hand : List ℕ) → TellerView → Beside U
+beside update hand teller =
+    record { update = update; late = 0; lines = []; hand = hand; teller = teller }
+
+module _ {U : Type 0} (same : Same) (known : U → LooksKnown)
+    (tells : U → U → Moment → Telling) where
+  -- what the update tells, and that it was told, up to here
+  abbrev pub tells_told_of : (old new : Beside U) → (told : TellerView) → Moment → Telling
+  tells_told_of old new told moment =
+      TellsWatched TellsBefore (TellsAfter same) old.teller (known new.update) told moment
+      (tells old.update new.update moment)
+
+  -- nothing else is told
+  abbrev pub tells_alone_of : (old new : Beside U) → Moment → Telling
+  tells_alone_of old new moment = tells_told_of old new new.teller moment
+
+module _ {U : Type 0} (same : Same) (between : ℕ) (known : U → LooksKnown)
+    (tells : U → U → Moment → Telling) where
+  -- or lines, of which so many packets come between two reads
+  abbrev pub tells_lines_of : (old new : Beside U) → Moment → Telling
+  tells_lines_of old new moment =
+      TellsInTurn (HearsAll Hears Misses) between old.late new.late old.hand new.hand old.lines
+      new.lines (λ (told : TellerView). tells_told_of same known tells old new told moment)
+      new.teller
+
+-- Whoever is told of it hears so of updates.
+module _ {U W : Type 0} (begins : W → RepositoryView → Moment → W → Type 0)
+    (ends : W → RepositoryView → LooksKnown → W → Type 0) where
+  -- what is told of an update that is watched
+  abbrev pub tells_reported : (known : U → LooksKnown) → (tells : U → U → Moment → Telling)
+      → (old new : Reported U W) → Moment → Telling
+  tells_reported known tells old new moment =
+      TellsWatched begins ends old.watch (known new.update) new.watch moment
+      (tells old.update new.update moment)
+
+module _ {R U W : Type 0} (hears : W → List Entry → W → Type 0)
+    (begins : W → RepositoryView → Moment → W → Type 0)
+    (ends : W → RepositoryView → LooksKnown → W → Type 0) where
+  -- and of lines behind it
+  abbrev pub tells_answered : (gave : R → List (List ℕ)) → (known : U → LooksKnown)
+      → (tells : U → U → Moment → Telling) → (old new : Lines R U W) → Moment → Telling
+  tells_answered gave known tells old new moment =
+      TellsOnTime hears old.between new.between old.left new.left old.intake.hand new.intake.hand
+      (gave old.reader) (gave new.reader) (λ (told : W). TellsWatched begins ends
+      old.reported.watch (known new.reported.update) told moment
+      (tells old.reported.update new.reported.update moment)) new.reported.watch

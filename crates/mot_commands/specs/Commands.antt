@@ -1,0 +1,90 @@
+-- What the commands that serve, make, check and migrate a disk do.
+use Rattle.std.specs.Prelude.{ℕ, ◌≡◌, ◌⊎◌, true, List, [], ◌∷◌, ◌++◌, Option, Some}
+use Rattle.std.specs.Prelude.{codes}
+use Rattle.clap.specs.Words.{Text}
+use Rattle.disk_store.specs.Beginning.{HasFirstCalls, SinceMade, SinceOpened}
+use Rattle.disk_store.specs.File.{file_state}
+use Rattle.disk_store.specs.Ram.{ram_state}
+use Rattle.disk_store.specs.declared.file.start.Start.{Ghosts}
+use Rattle.disk_store.specs.declared.memory.ram.RamDisk.{RamDisk}
+use Rattle.mot_devices.specs.Looking.{IsFree, OnlyLooks}
+use Rattle.mot_files.specs.Call.{Call}
+use Rattle.mot_commands.specs.Report.{Checks, Formats, Migrates}
+use Rattle.mot_commands.specs.Serving.{Serves}
+use Rattle.mot_journal.specs.Journal.{IsNewDisk}
+use Rattle.mot_numbers.specs.Geometry.{IsValid, length_of}
+use Rattle.mot_numbers.specs.declared.geometry.Geometry.{Geometry}
+use Rattle.mot_numbers.specs.declared.refusal.Refusal.{Refusal}
+use Rattle.mot_numbers.specs.declared.refusal.Refusal.TheVariants.{BadGeometry, DeviceFault}
+use Rattle.mot_numbers.specs.declared.refusal.Refusal.TheVariants.{OutOfMemory}
+use Rattle.mot_outcome.specs.Outcome.{IsUntouched, OnFile, OnOpened, Opens}
+use Rattle.mot_outcome.specs.declared.used.UsedDisk.{UsedDisk}
+use Rattle.mot_outcome.specs.declared.used.UsedDisk.TheVariants.{InMemory}
+
+-- In these what the reader had left was unread and is left, and the writer's known bytes were old
+-- and are new; a task ended with this refusal or with none.
+
+-- a disk was made in memory, new and of this geometry, and served
+pub record ServesNew (g : Geometry) (ending : Option Refusal)
+    (unread left old new : Option (List ℕ)) (disk : RamDisk) : Type 0 where
+  pub valid : IsValid g
+  pub first : RamDisk
+  pub formatted : (image : List ℕ) → (ram_state first).MayLeave image → IsNewDisk g 1 image
+  pub served : Serves ram_state disk ending unread left old new (ram_state first)
+
+-- the geometry is out of its ranges
+abbrev pub IsBadGeometry : Geometry → Refusal → Type 0
+IsBadGeometry g refusal = (refusal ≡ BadGeometry) × (IsValid g → ⊥)
+
+-- why a disk in memory is not served: there is no memory for it, or its geometry is bad
+abbrev pub IsUnmade : Geometry → Refusal → Type 0
+IsUnmade g r = (r ≡ OutOfMemory) ⊎ IsBadGeometry g r
+
+-- why no file is opened or made: it can't be, or the geometry is bad
+abbrev pub IsUnformatted : Geometry → Refusal → Type 0
+IsUnformatted g r = (r ≡ DeviceFault) ⊎ IsBadGeometry g r
+
+module _ {S : Type 0} {start : Ghosts S} where
+  -- a disk was made in memory, and served
+  abbrev pub ServesMemory : Geometry → Option Refusal → UsedDisk S start
+      → (unread left old new : Option (List ℕ)) → Type 0
+  ServesMemory g ending (InMemory disk value) unread left old new =
+      ServesNew g ending unread left old new disk
+  ServesMemory g ending used unread left old new = ⊥
+
+  -- a file was opened or else made, so long, and a disk made of it
+  abbrev pub FormatsFile : Geometry → (directory : ℕ) → Option Refusal → UsedDisk S start
+      → (old new : Option (List ℕ)) → Type 0
+  FormatsFile g directory ending used old new = OnFile (λ disk beside.
+      IsValid g × (SinceOpened (Formats g directory ending old new) disk
+      ⊎ SinceMade (length_of g) (Formats g directory ending old new) disk)) used
+
+  -- a file was opened, and its disk served, told, or migrated
+  abbrev pub ServesFile : Option Refusal → UsedDisk S start
+      → (unread left old new : Option (List ℕ)) → Type 0
+  ServesFile ending used unread left old new = OnFile (λ disk beside. SinceOpened
+      (λ first now. Serves file_state disk ending unread left old new first) disk) used
+
+  abbrev pub ChecksFile : Option Refusal → UsedDisk S start → (old new : Option (List ℕ)) → Type 0
+  ChecksFile ending used old new = OnOpened (Checks ending old new) used
+
+  abbrev pub MigratesFile : Option Refusal → UsedDisk S start → (old new : Option (List ℕ))
+      → Type 0
+  MigratesFile ending used old new = OnOpened (Migrates ending old new) used
+
+  -- its calls are those of a file that was made, and not opened
+  abbrev pub IsMade : UsedDisk S start → Type 0
+  IsMade = OnFile (λ disk beside. HasFirstCalls true disk)
+
+  -- which files `format` comes to that ended so: only one that was made here and could not be
+  -- formatted is removed
+  abbrev pub OpensOrMakes : (ending : Option Refusal) → Text → UsedDisk S start
+      → (before after : List (Text × Text)) → Type 0
+  OpensOrMakes ending path used before after = Opens [] path used before after
+      ⊎ ((ending ≡ Some DeviceFault) × IsMade used
+      × (after ≡ before ++ (codes "disk", path) ∷ (codes "removed", path) ∷ []))
+
+  -- which calls `format` makes of the system beside those on its disk: that is made only if what its
+  -- path names was found free, and that changed nothing
+  abbrev pub LooksFirst : Text → UsedDisk S start → (old new : List Call) → Type 0
+  LooksFirst path used old new = OnlyLooks old new × (IsUntouched used ⊎ IsFree path old new)

@@ -1,0 +1,201 @@
+//! What a program has of the system to come to its files by: no path is opened, made as a disk or
+//! removed but through it.
+ghost use Rattle.std.specs.Prelude.{◌≡◌, ◌≢◌, ◌≤◌, ◌∷◌, ◌++◌, [], None, Ok, Some, IfOk, MatchResult};
+ghost use Rattle.std.specs.Prelude.{codes, false, length, true};
+ghost use Rattle.disk_store.specs.Beginning.{IsFirst};
+ghost use Rattle.disk_store.specs.File.{file_state};
+ghost use Rattle.mot_endpoints.specs.LinePlaces.{ChecksLines};
+ghost use Rattle.mot_endpoints.specs.Packets.{IsTarget, OpensInto, begun_of, target_of};
+
+use crate::fault::{Cause, LinesFault, TypesFault};
+use crate::lines::{LinePlace, Others, check_folder};
+use crate::packets::{OpenPackets, Target, open_packets};
+use crate::status_file::StatusFile;
+use crate::types::read_text;
+use disk_store::{BegunFile, SideFile, Start, Unopened, WasMade, WasThere, make_file, open_file};
+use mot_files::HostSystem;
+use mot_shelf::{Pairs, SystemShelf};
+use std::alloc::Global;
+
+/// The files of the machine, by their paths. Each method comes to the files of the path that it
+/// notes, and what it hands out to no others: no contract can say so, and a reader of this file has
+/// to see it.
+#[derive(Drop)]
+pub struct Host<'a> {
+    rt: &'a HostRuntime,
+    /// The empty file that stands beside the one that was opened or made last as a disk.
+    side: Option<SideFile>,
+    /// What it came to so far, in order: as what, and by which path.
+    paths: Pairs,
+}
+
+impl<'a> Host<'a> {
+    /// It came to none.
+    pub fn new(rt: &'a HostRuntime) -> Host<'a>
+        ensures { result.paths.all ≡ [] }
+    {
+        Host {
+            rt,
+            side: None,
+            paths: Pairs::new(),
+        }
+    }
+
+    /// The files of the machine, of which nothing was asked.
+    fn system(&self) -> HostSystem<'a, HostRuntime>
+        ensures { result.calls.all ≡ [] }
+    {
+        HostSystem::new(self.rt, self.rt.alloc(), self.rt.stdout())
+    }
+
+    /// Opens the file at the path as a disk.
+    pub fn disk<S: Start>(
+        &mut self,
+        path: &str,
+        start: S,
+    ) -> Result<BegunFile<S, WasThere>, Unopened<S>>
+        ensures first { IfOk result (λ file. IsFirst false file.disk) }
+        ensures paths { MatchResult result
+            (λ _. self.new.paths.all ≡ self.old.paths.all ++ (codes "disk", path.now) ∷ [])
+            (λ _. self.new.paths.all ≡ self.old.paths.all) }
+    {
+        self.side = SideFile::of_target(self.rt, path).ok();
+        let file = open_file(self.rt, path, start)?;
+        self.paths.note(b"disk", path.as_bytes());
+        Ok(file)
+    }
+
+    /// Makes a new file of so many zeros, as a disk.
+    pub fn make_disk<S: Start>(
+        &mut self,
+        path: &str,
+        len: u64,
+        start: S,
+    ) -> Result<BegunFile<S, WasMade>, Unopened<S>>
+        ensures first { IfOk result (λ file. IsFirst true file.disk) }
+        ensures len { IfOk result (λ file. (file_state file.disk).len ≡ len) }
+        ensures paths { MatchResult result
+            (λ _. self.new.paths.all ≡ self.old.paths.all ++ (codes "disk", path.now) ∷ [])
+            (λ _. self.new.paths.all ≡ self.old.paths.all) }
+    {
+        self.side = match SideFile::of(self.rt, path) {
+            Ok(side) => Some(side),
+            Err(error) => return Err(Unopened::of(start, error)),
+        };
+        let file = make_file(self.rt, path, len, start)?;
+        self.paths.note(b"disk", path.as_bytes());
+        Ok(file)
+    }
+
+    /// Removes the empty file that the last opening of a disk has made beside its file, if it can:
+    /// what was opened is no disk, or not one for what is asked.
+    pub fn clear_side(&mut self)
+        ensures { self.new.paths.all ≡ self.old.paths.all }
+    {
+        if let Some(side) = &self.side {
+            let _ = side.clear(self.rt);
+        }
+    }
+
+    /// Removes the file of this path, that was made last as a disk and is of no use, and the empty
+    /// one that was made beside it, if it can.
+    pub fn take_away(&mut self, path: &str)
+        ensures { self.new.paths.all ≡ self.old.paths.all ++ (codes "removed", path.now) ∷ [] }
+    {
+        self.paths.note(b"removed", path.as_bytes());
+        if let Some(side) = &self.side {
+            let _ = side.take_away(self.rt, path);
+        }
+    }
+
+    /// Opens what the path names, to write packets to it. A pipe or a device is opened for reading
+    /// and writing: so a pipe's opening waits for no reader, and its reader may go and come back.
+    /// The pipe is locked, so that no other program of ours writes to it. A file is written only if
+    /// some turns are asked for: so a pipe that is not there is refused. So are the disk itself,
+    /// the names of its files, and a terminal.
+    pub fn packets(
+        &mut self,
+        path: &'a str,
+        disk: &str,
+        turns: Option<u32>,
+    ) -> Result<OpenPackets<'a, HostSystem<'a, HostRuntime>>, Cause>
+        ensures target { IfOk result (λ opened. IsTarget path.now (target_of opened)) }
+        ensures begun { IfOk result (λ opened. begun_of opened ≡ path.now ∷ []) }
+        ensures turns { IfOk result (λ opened. target_of opened ≡ Target.File
+            → (turns ≢ None) × (turns ≢ Some 0)) }
+        ensures paths { MatchResult result
+            (λ _. self.new.paths.all ≡ self.old.paths.all ++ (codes "packets", path.now) ∷ [])
+            (λ _. self.new.paths.all ≡ self.old.paths.all) }
+        ensures calls { IfOk result (λ opened. OpensInto path.now disk.now opened.writer.handle
+            [] opened.writer.system.calls.all opened.destination) }
+    {
+        let opened = open_packets(self.system(), self.rt.alloc(), path, disk, turns)?;
+        self.paths.note(b"packets", path.as_bytes());
+        Ok(opened)
+    }
+
+    /// The folder of objects at the path, of which nothing was read. Files are read `at_once`, or
+    /// once their last change is two seconds ago.
+    pub fn folder(
+        &mut self,
+        path: &'a str,
+        at_once: bool,
+    ) -> SystemShelf<'a, HostSystem<'a, HostRuntime>>
+        ensures none { result.system.calls.all ≡ [] }
+        ensures path { result.path.now ≡ path.now }
+        ensures rule { result.at_once ≡ at_once }
+        ensures paths { self.new.paths.all
+            ≡ self.old.paths.all ++ (codes "folder", path.now) ∷ [] }
+    {
+        self.paths.note(b"folder", path.as_bytes());
+        SystemShelf::new(self.system(), path, at_once)
+    }
+
+    /// The folder of lines at the path, of which nothing was read. It is not that of the objects,
+    /// and none of the other files stands in it.
+    pub fn lines(
+        &mut self,
+        path: &'a str,
+        others: Others<'_>,
+    ) -> Result<LinePlace<'a, HostSystem<'a, HostRuntime>>, LinesFault>
+        ensures path { IfOk result (λ place. place.path ≡ path.entry) }
+        ensures paths { MatchResult result
+            (λ _. self.new.paths.all ≡ self.old.paths.all ++ (codes "lines", path.now) ∷ [])
+            (λ _. self.new.paths.all ≡ self.old.paths.all) }
+        ensures checked { IfOk result (λ place. ChecksLines path.now others.entry (Ok tt)
+            [] place.system.calls.all) }
+    {
+        let mut system = HostSystem::new(self.rt, self.rt.alloc(), self.rt.stdout());
+        check_folder(&mut system, path, others)?;
+        self.paths.note(b"lines", path.as_bytes());
+        Ok(LinePlace::new(system, path))
+    }
+
+    /// The bytes of the file that adds suffixes: 65,536 at most.
+    pub fn types(&mut self, alloc: Global, path: &str) -> Result<Vec<u8>, TypesFault>
+        ensures len { IfOk result (λ text. length text.items ≤ 65536) }
+        ensures paths { MatchResult result
+            (λ _. self.new.paths.all ≡ self.old.paths.all ++ (codes "types", path.now) ∷ [])
+            (λ _. self.new.paths.all ≡ self.old.paths.all) }
+    {
+        let text = read_text(&mut self.system(), alloc, path)?;
+        self.paths.note(b"types", path.as_bytes());
+        Ok(text)
+    }
+
+    /// The file of the status at the path, to which nothing was written.
+    pub fn status(
+        &mut self,
+        path: &'a str,
+        disk: &'a str,
+    ) -> StatusFile<'a, HostSystem<'a, HostRuntime>>
+        ensures path { result.path.now ≡ path.now }
+        ensures disk { result.disk.now ≡ disk.now }
+        ensures unasked { result.system.calls.all ≡ [] }
+        ensures paths { self.new.paths.all
+            ≡ self.old.paths.all ++ (codes "status", path.now) ∷ [] }
+    {
+        self.paths.note(b"status", path.as_bytes());
+        StatusFile::new(self.system(), self.rt.alloc(), path, disk)
+    }
+}

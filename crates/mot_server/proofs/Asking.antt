@@ -1,0 +1,74 @@
+-- What words ask for that name a command.
+use Rattle.std.proofs.Common.{◌≡◌, ◌∙◌, ℕ, Bool, true, false, List, Option, Some, None, ap, refl, sym}
+use Rattle.std.specs.Option.{option_map_or}
+use Rattle.std.specs.Prelude.{bytes_eq, codes}
+use Rattle.clap.specs.Words.{Row, Text, subcommand_of}
+use Rattle.mot_cli.specs.Asked.{AskBy}
+use Rattle.mot_cli.specs.Command.{motcar_app}
+use Rattle.mot_cli.specs.Task.{IsTask, LackOption, bad_number}
+use Rattle.mot_cli.specs.Whole.{is_whole}
+use Rattle.mot_cli.specs.declared.task.Task.{Task}
+use Rattle.mot_cli.specs.declared.task.Task.TheVariants.{Memory, Format, Serve, Check, Migrate}
+use Rattle.mot_cli.specs.declared.task.Task.TheVariants.{Play, Sync, Export, Inspect}
+use Rattle.mot_numbers.specs.declared.refusal.Refusal.{Refusal}
+use Rattle.mot_numbers.specs.declared.refusal.Refusal.TheVariants.{BadNumber, OutOfMemory}
+use Rattle.mot_server.specs.Program.{refused_number}
+
+-- a name and rows, and nothing else of them
+abbrev pub IsNamed : Text → List Row → Text × List Row → Type 0
+IsNamed name rows both = both ≡ (name, rows)
+
+-- words that ask for what a command of this name does name it
+pub named_so : (name : Text) (rows : List Row) (words : List Text)
+    → AskBy motcar_app IsNamed name rows words
+    → subcommand_of motcar_app words ≡ Some (name, rows)
+named_so name rows words asks =
+    let asked = (asks (name, rows)).1 refl in
+    asked.matched ∙ ap Some (sym asked.is_task)
+
+one_pair : (both other : Text × List Row) → Some both ≡ Some other → both ≡ other
+one_pair both other e = cc
+
+module _ (words : List Text) (name : Text) (rows : List Row)
+    (is : subcommand_of motcar_app words ≡ Some (name, rows)) where
+  -- the refusal of its numbers
+  pub number_of_named : refused_number words ≡ bad_number name
+  number_of_named = ap (λ (o : Option (Text × List Row)).
+      option_map_or (λ named. bad_number named.0) o BadNumber) is
+
+  -- only `play` lacks an option
+  pub lacks : LackOption words → (name ≡ codes "play") × (is_whole rows ≡ false)
+  lacks lack =
+      let same = one_pair (name, rows) (codes "play", lack.0) (sym is ∙ lack.1) in (
+        ap (λ (p : Text × List Row). p.0) same,
+        ap (λ (p : Text × List Row). is_whole p.1) same ∙ lack.2,
+      )
+
+not_play : (name other : Text) → bytes_eq other (codes "play") ≡ false → name ≡ other
+    → name ≡ codes "play" → ⊥
+not_play name other differs is play =
+    let e : bytes_eq other (codes "play") ≡ true =
+    ap (λ n. bytes_eq n (codes "play")) (sym is ∙ play) in
+    absurd (cc)
+
+-- a task that is asked for lacks none
+pub lacks_none : (name : Text) (rows : List Row) (task : Task) → IsTask name rows task
+    → name ≡ codes "play" → is_whole rows ≡ false → ⊥
+lacks_none name rows (Play p) is play lack =
+    absurd (let whole : is_whole rows ≡ true = is.13 in cc)
+lacks_none name rows (Memory g) is play lack = not_play name (codes "memory") refl is.0 play
+lacks_none name rows (Format p g d) is play lack = not_play name (codes "format") refl is.0 play
+lacks_none name rows (Serve p) is play lack = not_play name (codes "serve") refl is.0 play
+lacks_none name rows (Check p) is play lack = not_play name (codes "check") refl is.0 play
+lacks_none name rows (Migrate p) is play lack = not_play name (codes "migrate") refl is.0 play
+lacks_none name rows (Sync d f t r) is play lack = not_play name (codes "sync") refl is.0 play
+lacks_none name rows (Export d) is play lack = not_play name (codes "export") refl is.0 play
+lacks_none name rows (Inspect d r) is play lack = not_play name (codes "inspect") refl is.0 play
+
+-- refusals that are no bad number
+pub none_is : (r : Option Refusal) → r ≡ None → r ≡ Some BadNumber → ⊥
+none_is r is was = absurd (let e : None ≡ Some BadNumber = sym is ∙ was in cc)
+
+pub memory_is : (r : Option Refusal) → r ≡ Some OutOfMemory → r ≡ Some BadNumber → ⊥
+memory_is r is was =
+    absurd (let e : Some OutOfMemory ≡ Some BadNumber = sym is ∙ was in cc)

@@ -1,0 +1,81 @@
+-- What the commands come to is what the program comes to.
+use Rattle.std.proofs.Common.{[], ◌≡◌, ◌⊎◌, ℕ, Bool, true, false, List, Option, Some, None, Result, Ok}
+use Rattle.std.proofs.Common.{Err, inl, inr, refl, subst, sym}
+use Rattle.std.proofs.KnownBytes.{Keeps-refl}
+use Rattle.std.specs.Io.KnownBytes.{Keeps}
+use Rattle.std.specs.Prelude.{IsErrAnd}
+use Rattle.std.specs.Result.{result_unwrap_or}
+use Rattle.clap.specs.Words.{Text}
+use Rattle.disk_store.specs.declared.file.start.Start.{Ghosts}
+use Rattle.mot_air.specs.Commands.{Concludes}
+use Rattle.mot_cli.specs.Asked.{AskFor}
+use Rattle.mot_cli.specs.Command.{motcar_app}
+use Rattle.mot_cli.specs.Task.{IsTask}
+use Rattle.mot_cli.specs.declared.task.Task.{Task}
+use Rattle.mot_files.specs.Call.{Call}
+use Rattle.mot_numbers.specs.declared.refusal.Refusal.{Refusal}
+use Rattle.mot_outcome.specs.Outcome.{IsUntold, UsesFiles, status_of}
+use Rattle.mot_outcome.specs.Outcome.ComesTo.{begun, unbegun}
+use Rattle.mot_outcome.specs.declared.exit.Exit.{Exit}
+use Rattle.mot_outcome.specs.declared.used.UsedDisk.{UsedDisk}
+use Rattle.mot_playout.specs.Attempts.{fault_of}
+use Rattle.mot_server.specs.Inner.Coming.{ComesOut, whole_result}
+use Rattle.mot_server.specs.Program.{Ends, IsBeginningRefusal, IsWhole, LooksFor, RunsTo, Uses}
+
+module _ {S : Type 0} {start : Ghosts S} (task : Task) (unread left old new : Option (List ℕ)) where
+  -- a command that is done whole if no refusal ends it
+  pub comes_whole : (IsEarly : Refusal → Type 0)
+      (IsEnded : Option Refusal → UsedDisk S start → Type 0)
+      (result : Result Unit Refusal) (used : UsedDisk S start)
+      → ((r : Refusal) → IsEarly r → IsBeginningRefusal task r × Keeps unread left)
+      → ((all : Bool) (ending : Option Refusal) → IsWhole all ending → IsEnded ending used
+      → Ends task all ending used unread left old new)
+      → IsErrAnd result (λ r. IsEarly r × IsUntold used old new) ⊎ IsEnded (fault_of result) used
+      → ComesOut task (whole_result result) used unread left old new
+  comes_whole IsEarly IsEnded (Ok done) used early ended (inl none) = absurd none
+  comes_whole IsEarly IsEnded (Ok done) used early ended (inr p) =
+      inr (ended true None (λ none. refl) p)
+  comes_whole IsEarly IsEnded (Err r) used early ended (inl p) =
+      let first = early r p.0 in inl (first.0, p.1, first.1)
+  comes_whole IsEarly IsEnded (Err r) used early ended (inr p) =
+      inr (ended false (Some r) (λ none. absurd (cc)) p)
+
+  -- one whose result tells whether it is
+  pub comes_so : (IsEarly : Refusal → Type 0) (IsEnded : Bool → Option Refusal → Type 0)
+      (result : Result Bool Refusal) (used : UsedDisk S start)
+      → ((r : Refusal) → IsEarly r → IsBeginningRefusal task r × Keeps unread left)
+      → ((all : Bool) (ending : Option Refusal) → IsEnded all ending
+      → Ends task all ending used unread left old new)
+      → Concludes IsEarly IsEnded result used old new
+      → ComesOut task result used unread left old new
+  comes_so IsEarly IsEnded (Ok all) used early ended p = inr (ended all None p)
+  comes_so IsEarly IsEnded (Err r) used early ended (inl p) =
+      let first = early r p.0 in inl (first.0, p.1, first.1)
+  comes_so IsEarly IsEnded (Err r) used early ended (inr p) = inr (ended false (Some r) p)
+
+  -- and so the run, whose words ask for it
+  pub runs : (words : List Text) → AskFor motcar_app IsTask words task
+      → (result : Result Bool Refusal) (used : UsedDisk S start)
+      → ComesOut task result used unread left old new
+      → RunsTo {S = S} {start = start} words (record {
+        status = status_of (result_unwrap_or result false) (fault_of result);
+        refusal = fault_of result;
+        disk = used;
+      }) unread left old new
+  runs words asks (Ok all) used (inl none) = absurd none
+  runs words asks (Ok all) used (inr p) = begun task asks all refl p
+  runs words asks (Err r) used (inl p) = unbegun task asks r p.0 (refl, refl, p.1, p.2)
+  runs words asks (Err r) used (inr p) = begun task asks false refl p
+
+-- a run that began with nothing come to, and nothing asked of the system
+module _ {S : Type 0} {start : Ghosts S} (words : List Text) (exit : Exit S start) where
+  pub uses_from_nothing : (before after : List (Text × Text)) → before ≡ []
+      → Uses words exit before after → Uses words exit [] after
+  uses_from_nothing before after nothing uses =
+      subst (λ (first : List (Text × Text)). Uses words exit first after) nothing uses
+
+  pub looks_from_nothing : (before after : List Call) → before ≡ []
+      → UsesFiles IsTask LooksFor words exit.disk before after
+      → UsesFiles IsTask LooksFor words exit.disk [] after
+  looks_from_nothing before after nothing looks =
+      subst (λ (first : List Call). UsesFiles IsTask LooksFor words exit.disk first after) nothing looks

@@ -1,0 +1,156 @@
+use Rattle.std.proofs.Common.{◌≡◌, subst, sym}
+use Rattle.std.proofs.KnownBytes.{Keeps-refl}
+use Rattle.std.specs.Io.KnownBytes.{Keeps}
+use Rattle.mot_air.specs.Commands.{ExportsFile, InspectsFile, IsUnplayed, IsUnsynced, PlaysTask}
+use Rattle.mot_air.specs.Commands.{SyncsTask}
+use Rattle.mot_cli.specs.declared.task.Task.{Task}
+use Rattle.mot_cli.specs.declared.task.Task.TheVariants.{Memory, Format, Serve, Check, Migrate}
+use Rattle.mot_cli.specs.declared.task.Task.TheVariants.{Play, Sync, Export, Inspect}
+use Rattle.mot_commands.specs.Commands.{ChecksFile, FormatsFile, IsUnformatted, IsUnmade}
+use Rattle.mot_commands.specs.Commands.{LooksFirst, MigratesFile, ServesFile, ServesMemory}
+use Rattle.mot_numbers.specs.declared.refusal.Refusal.TheVariants.{DeviceFault}
+use Rattle.mot_server.specs.Inner.Coming.{ComesOut}
+use Rattle.mot_server.specs.Program.{LooksFor}
+use Rattle.mot_server.proofs.Coming.{comes_so, comes_whole}
+use Rattle.mot_server.proofs.running.execute.Goals as goal
+
+pub returns-in-Memory-clause-ended : goal.returns-in-Memory-clause-ended
+returns-in-Memory-clause-ended g c =
+    let unread = g.R.Read.remaining c.args.reader.now in
+    let left = g.R.Read.remaining c.serve_memory.new.reader in
+    let old = g.W.Write.contents c.args.writer.now in
+    let new = g.W.Write.contents c.serve_memory.new.writer in
+    let task : Task = Memory c.in-Memory.geometry in
+    let result = c.serve_memory.result.result in
+    let used = c.serve_memory.result.disk in
+    subst (λ (t : Task). ComesOut t c.whole.result.result c.whole.result.disk unread left old new)
+    (sym c.in-Memory.is)
+    (subst (λ (w : _). ComesOut task w.result w.disk unread left old new) (sym c.whole.ensures)
+    (comes_whole task unread left old new (λ r. IsUnmade c.in-Memory.geometry r × Keeps unread left)
+    (λ ending used. ServesMemory c.in-Memory.geometry ending used unread left old new) result used (λ r early. early)
+    (λ all ending whole is. (whole, is)) c.serve_memory.ensures))
+
+pub returns-in-Format-clause-ended : goal.returns-in-Format-clause-ended
+returns-in-Format-clause-ended g c =
+    let unread = g.R.Read.remaining c.args.reader.now in
+    let old = g.W.Write.contents c.args.writer.now in
+    let new = g.W.Write.contents c.format_file.new.writer in
+    let task : Task = Format c.in-Format.path c.in-Format.geometry c.in-Format.directory in
+    let result = c.format_file.result.result in
+    let used = c.format_file.result.disk in
+    subst (λ (t : Task). ComesOut t c.whole-in-Format.result.result c.whole-in-Format.result.disk unread unread old new)
+    (sym c.in-Format.is)
+    (subst (λ (w : _). ComesOut task w.result w.disk unread unread old new) (sym c.whole-in-Format.ensures)
+    (comes_whole task unread unread old new (IsUnformatted c.in-Format.geometry)
+    (λ ending used. FormatsFile c.in-Format.geometry c.in-Format.directory ending used old new) result used (λ r early. (early, Keeps-refl _))
+    (λ all ending whole is. (whole, Keeps-refl _, is)) c.format_file.ensures.ended))
+
+pub returns-in-Format-clause-looked : goal.returns-in-Format-clause-looked
+returns-in-Format-clause-looked g c =
+    let old = g.Y.System.calls c.args.system.now in
+    let new = g.Y.System.calls c.format_file.new.system in
+    subst (λ (t : Task). LooksFor t c.whole-in-Format.result.disk old new) (sym c.in-Format.is)
+    (subst (λ (w : _). LooksFirst c.in-Format.path.now w.disk old new)
+    (sym c.whole-in-Format.ensures) c.format_file.ensures.looked)
+
+pub returns-in-Serve-clause-ended : goal.returns-in-Serve-clause-ended
+returns-in-Serve-clause-ended g c =
+    let unread = g.R.Read.remaining c.args.reader.now in
+    let left = g.R.Read.remaining c.serve_file.new.reader in
+    let old = g.W.Write.contents c.args.writer.now in
+    let new = g.W.Write.contents c.serve_file.new.writer in
+    let task : Task = Serve c.in-Serve.path in
+    let result = c.serve_file.result.result in
+    let used = c.serve_file.result.disk in
+    subst (λ (t : Task). ComesOut t c.whole-in-Serve.result.result c.whole-in-Serve.result.disk unread left old new)
+    (sym c.in-Serve.is)
+    (subst (λ (w : _). ComesOut task w.result w.disk unread left old new) (sym c.whole-in-Serve.ensures)
+    (comes_whole task unread left old new (λ r. (r ≡ DeviceFault) × Keeps unread left)
+    (λ ending used. ServesFile ending used unread left old new) result used (λ r early. early)
+    (λ all ending whole is. (whole, is)) c.serve_file.ensures.ended))
+
+pub returns-in-Check-clause-ended : goal.returns-in-Check-clause-ended
+returns-in-Check-clause-ended g c =
+    let unread = g.R.Read.remaining c.args.reader.now in
+    let old = g.W.Write.contents c.args.writer.now in
+    let new = g.W.Write.contents c.check_file.new.writer in
+    let task : Task = Check c.in-Check.path in
+    let result = c.check_file.result.result in
+    let used = c.check_file.result.disk in
+    subst (λ (t : Task). ComesOut t c.whole-in-Check.result.result c.whole-in-Check.result.disk unread unread old new)
+    (sym c.in-Check.is)
+    (subst (λ (w : _). ComesOut task w.result w.disk unread unread old new) (sym c.whole-in-Check.ensures)
+    (comes_whole task unread unread old new (λ r. r ≡ DeviceFault)
+    (λ ending used. ChecksFile ending used old new) result used (λ r early. (early, Keeps-refl _))
+    (λ all ending whole is. (whole, Keeps-refl _, is)) c.check_file.ensures.ended))
+
+pub returns-in-Migrate-clause-ended : goal.returns-in-Migrate-clause-ended
+returns-in-Migrate-clause-ended g c =
+    let unread = g.R.Read.remaining c.args.reader.now in
+    let old = g.W.Write.contents c.args.writer.now in
+    let new = g.W.Write.contents c.migrate_file.new.writer in
+    let task : Task = Migrate c.in-Migrate.path in
+    let result = c.migrate_file.result.result in
+    let used = c.migrate_file.result.disk in
+    subst (λ (t : Task). ComesOut t c.whole-in-Migrate.result.result c.whole-in-Migrate.result.disk unread unread old new)
+    (sym c.in-Migrate.is)
+    (subst (λ (w : _). ComesOut task w.result w.disk unread unread old new) (sym c.whole-in-Migrate.ensures)
+    (comes_whole task unread unread old new (λ r. r ≡ DeviceFault)
+    (λ ending used. MigratesFile ending used old new) result used (λ r early. (early, Keeps-refl _))
+    (λ all ending whole is. (whole, Keeps-refl _, is)) c.migrate_file.ensures.ended))
+
+pub returns-in-Play-clause-ended : goal.returns-in-Play-clause-ended
+returns-in-Play-clause-ended g c =
+    let unread = g.R.Read.remaining c.args.reader.now in
+    let old = g.W.Write.contents c.args.writer.now in
+    let new = g.W.Write.contents c.play.new.writer in
+    let task : Task = Play c.in-Play.played in
+    let result = c.play.result.result in
+    let used = c.play.result.disk in
+    subst (λ (t : Task). ComesOut t result used unread unread old new) (sym c.in-Play.is)
+    (comes_so task unread unread old new (IsUnplayed c.in-Play.played)
+    (λ all ending. PlaysTask c.in-Play.played all ending used old new) result used (λ r early. (early, Keeps-refl _))
+    (λ all ending is. (Keeps-refl _, is)) c.play.ensures.ended)
+
+pub returns-in-Sync-clause-ended : goal.returns-in-Sync-clause-ended
+returns-in-Sync-clause-ended g c =
+    let unread = g.R.Read.remaining c.args.reader.now in
+    let old = g.W.Write.contents c.args.writer.now in
+    let new = g.W.Write.contents c.sync.new.log in
+    let task : Task = Sync c.in-Sync.disk c.in-Sync.folder c.in-Sync.types c.in-Sync.rules in
+    let result = c.sync.result.result in
+    let used = c.sync.result.disk in
+    subst (λ (t : Task). ComesOut t result used unread unread old new) (sym c.in-Sync.is)
+    (comes_so task unread unread old new (IsUnsynced c.in-Sync.types)
+    (λ all ending. SyncsTask c.in-Sync.types c.in-Sync.rules c.in-Sync.folder.now all ending used old new) result used (λ r early. (early, Keeps-refl _))
+    (λ all ending is. (Keeps-refl _, is)) c.sync.ensures.ended)
+
+pub returns-in-Export-clause-ended : goal.returns-in-Export-clause-ended
+returns-in-Export-clause-ended g c =
+    let unread = g.R.Read.remaining c.args.reader.now in
+    let old = g.W.Write.contents c.args.writer.now in
+    let new = g.W.Write.contents c.export_file.new.writer in
+    let task : Task = Export c.in-Export.path in
+    let result = c.export_file.result.result in
+    let used = c.export_file.result.disk in
+    subst (λ (t : Task). ComesOut t c.whole-in-Export.result.result c.whole-in-Export.result.disk unread unread old new)
+    (sym c.in-Export.is)
+    (subst (λ (w : _). ComesOut task w.result w.disk unread unread old new) (sym c.whole-in-Export.ensures)
+    (comes_whole task unread unread old new (λ r. r ≡ DeviceFault)
+    (λ ending used. ExportsFile ending used old new) result used (λ r early. (early, Keeps-refl _))
+    (λ all ending whole is. (whole, Keeps-refl _, is)) c.export_file.ensures.ended))
+
+pub returns-in-Inspect-clause-ended : goal.returns-in-Inspect-clause-ended
+returns-in-Inspect-clause-ended g c =
+    let unread = g.R.Read.remaining c.args.reader.now in
+    let old = g.W.Write.contents c.args.writer.now in
+    let new = g.W.Write.contents c.inspect_file.new.writer in
+    let task : Task = Inspect c.in-Inspect.disk c.in-Inspect.rate in
+    let result = c.inspect_file.result.result in
+    let used = c.inspect_file.result.disk in
+    subst (λ (t : Task). ComesOut t c.whole-in-Inspect.result.result c.whole-in-Inspect.result.disk unread unread old new)
+    (sym c.in-Inspect.is)
+    (subst (λ (w : _). ComesOut task w.result w.disk unread unread old new) (sym c.whole-in-Inspect.ensures)
+    (comes_whole task unread unread old new (λ r. r ≡ DeviceFault)
+    (λ ending used. InspectsFile c.in-Inspect.rate ending used old new) result used (λ r early. (early, Keeps-refl _))
+    (λ all ending whole is. (whole, Keeps-refl _, is)) c.inspect_file.ensures.ended))

@@ -1,0 +1,79 @@
+//! Each command, by its task.
+ghost use Rattle.std.specs.Prelude.{◌≡◌};
+ghost use Rattle.mot_playout.specs.Attempts.{fault_of};
+ghost use Rattle.mot_server.specs.Inner.Coming.{ComesOut, whole_result};
+ghost use Rattle.mot_server.specs.Program.{LooksFor, UsesFor};
+
+use disk_store::Start;
+use mot_air::{export_file, inspect_file, play, sync};
+use mot_cli::Task;
+use mot_commands::{check_file, format_file, migrate_file, serve_file, serve_memory};
+use mot_endpoints::Host;
+use mot_files::System;
+use mot_outcome::Finished;
+use std::alloc::Global;
+use std::io::{Read, Write};
+
+/// Does a task. Its result tells whether all of it is done, or files of a folder were refused.
+pub(crate) fn execute<'a, Y: System, B: Start, R: Read, W: Write, E: Write>(
+    host: &mut Host<'a>,
+    system: &mut Y,
+    alloc: Global,
+    task: &Task<'a>,
+    start: B,
+    reader: &mut R,
+    writer: &mut W,
+    errors: &mut E,
+) -> Finished<B, bool>
+    ensures ended { ComesOut task.now result.result result.disk
+        (R.remaining reader.old) (R.remaining reader.new)
+        (W.contents writer.old) (W.contents writer.new) }
+    ensures files { UsesFor (fault_of result.result) task.now result.disk
+        host.old.paths.all host.new.paths.all }
+    ensures looked { LooksFor task.now result.disk (Y.calls system.old) (Y.calls system.new) }
+{
+    match task {
+        Task::Memory(geometry) => whole(serve_memory(alloc, *geometry, start, reader, writer)),
+        Task::Format {
+            path,
+            geometry,
+            directory,
+        } => whole(format_file(
+            host, system, alloc, path, start, *geometry, *directory, writer,
+        )),
+        Task::Serve(path) => whole(serve_file(host, alloc, path, start, reader, writer)),
+        Task::Check(path) => whole(check_file(host, alloc, path, start, writer)),
+        Task::Migrate(path) => whole(migrate_file(host, alloc, path, start, writer)),
+        Task::Play(played) => play(host, alloc, *played, start, writer, errors),
+        Task::Sync {
+            disk,
+            folder,
+            types,
+            rules,
+        } => sync(host, alloc, disk, folder, *types, *rules, start, writer),
+        Task::Export(path) => whole(export_file(host, alloc, path, start, writer)),
+        Task::Inspect { disk, rate } => {
+            whole(inspect_file(host, alloc, disk, *rate, start, writer))
+        }
+    }
+}
+
+/// What a task came to that, if no refusal ended it, is done whole.
+fn whole<B: Start>(finished: Finished<B, ()>) -> Finished<B, bool>
+    ensures { result ≡ record {
+      result = whole_result finished.result;
+      disk = finished.disk;
+      cause = finished.cause;
+      reason = finished.reason;
+    } }
+{
+    Finished {
+        result: match finished.result {
+            Ok(()) => Ok(true),
+            Err(refusal) => Err(refusal),
+        },
+        disk: finished.disk,
+        cause: finished.cause,
+        reason: finished.reason,
+    }
+}
