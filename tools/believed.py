@@ -64,7 +64,7 @@ PROMISES = [
         ("mot_files", "take_place", ""), ("mot_files", "replace", ""), ("mot_endpoints", "StatusFile::write", ""),
         ("mot_endpoints", "OpenPackets::take_place", ""), ("mot_endpoints", "OpenPackets::take_away", ""),
         ("mot_endpoints", "PacketWriter::write_once", ""), ("mot_endpoints", "Station::packets", ""),
-        ("mot_endpoints", "Spool::read", ""), ("mot_endpoints", "Spool::finish", ""),
+        ("mot_line_folder", "Spool::read", ""), ("mot_line_folder", "Spool::finish", ""),
     ]),
     ("Single crates", []),
 ]
@@ -89,7 +89,7 @@ CITED_BY_NONE = [
     ("mot_events/Text", "line_of", "private functions of `EventLog`"),
     ("mot_folder/Log", "TellsAnswers TellsOf not_accepted waiting_in", "private functions of `look_at_folder`"),
     ("mot_feed_lines/Logged", "LogHas", "private functions of `answer_there`"),
-    ("mot_endpoints/LineFiles", "refusal_of", "private functions of `Spool`"),
+    ("mot_line_folder/LineFiles", "refusal_of", "private functions of `Spool`"),
     ("mot_status/Measured", "IsMeasured", "private functions of `Reporter`"),
     ("mot_air/Telling", "EndsAs", "private functions of `mot_air::run_command`"),
     ("mot_update/HasRun", "commands_for", "a private function of `settle`"),

@@ -12,7 +12,7 @@ ghost use Rattle.mot_air.specs.Inner.Beside.{Beside, beside, tells_alone_of, tel
 ghost use Rattle.mot_air.specs.Inner.Beside.{tells_reported};
 ghost use Rattle.mot_air.specs.Inner.Fed.{IsEndOf, disk_of, ending_of};
 ghost use Rattle.mot_air.specs.Inner.Looked.{LooksAndTells};
-ghost use Rattle.mot_endpoints.specs.Spooling.{Finishes};
+ghost use Rattle.mot_line_folder.specs.Spooling.{Finishes};
 ghost use Rattle.mot_events.specs.Log.{AreOfFiles, Entry, HearsAll};
 ghost use Rattle.mot_events.specs.Text.{met_line};
 ghost use Rattle.mot_feed.specs.Feeding.{IsFeedFault};
@@ -31,12 +31,12 @@ ghost use Rattle.mot_update.specs.Watching.{looks_known};
 
 use crate::Ended;
 use disk_model::Disk;
-use mot_endpoints::{LineFolder, LineNotes, Spool};
 use mot_events::{LookEvent, add_met_line};
 use mot_feed::feed_every;
 use mot_feed_lines::{Lines, Reported};
 use mot_files::System;
 use mot_folder::{FileTypes, Folder, Looks, look_at_folder};
+use mot_line_folder::{LineFolder, LineNotes, Spool};
 use mot_numbers::Refusal;
 use mot_outcome::Inputs;
 use mot_packets::Outlet;

@@ -1,14 +1,13 @@
 -- Reads of a handle, one after the other.
 use Rattle.std.proofs.Common.{ℕ, List, [], ◌∷◌, ◌++◌, ◌+◌, ◌≡◌, ◌≤◌, ◌<◌, length, take, refl, sym}
-use Rattle.std.proofs.Common.{◌∙◌, Ok, ap, append_assoc, append-nil, arith, subst}
+use Rattle.std.proofs.Common.{◌∙◌, ap, append_assoc, append-nil, arith, subst}
 use Rattle.std.proofs.Math.Seq.{take-append-add}
 use lib.Seq.{length-take-le, take-append-le, take-take}
 use Rattle.std.proofs.lemmas.Slice.{take-put_mid}
 use borrow.Rule.Slice.PartMut.{put_mid}
 use Rattle.mot_endpoints.specs.Inner.Texts.{IsReadToEnd}
-use Rattle.mot_files.specs.Call.{Call, call, read, read_of}
+use Rattle.mot_files.specs.Call.{Call, read_of}
 use Rattle.mot_files.specs.Reading.{joined, reads}
-use Rattle.mot_files.specs.declared.system.Event.TheVariants.{Read}
 use Rattle.mot_files.specs.declared.system.Handle.{Handle}
 
 pub reads_one_more : (h : Handle) (chunks : List (List ℕ)) (chunk : List ℕ)
@@ -52,14 +51,6 @@ ends h old mid new chunks chunk text bytes before none here = record {
   calls = here ∙ ap (λ l. mid ++ read_of h l ∷ []) (none_of chunk none)
       ∙ ap (λ l. l ++ read_of h [] ∷ []) before;
 }
-
--- a read that gave so many bytes
-pub given_is : (h : Handle) (count : ℕ) (room : List ℕ) (old new : List Call)
-    → count ≤ length room → new ≡ old ++ read h room (Ok count) ∷ []
-    → new ≡ old ++ read_of h (take count room) ∷ []
-given_is h count room old new fits here =
-    here ∙ ap (λ n. old ++ call (Read h (Ok n)) (take count room) [] ∷ [])
-    (sym (length-take-le count room fits))
 
 -- a read of nothing leaves what was read before it
 pub still : (at count : ℕ) (before after chunk text : List ℕ) → count ≡ 0 → length chunk ≡ count

@@ -1,5 +1,1 @@
-pub mod Finding
-pub mod LineNames
-pub mod Notices
-pub mod Said
 pub mod Texts

@@ -1,12 +1,9 @@
 pub mod Inner
-pub mod LineFiles
 pub mod LinePlaces
-pub mod LineReads
 pub mod Lines
 pub mod Names
 pub mod Opened
 pub mod Packets
 pub mod Placing
-pub mod Spooling
 pub mod Status
 pub mod Types

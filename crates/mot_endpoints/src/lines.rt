@@ -1,4 +1,4 @@
-//! The folder that lines come from while a disk is played.
+//! Which folder lines may come from while a disk is played.
 ghost use Rattle.std.specs.Prelude.{◌≡◌, ◌++◌, ◌↔◌, IfErr, IfOk, IfSome, IsTrue, MatchResult, codes};
 ghost use Rattle.std.specs.Prelude.{[], is_none, option_map, unwrap_or};
 ghost use Rattle.mot_endpoints.specs.LinePlaces.{ChecksLines, IsApart, IsApartFrom, IsObjects};
@@ -6,15 +6,15 @@ ghost use Rattle.mot_endpoints.specs.LinePlaces.{IsRefused, IsUnresolved, LeadsI
 ghost use Rattle.mot_endpoints.specs.LinePlaces.{StandsIn, TypesApart};
 ghost use Rattle.mot_endpoints.specs.Lines.{IsUnlined};
 ghost use Rattle.mot_endpoints.specs.Opened.{BeginsTo, named};
-ghost use Rattle.mot_endpoints.specs.declared.lines.LineFolder.{LineFolder};
 ghost use Rattle.mot_files.specs.declared.system.Kind.TheVariants.{Folder};
+ghost use Rattle.mot_line_folder.specs.declared.folder.LineFolder.{LineFolder};
 
 use crate::beside::{folder_of, leads_to};
 use crate::fault::{Cause, LinesFault, Unbegun};
 use crate::packets::OUTPUT;
-use crate::spool::Spool;
 use crate::host::Host;
 use mot_files::{Fault, HostSystem, Kind, Seen, System};
+use mot_line_folder::LineFolder;
 use mot_lines::Hand;
 use std::alloc::Global;
 use std::io::{self, ErrorKind};
@@ -25,44 +25,6 @@ const EVERY: u32 = 8;
 
 /// Room for a path without links.
 const PATH: usize = 4_096;
-
-/// A folder of files of lines.
-#[derive(Drop)]
-pub struct LinePlace<'a, S: System + Drop> {
-    /// The files, which nothing else is asked of.
-    pub system: S,
-    /// Its path.
-    pub path: &'a str,
-}
-
-impl<'a, S: System + Drop> LinePlace<'a, S> {
-    /// The folder at this path.
-    pub fn new(system: S, path: &'a str) -> LinePlace<'a, S>
-        ensures path { result.path ≡ path.entry }
-        ensures system { result.system ≡ system }
-    {
-        LinePlace { system, path }
-    }
-
-    /// Its files, of which none was read.
-    pub fn spool(self, alloc: Global) -> Spool<'a, S>
-        ensures folder { result.finder.folder.now ≡ self.entry.path.now }
-        ensures none { result.lines.notes.all ≡ [] }
-    {
-        Spool::new(self.system, alloc, self.path)
-    }
-}
-
-/// A folder of files of lines, and what has come of the next line.
-#[derive(Drop)]
-pub struct LineFolder<'a, S: System + Drop> {
-    /// The folder.
-    pub place: LinePlace<'a, S>,
-    /// What has come of the next line.
-    pub hand: Hand,
-    /// Behind how many packets it is read once; 0 counts as 1.
-    pub every: u32,
-}
 
 /// The other files of the command. None may stand in the folder of lines, which are removed.
 #[derive(Clone, Copy)]

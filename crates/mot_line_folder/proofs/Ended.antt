@@ -1,7 +1,7 @@
 -- The names in what a read of a folder gave.
 use Rattle.std.proofs.Common.{ℕ, List, [], ◌∷◌, ◌≡◌, ◌≢◌, ◌<◌, ◌+◌, zero, suc, arith, drop, false, get_or, length, nat_eq, refl, take, Result, Ok, Err, OnOk}
 use Rattle.std.proofs.lemmas.Bool.Decides.{nat_tests}
-use Rattle.mot_endpoints.specs.Inner.LineNames.{begun, names_in}
+use Rattle.mot_line_folder.specs.Inner.LineNames.{begun, names_in}
 
 first_names : (x : ℕ) (xs : List ℕ) → x ≢ 0 → names_in (x ∷ xs) ≡ begun x (names_in xs)
 first_names x xs some =

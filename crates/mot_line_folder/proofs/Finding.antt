@@ -4,31 +4,31 @@ use Rattle.std.specs.declared.io.Error.{Error}
 use lib.Seq.{length-take-le}
 use Rattle.mot_files.specs.Call.{Call, read}
 use Rattle.mot_files.specs.declared.system.Handle.{Handle}
-use Rattle.mot_endpoints.specs.Inner.Finding.{HasFolder, HasRead, IsPassed, KeepsOpen, KnowsNames}
-use Rattle.mot_endpoints.specs.Inner.Finding.{ListsOn, OpensFolder, OpensNamed, OpensNext, OpensOne}
-use Rattle.mot_endpoints.specs.Inner.Finding.{Passes, ReadsNames}
-use Rattle.mot_endpoints.specs.Inner.Finding.HasFolder.{begins, goes_on}
-use Rattle.mot_endpoints.specs.Inner.Finding.HasRead.{more as read_more, none as read_none}
-use Rattle.mot_endpoints.specs.Inner.Finding.KeepsOpen.{open_file, unread}
-use Rattle.mot_endpoints.specs.Inner.Finding.KnowsNames.{asked as names_asked, known}
-use Rattle.mot_endpoints.specs.Inner.Finding.ListsOn.{begun as list_begun, ended as list_ended}
-use Rattle.mot_endpoints.specs.Inner.Finding.ListsOn.{failed as list_failed, unopened}
-use Rattle.mot_endpoints.specs.Inner.Finding.OpensFolder.{asked, unasked}
-use Rattle.mot_endpoints.specs.Inner.Finding.OpensNamed.{no_memory, opens, passed, unnamed}
-use Rattle.mot_endpoints.specs.Inner.Finding.OpensNext.{failed as next_failed, known as next_known, unknown}
-use Rattle.mot_endpoints.specs.Inner.Finding.OpensOne.{enough, last, no_memory as one_lacks, none_left}
-use Rattle.mot_endpoints.specs.Inner.Finding.Passes.{more as pass_more, none as pass_none}
-use Rattle.mot_endpoints.specs.Inner.Finding.ReadsNames.{begun, ended, failed, unkept}
-use Rattle.mot_endpoints.specs.LineFiles.{IsFound, Leaves}
-use Rattle.mot_endpoints.specs.Spooling.{Finds, OnlyReads, path_in}
-use Rattle.mot_endpoints.specs.Spooling.Finds.{nothing, one}
-use Rattle.mot_endpoints.specs.Spooling.OnlyReads.{more, none}
-use Rattle.mot_endpoints.specs.declared.line_file.Found.{Found}
-use Rattle.mot_endpoints.specs.declared.line_file.LineFile.{LineFile}
-use Rattle.mot_endpoints.specs.declared.said.Stamp.{Stamp}
-use Rattle.mot_endpoints.specs.declared.said.Told.{Told}
-use Rattle.mot_endpoints.proofs.OnlyReads.{and_then, finding, finds_behind, later, one_call, stamped}
-use Rattle.mot_endpoints.proofs.ReadsOf.{given_is}
+use Rattle.mot_line_folder.specs.Inner.Finding.{HasFolder, HasRead, IsPassed, KeepsOpen, KnowsNames}
+use Rattle.mot_line_folder.specs.Inner.Finding.{ListsOn, OpensFolder, OpensNamed, OpensNext, OpensOne}
+use Rattle.mot_line_folder.specs.Inner.Finding.{Passes, ReadsNames}
+use Rattle.mot_line_folder.specs.Inner.Finding.HasFolder.{begins, goes_on}
+use Rattle.mot_line_folder.specs.Inner.Finding.HasRead.{more as read_more, none as read_none}
+use Rattle.mot_line_folder.specs.Inner.Finding.KeepsOpen.{open_file, unread}
+use Rattle.mot_line_folder.specs.Inner.Finding.KnowsNames.{asked as names_asked, known}
+use Rattle.mot_line_folder.specs.Inner.Finding.ListsOn.{begun as list_begun, ended as list_ended}
+use Rattle.mot_line_folder.specs.Inner.Finding.ListsOn.{failed as list_failed, unopened}
+use Rattle.mot_line_folder.specs.Inner.Finding.OpensFolder.{asked, unasked}
+use Rattle.mot_line_folder.specs.Inner.Finding.OpensNamed.{no_memory, opens, passed, unnamed}
+use Rattle.mot_line_folder.specs.Inner.Finding.OpensNext.{failed as next_failed, known as next_known, unknown}
+use Rattle.mot_line_folder.specs.Inner.Finding.OpensOne.{enough, last, no_memory as one_lacks, none_left}
+use Rattle.mot_line_folder.specs.Inner.Finding.Passes.{more as pass_more, none as pass_none}
+use Rattle.mot_line_folder.specs.Inner.Finding.ReadsNames.{begun, ended, failed, unkept}
+use Rattle.mot_line_folder.specs.LineFiles.{IsFound, Leaves}
+use Rattle.mot_line_folder.specs.Spooling.{Finds, OnlyReads, path_in}
+use Rattle.mot_line_folder.specs.Spooling.Finds.{nothing, one}
+use Rattle.mot_line_folder.specs.Spooling.OnlyReads.{more, none}
+use Rattle.mot_line_folder.specs.declared.line_file.Found.{Found}
+use Rattle.mot_line_folder.specs.declared.line_file.LineFile.{LineFile}
+use Rattle.mot_line_folder.specs.declared.said.Stamp.{Stamp}
+use Rattle.mot_line_folder.specs.declared.said.Told.{Told}
+use Rattle.mot_line_folder.proofs.OnlyReads.{and_then, finding, finds_behind, later, one_call, stamped}
+use Rattle.mot_line_folder.proofs.Laws.{given_is}
 
 pub leaving : {handle : Handle} {stamp : Option Stamp} {old new : List Call}
     → Leaves handle stamp old new → OnlyReads old new

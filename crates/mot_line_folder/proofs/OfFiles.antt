@@ -1,8 +1,8 @@
 -- What is told of files of lines is about them.
 use Rattle.std.proofs.Common.{◌≡◌, ◌∷◌, ◌++◌, ℕ, List, [], append_assoc, subst, sym}
-use Rattle.mot_endpoints.specs.Inner.Notices.{AreEventsOf, IsEntryOf, IsEventOf, IsReadable, RefusesLines}
-use Rattle.mot_endpoints.specs.declared.notices.Notice.{Notice}
-use Rattle.mot_endpoints.specs.declared.notices.Notice.TheVariants as notice
+use Rattle.mot_line_folder.specs.Inner.Notices.{AreEventsOf, IsEntryOf, IsEventOf, IsReadable, RefusesLines}
+use Rattle.mot_line_folder.specs.declared.notices.Notice.{Notice}
+use Rattle.mot_line_folder.specs.declared.notices.Notice.TheVariants as notice
 use Rattle.mot_events.specs.Log.{AreOfFiles, Entry, IsEntryOfFiles, IsOfFiles}
 use Rattle.mot_events.specs.Log.Entry.{left_out, of}
 use Rattle.mot_events.specs.declared.event.Event.{Event}

@@ -4,17 +4,17 @@ use Rattle.mot_files.specs.Call.{Call}
 use Rattle.mot_files.specs.declared.system.Handle.{Handle}
 use Rattle.mot_files.specs.declared.system.Seen.{Seen}
 use Rattle.mot_files.specs.declared.system.Fault.{Fault}
-use Rattle.mot_endpoints.specs.LineFiles.{IsFound, IsLookedInto, Leaves, Stamps, TakesAway}
-use Rattle.mot_endpoints.specs.LineFiles.IsFound.{kept, left, none as no_file, unopened, unseen}
-use Rattle.mot_endpoints.specs.LineFiles.IsLookedInto.{cut, lines, no_lines, other, unheld, unread}
-use Rattle.mot_endpoints.specs.LineFiles.Stamps.{held as stamp_held, unheld as stamp_unheld}
-use Rattle.mot_endpoints.specs.Spooling.{Finds, OnlyReads, is_reading}
-use Rattle.mot_endpoints.specs.Spooling.Finds.{nothing, one}
-use Rattle.mot_endpoints.specs.Spooling.OnlyReads.{more, none}
-use Rattle.mot_endpoints.specs.declared.line_file.Found.{Found}
-use Rattle.mot_endpoints.specs.declared.line_file.Found.TheVariants.{Lines}
-use Rattle.mot_endpoints.specs.declared.line_file.LineFile.{LineFile}
-use Rattle.mot_endpoints.specs.declared.said.Stamp.{Stamp}
+use Rattle.mot_line_folder.specs.LineFiles.{IsFound, IsLookedInto, Leaves, Stamps, TakesAway}
+use Rattle.mot_line_folder.specs.LineFiles.IsFound.{kept, left, none as no_file, unopened, unseen}
+use Rattle.mot_line_folder.specs.LineFiles.IsLookedInto.{cut, lines, no_lines, other, unheld, unread}
+use Rattle.mot_line_folder.specs.LineFiles.Stamps.{held as stamp_held, unheld as stamp_unheld}
+use Rattle.mot_line_folder.specs.Spooling.{Finds, OnlyReads, is_reading}
+use Rattle.mot_line_folder.specs.Spooling.Finds.{nothing, one}
+use Rattle.mot_line_folder.specs.Spooling.OnlyReads.{more, none}
+use Rattle.mot_line_folder.specs.declared.line_file.Found.{Found}
+use Rattle.mot_line_folder.specs.declared.line_file.Found.TheVariants.{Lines}
+use Rattle.mot_line_folder.specs.declared.line_file.LineFile.{LineFile}
+use Rattle.mot_line_folder.specs.declared.said.Stamp.{Stamp}
 
 -- one call
 pub one_call : {old new : List Call} (call : Call) → IsTrue (is_reading call.what)
@@ -62,13 +62,6 @@ pub finds_behind : {folder : List ℕ} {found : Option LineFile} {old mid new : 
 finds_behind before (nothing is reads) = nothing is (and_then before reads)
 finds_behind before (one file first then is of_folder reads found rest) =
     one file first then is of_folder (and_then before reads) found rest
-
--- nothing was found, since there was no memory
-pub refused : {E : Type 0} (folder : List ℕ) {old new : List Call}
-    (result : Result (Option LineFile) E) → IsErr result → OnlyReads old new
-    → MatchResult result (λ found. Finds folder found old new) (λ _. OnlyReads old new)
-refused folder (Ok found) is reads = absurd (let h = is in cc)
-refused folder (Err error) is reads = reads
 
 -- what was found behind calls that only read
 pub later : {E : Type 0} (folder : List ℕ) {old mid : List Call} (new : List Call)

@@ -10,14 +10,14 @@ use Rattle.mot_files.specs.declared.system.Handle.{Handle}
 use Rattle.mot_files.specs.declared.system.How.TheVariants as How
 use Rattle.mot_files.specs.declared.system.Kind.TheVariants.{File}
 use Rattle.mot_files.specs.declared.system.Seen.{Seen}
-use Rattle.mot_endpoints.specs.declared.line_file.Found.{Found}
-use Rattle.mot_endpoints.specs.declared.line_file.Found.TheVariants.{Gone, Left, Lines}
-use Rattle.mot_endpoints.specs.declared.said.Stamp.{Stamp}
+use Rattle.mot_line_folder.specs.declared.line_file.Found.{Found}
+use Rattle.mot_line_folder.specs.declared.line_file.Found.TheVariants.{Gone, Left, Lines}
+use Rattle.mot_line_folder.specs.declared.said.Stamp.{Stamp}
 use Rattle.mot_numbers.specs.declared.refusal.Refusal.{Refusal}
 use Rattle.mot_numbers.specs.declared.refusal.Refusal.TheVariants.{BadLine, ReadFault}
-use Rattle.mot_endpoints.specs.declared.line_file.Reason.{Reason}
-use Rattle.mot_endpoints.specs.declared.line_file.Reason.TheVariants.{NoFile, NoLine}
-use Rattle.mot_endpoints.specs.declared.line_file.Reason.TheVariants.{Refused}
+use Rattle.mot_line_folder.specs.declared.line_file.Reason.{Reason}
+use Rattle.mot_line_folder.specs.declared.line_file.Reason.TheVariants.{NoFile, NoLine}
+use Rattle.mot_line_folder.specs.declared.line_file.Reason.TheVariants.{Refused}
 
 -- a file of this name is one of lines: it ends in `.lines`, and does not begin with a dot
 abbrev pub IsOfLines : List ℕ → Type 0

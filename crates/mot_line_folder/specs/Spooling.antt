@@ -10,11 +10,11 @@ use Rattle.mot_files.specs.declared.system.Event.TheVariants.{LookedAt, Opened, 
 use Rattle.mot_files.specs.declared.system.Event.TheVariants.{Resolved, Synced, Told, Wrote}
 use Rattle.mot_files.specs.declared.system.Fault.{Fault}
 use Rattle.mot_files.specs.declared.system.How.{How}
-use Rattle.mot_endpoints.specs.LineFiles.{IsFound, IsOfLines, IsPlain, Leaves, TakesAway}
-use Rattle.mot_endpoints.specs.LineReads.{ReadsLines}
-use Rattle.mot_endpoints.specs.declared.line_file.Found.TheVariants.{Lines}
-use Rattle.mot_endpoints.specs.declared.line_file.LineFile.{LineFile}
-use Rattle.mot_endpoints.specs.declared.said.Stamp.{Stamp}
+use Rattle.mot_line_folder.specs.LineFiles.{IsFound, IsOfLines, IsPlain, Leaves, TakesAway}
+use Rattle.mot_line_folder.specs.LineReads.{ReadsLines}
+use Rattle.mot_line_folder.specs.declared.line_file.Found.TheVariants.{Lines}
+use Rattle.mot_line_folder.specs.declared.line_file.LineFile.{LineFile}
+use Rattle.mot_line_folder.specs.declared.said.Stamp.{Stamp}
 
 -- what is opened to be read alone
 abbrev pub is_to_read : How → Bool

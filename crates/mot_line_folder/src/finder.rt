@@ -1,13 +1,13 @@
 //! The files of lines in a folder, found one after the other.
 ghost use Rattle.std.specs.Prelude.{◌≡◌, All, IfSome, IsTrue, MatchOption, MatchResult, None, OnErr, OnOk};
 ghost use Rattle.std.specs.Prelude.{◌<◌, ◌≤◌, ◌∷◌, [], Option, drop, false, length, string_bytes, true, vec_items};
-ghost use Rattle.mot_endpoints.specs.Inner.Finding.{HasFolder, KeepsOpen, KnowsNames, ListsOn};
-ghost use Rattle.mot_endpoints.specs.Inner.Finding.{OpensFolder, OpensNamed, OpensNext, OpensOne, ReadsNames};
-ghost use Rattle.mot_endpoints.specs.Inner.LineNames.{KeepsAll, KeepsLines, names_in};
-ghost use Rattle.mot_endpoints.specs.Inner.Said.{Remembers};
-ghost use Rattle.mot_endpoints.specs.LineFiles.{IsStampOf, Leaves, refusal_of};
-ghost use Rattle.mot_endpoints.specs.Spooling.{Finds, OnlyReads};
-ghost use Rattle.mot_endpoints.specs.declared.said.Stamp.{Stamp};
+ghost use Rattle.mot_line_folder.specs.Inner.Finding.{HasFolder, KeepsOpen, KnowsNames, ListsOn};
+ghost use Rattle.mot_line_folder.specs.Inner.Finding.{OpensFolder, OpensNamed, OpensNext, OpensOne, ReadsNames};
+ghost use Rattle.mot_line_folder.specs.Inner.LineNames.{KeepsAll, KeepsLines, names_in};
+ghost use Rattle.mot_line_folder.specs.Inner.Said.{Remembers};
+ghost use Rattle.mot_line_folder.specs.LineFiles.{IsStampOf, Leaves, refusal_of};
+ghost use Rattle.mot_line_folder.specs.Spooling.{Finds, OnlyReads};
+ghost use Rattle.mot_line_folder.specs.declared.said.Stamp.{Stamp};
 
 use crate::line_file::{Found, LineFile, Reason, find};
 use crate::names::{Names, is_of_lines, plain_text};

@@ -1,9 +1,9 @@
 //! A file of lines, and what stands at a name that should be one.
 ghost use Rattle.std.specs.Prelude.{◌≡◌, ◌≤◌, ◌⊎◌, ◌↔◌, IfOk, IsTrue, length, string_bytes};
-ghost use Rattle.mot_endpoints.specs.LineFiles.{Begins, IsFound, IsLookedInto, IsNamed, IsWholeFront};
-ghost use Rattle.mot_endpoints.specs.LineFiles.{IsWord, Removes, Stamps, TakesAway, fault_found};
-ghost use Rattle.mot_endpoints.specs.LineFiles.{fault_named, word_len};
-ghost use Rattle.mot_endpoints.specs.LineReads.{ReadsLines};
+ghost use Rattle.mot_line_folder.specs.LineFiles.{Begins, IsFound, IsLookedInto, IsNamed, IsWholeFront};
+ghost use Rattle.mot_line_folder.specs.LineFiles.{IsWord, Removes, Stamps, TakesAway, fault_found};
+ghost use Rattle.mot_line_folder.specs.LineFiles.{fault_named, word_len};
+ghost use Rattle.mot_line_folder.specs.LineReads.{ReadsLines};
 
 use crate::said::Stamp;
 use mot_files::{Fault, Handle, How, Seen, System, is_regular, is_same};

@@ -1,8 +1,8 @@
 //! The names of files of lines, in the order in which they are taken.
 ghost use Rattle.std.specs.Prelude.{◌≡◌, ◌≢◌, ◌≤◌, ◌↔◌, ◌-◌, ◌++◌, [], All, IfNone, IfOk, IfSome, IsTrue, MatchOption, None, OnOk};
 ghost use Rattle.std.specs.Prelude.{codes, drop, insert, length, option_to_list, true, vec_items};
-ghost use Rattle.mot_endpoints.specs.Inner.LineNames.{ComesBefore, GoesOn, IsPlaceOf, IsPut, Keeps};
-ghost use Rattle.mot_endpoints.specs.LineFiles.{IsOfLines, IsPlain};
+ghost use Rattle.mot_line_folder.specs.Inner.LineNames.{ComesBefore, GoesOn, IsPlaceOf, IsPut, Keeps};
+ghost use Rattle.mot_line_folder.specs.LineFiles.{IsOfLines, IsPlain};
 
 use std::alloc::Global;
 use std::io;

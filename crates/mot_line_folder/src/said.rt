@@ -1,8 +1,8 @@
 //! Names in a folder about which the log has a line, so that it has one once.
 ghost use Rattle.std.specs.Prelude.{◌≡◌, ◌≢◌, ◌<◌, ◌≤◌, ◌↔◌, ◌⊎◌, [], All, HoldsAt, IfNone, IfOk, IfSome, IsTrue, MatchOption};
 ghost use Rattle.std.specs.Prelude.{false, length, true};
-ghost use Rattle.mot_endpoints.specs.LineFiles.{IsStampOf};
-ghost use Rattle.mot_endpoints.specs.Inner.Said.{IsDue, IsNew, IsUnread, IsUntold, Remembers};
+ghost use Rattle.mot_line_folder.specs.LineFiles.{IsStampOf};
+ghost use Rattle.mot_line_folder.specs.Inner.Said.{IsDue, IsNew, IsUnread, IsUntold, Remembers};
 
 use mot_files::{Seen, Time};
 use std::alloc::{AllocError, Global};

@@ -2,11 +2,11 @@
 ghost use Rattle.std.specs.Prelude.{◌≡◌, ◌≤◌, ◌⊎◌, ◌∷◌, ◌++◌, [], ℕ, IfOk, IfSome, IsErr, List, None, Option};
 ghost use Rattle.std.specs.Prelude.{Result, false, length, string_bytes, take, true, vec_capacity};
 ghost use Rattle.mot_events.specs.Log.{AreOfFiles, Entry, HearsAll};
-ghost use Rattle.mot_endpoints.specs.LineFiles.{Leaves, TakesAway};
-ghost use Rattle.mot_endpoints.specs.Inner.Said.{Remembers};
-ghost use Rattle.mot_endpoints.specs.declared.said.Stamp.{Stamp};
-ghost use Rattle.mot_endpoints.specs.Spooling.{Finishes, FinishesFile, Serves};
-ghost use Rattle.mot_endpoints.specs.Spooling.{ServesCount, ServesFile};
+ghost use Rattle.mot_line_folder.specs.LineFiles.{Leaves, TakesAway};
+ghost use Rattle.mot_line_folder.specs.Inner.Said.{Remembers};
+ghost use Rattle.mot_line_folder.specs.declared.said.Stamp.{Stamp};
+ghost use Rattle.mot_line_folder.specs.Spooling.{Finishes, FinishesFile, Serves};
+ghost use Rattle.mot_line_folder.specs.Spooling.{ServesCount, ServesFile};
 ghost use Rattle.mot_files.specs.declared.system.Fault.{Fault};
 
 use crate::finder::Finder;

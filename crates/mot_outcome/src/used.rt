@@ -5,8 +5,9 @@ ghost use Rattle.mot_numbers.specs.declared.refusal.Refusal.TheVariants.{DeviceF
 ghost use Rattle.mot_outcome.specs.declared.used.UsedDisk.TheVariants.{OfFile, Untouched};
 
 use disk_store::{Beginning, BegunFile, FileDiskFrom, RamDisk, Start, Unopened};
-use mot_endpoints::{Cause, LineNotes, Taken};
+use mot_endpoints::{Cause, Taken};
 use mot_export::Ended;
+use mot_line_folder::LineNotes;
 use mot_numbers::Refusal;
 use mot_reason::Reason;
 use mot_shelf::{LookNotes, Seen};

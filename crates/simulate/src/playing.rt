@@ -6,12 +6,12 @@ use crate::judging::{has_right_objects, is_of_lines, is_told_right, wrong_remova
 use crate::texts::{LINES, lines_plan, objects_plan};
 use crate::verdict::{Verdict, Wrong};
 use disk_store::{Disk, MemoryDisk};
-use mot_endpoints::{LinePlace, Spool};
 use mot_feed::feed_every;
 use mot_feed_lines::{Lines, Reported};
 use mot_files::{Kind, MemorySystem, Plan, System};
 use mot_folder::{FileTypes, Folder, Looks};
 use mot_journal::{Geometry, format};
+use mot_line_folder::{LinePlace, Spool};
 use mot_lines::Hand;
 use mot_packets::Outlet;
 use mot_playout::Server;

@@ -1,17 +1,16 @@
 -- How the folder of lines is read, and how its files are opened. Each relation goes from the calls
 -- that were made before to those that were made then.
 use Rattle.std.specs.Prelude.{◌≡◌, ◌≢◌, ◌≤◌, ◌<◌, ◌+◌, ◌⊎◌, ℕ, Bool, true, false, List, [], ◌∷◌, ◌++◌}
-use Rattle.std.specs.Prelude.{Result, Ok, Err, IsErr, Option, None, Some, codes, string_bytes}
+use Rattle.std.specs.Prelude.{Result, Ok, Err, IsErr, MatchResult, Option, None, Some, codes, string_bytes}
 use Rattle.std.specs.declared.io.Error.{Error}
-use Rattle.mot_endpoints.specs.Inner.Said.{IsUnread}
-use Rattle.mot_endpoints.specs.LineFiles.{IsFound, IsOfLines, IsPlain, Leaves, Stamps}
-use Rattle.mot_endpoints.specs.Packets.{IsAnswer}
-use Rattle.mot_endpoints.specs.Spooling.{IsOfFolder, path_in}
-use Rattle.mot_endpoints.specs.declared.line_file.Found.{Found}
-use Rattle.mot_endpoints.specs.declared.line_file.Found.TheVariants.{Lines}
-use Rattle.mot_endpoints.specs.declared.line_file.LineFile.{LineFile}
-use Rattle.mot_endpoints.specs.declared.said.Stamp.{Stamp}
-use Rattle.mot_endpoints.specs.declared.said.Told.{Told}
+use Rattle.mot_line_folder.specs.Inner.Said.{IsUnread}
+use Rattle.mot_line_folder.specs.LineFiles.{IsFound, IsOfLines, IsPlain, Leaves, Stamps}
+use Rattle.mot_line_folder.specs.Spooling.{IsOfFolder, path_in}
+use Rattle.mot_line_folder.specs.declared.line_file.Found.{Found}
+use Rattle.mot_line_folder.specs.declared.line_file.Found.TheVariants.{Lines}
+use Rattle.mot_line_folder.specs.declared.line_file.LineFile.{LineFile}
+use Rattle.mot_line_folder.specs.declared.said.Stamp.{Stamp}
+use Rattle.mot_line_folder.specs.declared.said.Told.{Told}
 use Rattle.mot_files.specs.Call.{Call, closed, failed_read, opened, read_of}
 use Rattle.mot_files.specs.declared.system.Fault.{Fault}
 use Rattle.mot_files.specs.declared.system.Handle.{Handle}
@@ -22,7 +21,8 @@ use Rattle.mot_files.specs.declared.system.How.TheVariants as How
 pub data OpensFolder (folder : List ℕ) (result : Result Handle Error) (old new : List Call) :
     Type 0 where
   unasked : IsErr result → new ≡ old → OpensFolder folder result old new
-  asked : (answer : Result Handle Fault) → IsAnswer answer result
+  asked : (answer : Result Handle Fault)
+      → MatchResult answer (λ handle. result ≡ Ok handle) (λ _. IsErr result)
       → new ≡ old ++ opened (folder ++ codes "/.") How.Folder answer ∷ []
       → OpensFolder folder result old new
 

@@ -3,7 +3,7 @@ use Rattle.std.specs.Prelude.{◌≡◌, ◌≤◌, ◌<◌, ℕ, Bool, true, fa
 use Rattle.std.specs.Prelude.{[], ◌∷◌, get_or, if◌then◌else◌, insert, length, nat_eq, remove}
 use Rattle.std.specs.Cmp.Lexicographic.{slice_cmp}
 use Rattle.std.specs.Ordering.{nat_cmp}
-use Rattle.mot_endpoints.specs.LineFiles.{IsOfLines}
+use Rattle.mot_line_folder.specs.LineFiles.{IsOfLines}
 use Rattle.std.specs.declared.cmp.Ordering.TheVariants.{Less}
 
 -- the names in what a read of a folder gave, each ended by a zero byte

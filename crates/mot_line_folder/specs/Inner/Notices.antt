@@ -1,7 +1,7 @@
 -- What is to be told of a folder of files of lines, until it is.
 use Rattle.std.specs.Prelude.{◌≡◌, ◌⊎◌, ◌≤◌, ℕ, List, [], ◌∷◌, ◌++◌, length}
-use Rattle.mot_endpoints.specs.declared.notices.Notice.{Notice}
-use Rattle.mot_endpoints.specs.declared.notices.Notice.TheVariants as notice
+use Rattle.mot_line_folder.specs.declared.notices.Notice.{Notice}
+use Rattle.mot_line_folder.specs.declared.notices.Notice.TheVariants as notice
 use Rattle.mot_events.specs.Log.{Entry}
 use Rattle.mot_events.specs.Log.Entry.{left_out, of}
 use Rattle.mot_events.specs.declared.event.Event.{Event}

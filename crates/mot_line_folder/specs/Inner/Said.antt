@@ -1,7 +1,7 @@
 -- The names of a folder about which the log has a line.
 use Rattle.std.specs.Prelude.{◌≡◌, ◌≢◌, ◌≤◌, ◌<◌, ◌↔◌, ℕ, Bool, true, false, IsTrue, List, All, Contains, Option, length}
-use Rattle.mot_endpoints.specs.declared.said.Stamp.{Stamp}
-use Rattle.mot_endpoints.specs.declared.said.Told.{Told}
+use Rattle.mot_line_folder.specs.declared.said.Stamp.{Stamp}
+use Rattle.mot_line_folder.specs.declared.said.Told.{Told}
 
 -- no entry is about the name
 abbrev pub IsUntold : List Told → List ℕ → Type 0

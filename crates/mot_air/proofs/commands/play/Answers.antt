@@ -16,7 +16,7 @@ use Rattle.mot_air.proofs.Begun.{concludes_more}
 use Rattle.mot_air.proofs.Used.{begun_after, begun_first, opened_after}
 use Rattle.mot_air.proofs.commands.play.Goals as goal
 use Rattle.mot_endpoints.specs.Opened.{named}
-use Rattle.mot_endpoints.specs.declared.lines.LineFolder.{LineFolder}
+use Rattle.mot_line_folder.specs.declared.folder.LineFolder.{LineFolder}
 use Rattle.mot_endpoints.specs.Types.{IsTyped}
 use Rattle.mot_suffixes.specs.Types.{SuffixType}
 use Rattle.mot_numbers.specs.declared.refusal.Refusal.TheVariants.{DeviceFault, WriteFault}

@@ -4,7 +4,7 @@ use Rattle.disk_model.specs.Disk.{State}
 use Rattle.mot_air.specs.Playing.{Manner, Plays, manner}
 use Rattle.mot_air.specs.Telling.{EndsAs, Same, tale_told, watch_in, watched}
 use Rattle.mot_air.proofs.on_air.air.Goals as goal
-use Rattle.mot_endpoints.specs.declared.lines.LineFolder.{LineFolder}
+use Rattle.mot_line_folder.specs.declared.folder.LineFolder.{LineFolder}
 use Rattle.mot_folder.specs.Looked.{Watch}
 use Rattle.mot_numbers.specs.declared.refusal.Refusal.{Refusal}
 use Rattle.mot_outcome.specs.declared.used.Inputs.{Inputs}

@@ -1,6 +1,7 @@
 use Rattle.std.proofs.Common.{length, take, ◌-◌}
 use lib.Seq.{length-take-le}
-use Rattle.mot_endpoints.proofs.ReadsOf.{given_is, take_more}
+use Rattle.mot_endpoints.proofs.ReadsOf.{take_more}
+use Rattle.mot_line_folder.proofs.Laws.{given_is}
 use Rattle.mot_endpoints.proofs.types.read_some.Goals as goal
 
 pub returns-in-Ok-clause-noted : goal.returns-in-Ok-clause-noted

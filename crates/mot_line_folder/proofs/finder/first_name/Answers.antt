@@ -1,6 +1,6 @@
 use Rattle.std.proofs.Common.{◌+◌, arith, refl}
-use Rattle.mot_endpoints.proofs.Ended.{ends_at, none_ends}
-use Rattle.mot_endpoints.proofs.finder.first_name.Goals as goal
+use Rattle.mot_line_folder.proofs.Ended.{ends_at, none_ends}
+use Rattle.mot_line_folder.proofs.finder.first_name.Goals as goal
 
 pub returns-then-bytes-at-eq0-clause-names : goal.returns-then-bytes-at-eq0-clause-names
 returns-then-bytes-at-eq0-clause-names c =

@@ -1,5 +1,5 @@
 use Rattle.std.proofs.Common.{ℕ, ◌≢◌, ◌≤◌, ◌<◌, ◌-◌, get_or, length}
-use Rattle.mot_endpoints.proofs.finder.first_name.Given as goal
+use Rattle.mot_line_folder.proofs.finder.first_name.Given as goal
 
 abbrev pub invariant-loop-at : goal.invariant-loop-at
 invariant-loop-at l =

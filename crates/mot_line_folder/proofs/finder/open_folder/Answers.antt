@@ -1,7 +1,7 @@
 use Rattle.std.proofs.Common.{Err, Ok, refl, ◌∙◌}
-use Rattle.mot_endpoints.specs.Inner.Finding.OpensFolder.{asked, unasked}
-use Rattle.mot_endpoints.proofs.Steps.{open_step}
-use Rattle.mot_endpoints.proofs.finder.open_folder.Goals as goal
+use Rattle.mot_line_folder.specs.Inner.Finding.OpensFolder.{asked, unasked}
+use Rattle.mot_line_folder.proofs.Steps.{open_step}
+use Rattle.mot_line_folder.proofs.finder.open_folder.Goals as goal
 
 pub returns-in_err-path : goal.returns-in_err-path
 returns-in_err-path g c = unasked c.from_residual.ensures.0 refl
@@ -13,5 +13,5 @@ returns-in-Ok g c =
 
 pub returns : goal.returns
 returns g c =
-    asked (Err c.in-Err.fault) (c.error.result, refl)
+    asked (Err c.in-Err.fault) refl
     (open_step _ _ _ (c.as_str.ensures.value ∙ c.in_ok-path.ensures.ok) c.in-Err.ensures)

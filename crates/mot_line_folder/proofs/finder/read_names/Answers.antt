@@ -1,9 +1,9 @@
 use Rattle.std.proofs.Common.{arith, refl, subst, ◌+◌}
-use Rattle.mot_endpoints.specs.Inner.Finding.{HasRead}
-use Rattle.mot_endpoints.specs.Inner.Finding.HasRead.{none}
-use Rattle.mot_endpoints.specs.Inner.Finding.ReadsNames.{begun, ended, failed, unkept}
-use Rattle.mot_endpoints.proofs.Finding.{read_further}
-use Rattle.mot_endpoints.proofs.finder.read_names.Goals as goal
+use Rattle.mot_line_folder.specs.Inner.Finding.{HasRead}
+use Rattle.mot_line_folder.specs.Inner.Finding.HasRead.{none}
+use Rattle.mot_line_folder.specs.Inner.Finding.ReadsNames.{begun, ended, failed, unkept}
+use Rattle.mot_line_folder.proofs.Finding.{read_further}
+use Rattle.mot_line_folder.proofs.finder.read_names.Goals as goal
 
 pub returns-in_err-room : goal.returns-in_err-room
 returns-in_err-room g c = unkept 0 (omega arith) c.from_residual.ensures.0 (none refl refl)

@@ -1,6 +1,6 @@
 use Rattle.std.proofs.Common.{◌-◌, ◌≤◌}
-use Rattle.mot_endpoints.specs.Inner.Finding.{HasRead}
-use Rattle.mot_endpoints.proofs.finder.read_names.Given as goal
+use Rattle.mot_line_folder.specs.Inner.Finding.{HasRead}
+use Rattle.mot_line_folder.proofs.finder.read_names.Given as goal
 
 abbrev pub invariant-loop-reads : goal.invariant-loop-reads
 invariant-loop-reads g l =

@@ -1,7 +1,7 @@
 use Rattle.std.proofs.Common.{refl}
-use Rattle.mot_endpoints.specs.Inner.LineNames.KeepsLines.{lines}
-use Rattle.mot_endpoints.proofs.Ended.{on_ok}
-use Rattle.mot_endpoints.proofs.finder.see_name.Goals as goal
+use Rattle.mot_line_folder.specs.Inner.LineNames.KeepsLines.{lines}
+use Rattle.mot_line_folder.proofs.Ended.{on_ok}
+use Rattle.mot_line_folder.proofs.finder.see_name.Goals as goal
 
 pub returns-clause-kept : goal.returns-clause-kept
 returns-clause-kept c =

@@ -1,7 +1,7 @@
 use Rattle.std.proofs.Common.{ℕ, List, refl, subst, sym, vec_items, ◌∙◌}
-use Rattle.mot_endpoints.specs.Inner.LineNames.{KeepsAll}
-use Rattle.mot_endpoints.specs.Inner.LineNames.KeepsAll.{more, none}
-use Rattle.mot_endpoints.proofs.finder.see_names.Goals as goal
+use Rattle.mot_line_folder.specs.Inner.LineNames.{KeepsAll}
+use Rattle.mot_line_folder.specs.Inner.LineNames.KeepsAll.{more, none}
+use Rattle.mot_line_folder.proofs.finder.see_names.Goals as goal
 
 pub loop-name-preserved : goal.loop-name-preserved
 loop-name-preserved c = record {

@@ -1,6 +1,6 @@
 use Rattle.std.proofs.Common.{List, ◌≡◌, length, vec_items}
-use Rattle.mot_endpoints.specs.Inner.LineNames.{KeepsAll, names_in}
-use Rattle.mot_endpoints.proofs.finder.see_names.Given as goal
+use Rattle.mot_line_folder.specs.Inner.LineNames.{KeepsAll, names_in}
+use Rattle.mot_line_folder.proofs.finder.see_names.Given as goal
 
 abbrev pub invariant-loop-name : goal.invariant-loop-name
 invariant-loop-name l = record {

@@ -1,8 +1,8 @@
 use Rattle.std.proofs.Common.{refl, subst}
-use Rattle.mot_endpoints.specs.LineFiles.{IsLookedInto}
-use Rattle.mot_endpoints.specs.LineFiles.IsFound.{kept, left, none, unopened, unseen}
+use Rattle.mot_line_folder.specs.LineFiles.{IsLookedInto}
+use Rattle.mot_line_folder.specs.LineFiles.IsFound.{kept, left, none, unopened, unseen}
 use Rattle.mot_files.proofs.Laws.{step}
-use Rattle.mot_endpoints.proofs.line_file.find.Goals as goal
+use Rattle.mot_line_folder.proofs.line_file.find.Goals as goal
 
 pub returns-in-Err : goal.returns-in-Err
 returns-in-Err g c = unseen c.in-Err.fault c.refused.ensures c.in-Err.ensures

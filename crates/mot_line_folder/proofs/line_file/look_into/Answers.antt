@@ -1,7 +1,7 @@
 use Rattle.std.proofs.Common.{refl}
-use Rattle.mot_endpoints.specs.LineFiles.IsLookedInto.{cut, lines, no_lines, other, unheld, unread}
+use Rattle.mot_line_folder.specs.LineFiles.IsLookedInto.{cut, lines, no_lines, other, unheld, unread}
 use Rattle.mot_files.proofs.Laws.{step}
-use Rattle.mot_endpoints.proofs.line_file.look_into.Goals as goal
+use Rattle.mot_line_folder.proofs.line_file.look_into.Goals as goal
 
 pub returns-in-Err : goal.returns-in-Err
 returns-in-Err g c = unheld c.in-Err.fault refl c.in-Err.ensures

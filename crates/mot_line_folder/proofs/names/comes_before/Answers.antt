@@ -3,7 +3,7 @@ use Rattle.std.specs.Ordering.{is_lt, nat_cmp}
 use Rattle.std.specs.Cmp.Lexicographic.{lists_agrees, slice_cmp}
 use Rattle.std.specs.declared.cmp.Ordering.{Ordering}
 use Rattle.std.specs.declared.cmp.Ordering.TheVariants.{Equal, Greater, Less}
-use Rattle.mot_endpoints.proofs.names.comes_before.Goals as goal
+use Rattle.mot_line_folder.proofs.names.comes_before.Goals as goal
 
 before_iff : (is : Bool) (order : Ordering) → is ≡ is_lt order → (IsTrue is ↔ (order ≡ Less))
 before_iff is Less same = ((λ _. refl), (λ _. same))

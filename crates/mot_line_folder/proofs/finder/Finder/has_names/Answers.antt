@@ -1,8 +1,8 @@
 use Rattle.std.proofs.Common.{◌≡◌, ◌≢◌, Option, None, Some, true, refl, inl, inr, sym}
 use Rattle.std.specs.Option.{is_some}
-use Rattle.mot_endpoints.specs.Inner.Finding.KnowsNames.{asked}
-use Rattle.mot_endpoints.proofs.finder.Finder.has_names.Goals as goal
-use Rattle.mot_endpoints.proofs.finder.Finder.has_names.Goals.{then-is_empty-via-then-is_empty, then-is_empty-via-else-is_empty+then-is_some}
+use Rattle.mot_line_folder.specs.Inner.Finding.KnowsNames.{asked}
+use Rattle.mot_line_folder.proofs.finder.Finder.has_names.Goals as goal
+use Rattle.mot_line_folder.proofs.finder.Finder.has_names.Goals.{then-is_empty-via-then-is_empty, then-is_empty-via-else-is_empty+then-is_some}
 
 some_there : {A : Type 0} (o : Option A) → is_some o ≡ true → o ≢ None
 some_there None is = λ _. let h = is in cc

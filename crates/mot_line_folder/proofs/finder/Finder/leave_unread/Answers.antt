@@ -1,6 +1,6 @@
 use Rattle.std.proofs.Common.{ℕ, List, subst, true}
-use Rattle.mot_endpoints.specs.Inner.Said.{Remembers}
-use Rattle.mot_endpoints.proofs.finder.Finder.leave_unread.Goals as goal
+use Rattle.mot_line_folder.specs.Inner.Said.{Remembers}
+use Rattle.mot_line_folder.proofs.finder.Finder.leave_unread.Goals as goal
 
 pub returns-clause-leaves : goal.returns-clause-leaves
 returns-clause-leaves g c = (

@@ -1,4 +1,4 @@
-use Rattle.mot_endpoints.proofs.finder.Finder.list.Goals as goal
+use Rattle.mot_line_folder.proofs.finder.Finder.list.Goals as goal
 
 pub returns-in-Ok-true-clause-lists : goal.returns-in-Ok-true-clause-lists
 returns-in-Ok-true-clause-lists g c = rw c.in-Ok-true.field-0-test at c.in-Ok-true.ensures.lists

@@ -1,6 +1,6 @@
 use Rattle.std.proofs.Common.{refl}
-use Rattle.mot_endpoints.specs.Inner.Finding.ListsOn.{begun, ended, failed, unopened}
-use Rattle.mot_endpoints.proofs.finder.Finder.list_on.Goals as goal
+use Rattle.mot_line_folder.specs.Inner.Finding.ListsOn.{begun, ended, failed, unopened}
+use Rattle.mot_line_folder.proofs.finder.Finder.list_on.Goals as goal
 
 pub returns-in-Err-clause-lists : goal.returns-in-Err-clause-lists
 returns-in-Err-clause-lists g c =

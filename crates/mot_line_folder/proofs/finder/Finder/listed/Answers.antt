@@ -1,6 +1,6 @@
 use Rattle.std.proofs.Common.{refl, sym, ◌∙◌}
-use Rattle.mot_endpoints.specs.Inner.Finding.HasFolder.{begins, goes_on}
-use Rattle.mot_endpoints.proofs.finder.Finder.listed.Goals as goal
+use Rattle.mot_line_folder.specs.Inner.Finding.HasFolder.{begins, goes_on}
+use Rattle.mot_line_folder.proofs.finder.Finder.listed.Goals as goal
 
 pub returns-in-Some-clause-has : goal.returns-in-Some-clause-has
 returns-in-Some-clause-has g c =

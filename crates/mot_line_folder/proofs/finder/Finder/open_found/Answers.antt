@@ -1,7 +1,7 @@
 use Rattle.std.proofs.Common.{ℕ, List, false, refl, subst, true}
-use Rattle.mot_endpoints.specs.Inner.Finding.KeepsOpen.{open_file, unread}
-use Rattle.mot_endpoints.specs.Inner.Said.{IsUnread}
-use Rattle.mot_endpoints.proofs.finder.Finder.open_found.Goals as goal
+use Rattle.mot_line_folder.specs.Inner.Finding.KeepsOpen.{open_file, unread}
+use Rattle.mot_line_folder.specs.Inner.Said.{IsUnread}
+use Rattle.mot_line_folder.proofs.finder.Finder.open_found.Goals as goal
 
 pub returns-then-is_unread-clause-keeps : goal.returns-then-is_unread-clause-keeps
 returns-then-is_unread-clause-keeps g c =

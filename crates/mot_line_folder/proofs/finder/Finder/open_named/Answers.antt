@@ -1,9 +1,9 @@
 use Rattle.std.proofs.Common.{ℕ, List, refl, ap, subst, sym, ◌∙◌, inl, inr, string_bytes}
-use Rattle.mot_endpoints.specs.LineFiles.{IsOfLines, IsPlain}
-use Rattle.mot_endpoints.specs.Inner.Finding.OpensNamed.{opens, passed, unnamed}
-use Rattle.mot_endpoints.proofs.Finding.{found_by, named_path}
-use Rattle.mot_endpoints.proofs.OnlyReads.{found_as}
-use Rattle.mot_endpoints.proofs.finder.Finder.open_named.Goals as goal
+use Rattle.mot_line_folder.specs.LineFiles.{IsOfLines, IsPlain}
+use Rattle.mot_line_folder.specs.Inner.Finding.OpensNamed.{opens, passed, unnamed}
+use Rattle.mot_line_folder.proofs.Finding.{found_by, named_path}
+use Rattle.mot_line_folder.proofs.OnlyReads.{found_as}
+use Rattle.mot_line_folder.proofs.finder.Finder.open_named.Goals as goal
 
 pub returns-then-not-is_of_lines-clause-opens : goal.returns-then-not-is_of_lines-clause-opens
 returns-then-not-is_of_lines-clause-opens g c =

@@ -1,6 +1,6 @@
 use Rattle.std.proofs.Common.{refl}
-use Rattle.mot_endpoints.specs.Inner.Finding.OpensNext.{failed, known, unknown}
-use Rattle.mot_endpoints.proofs.finder.Finder.open_on.Goals as goal
+use Rattle.mot_line_folder.specs.Inner.Finding.OpensNext.{failed, known, unknown}
+use Rattle.mot_line_folder.proofs.finder.Finder.open_on.Goals as goal
 
 pub returns-in-Ok-true-clause-opens : goal.returns-in-Ok-true-clause-opens
 returns-in-Ok-true-clause-opens g c =

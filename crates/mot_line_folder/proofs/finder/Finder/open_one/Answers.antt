@@ -1,9 +1,9 @@
 use Rattle.std.proofs.Common.{arith, refl, subst, ◌∙◌}
-use Rattle.mot_endpoints.specs.Inner.Finding.{Passes}
-use Rattle.mot_endpoints.specs.Inner.Finding.OpensOne.{enough, last, no_memory, none_left}
-use Rattle.mot_endpoints.specs.Inner.Finding.Passes.{more, none}
-use Rattle.mot_endpoints.proofs.Finding.{error_some, named_failed}
-use Rattle.mot_endpoints.proofs.finder.Finder.open_one.Goals as goal
+use Rattle.mot_line_folder.specs.Inner.Finding.{Passes}
+use Rattle.mot_line_folder.specs.Inner.Finding.OpensOne.{enough, last, no_memory, none_left}
+use Rattle.mot_line_folder.specs.Inner.Finding.Passes.{more, none}
+use Rattle.mot_line_folder.proofs.Finding.{error_some, named_failed}
+use Rattle.mot_line_folder.proofs.finder.Finder.open_one.Goals as goal
 
 pub loop-looks-init : goal.loop-looks-init
 loop-looks-init g c = record {

@@ -1,6 +1,6 @@
 use Rattle.std.proofs.Common.{◌-◌, ◌≡◌, ◌≤◌}
-use Rattle.mot_endpoints.specs.Inner.Finding.{Passes}
-use Rattle.mot_endpoints.proofs.finder.Finder.open_one.Given as goal
+use Rattle.mot_line_folder.specs.Inner.Finding.{Passes}
+use Rattle.mot_line_folder.proofs.finder.Finder.open_one.Given as goal
 
 abbrev pub invariant-loop-looks : goal.invariant-loop-looks
 invariant-loop-looks g l = record {

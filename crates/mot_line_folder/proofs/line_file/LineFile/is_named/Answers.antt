@@ -1,7 +1,7 @@
 use Rattle.std.proofs.Common.{refl}
-use Rattle.mot_endpoints.specs.LineFiles.IsNamed.{seen, unheld, unseen}
-use Rattle.mot_endpoints.proofs.Steps.{look_step}
-use Rattle.mot_endpoints.proofs.line_file.LineFile.is_named.Goals as goal
+use Rattle.mot_line_folder.specs.LineFiles.IsNamed.{seen, unheld, unseen}
+use Rattle.mot_line_folder.proofs.Steps.{look_step}
+use Rattle.mot_line_folder.proofs.line_file.LineFile.is_named.Goals as goal
 
 pub returns-in-Err : goal.returns-in-Err
 returns-in-Err g c = unheld c.in-Err.fault refl c.in-Err.ensures

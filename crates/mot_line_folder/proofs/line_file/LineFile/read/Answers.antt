@@ -1,8 +1,8 @@
 use Rattle.std.proofs.Common.{ℕ, List, [], ◌∷◌, ◌++◌, ◌≡◌, ◌≢◌, ◌≤◌, zero, suc, Ok, length, refl, arith, set, take}
 use Rattle.mot_files.specs.Call.{Call, read}
 use Rattle.mot_files.specs.declared.system.Handle.{Handle}
-use Rattle.mot_endpoints.specs.LineReads.ReadsLines.{failed, given, line_end}
-use Rattle.mot_endpoints.proofs.line_file.LineFile.read.Goals as goal
+use Rattle.mot_line_folder.specs.LineReads.ReadsLines.{failed, given, line_end}
+use Rattle.mot_line_folder.proofs.line_file.LineFile.read.Goals as goal
 
 pub returns-in-Err-clause-reads : goal.returns-in-Err-clause-reads
 returns-in-Err-clause-reads g c = failed c.in-Err.fault refl refl c.in-Err.ensures.noted

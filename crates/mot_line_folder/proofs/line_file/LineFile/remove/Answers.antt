@@ -1,7 +1,7 @@
 use Rattle.std.proofs.Common.{refl}
-use Rattle.mot_endpoints.specs.LineFiles.Removes.{named, other, unknown}
-use Rattle.mot_endpoints.proofs.Steps.{remove_step}
-use Rattle.mot_endpoints.proofs.line_file.LineFile.remove.Goals as goal
+use Rattle.mot_line_folder.specs.LineFiles.Removes.{named, other, unknown}
+use Rattle.mot_line_folder.proofs.Steps.{remove_step}
+use Rattle.mot_line_folder.proofs.line_file.LineFile.remove.Goals as goal
 
 pub returns-in-Ok-true : goal.returns-in-Ok-true
 returns-in-Ok-true g c =

@@ -1,6 +1,6 @@
 use Rattle.std.proofs.Common.{refl}
-use Rattle.mot_endpoints.specs.LineFiles.Stamps.{held, unheld}
-use Rattle.mot_endpoints.proofs.line_file.LineFile.stamp.Goals as goal
+use Rattle.mot_line_folder.specs.LineFiles.Stamps.{held, unheld}
+use Rattle.mot_line_folder.proofs.line_file.LineFile.stamp.Goals as goal
 
 pub returns-in-Ok : goal.returns-in-Ok
 returns-in-Ok g c = held c.in-Ok.held c.of.result refl c.of.ensures c.in-Ok.ensures

@@ -1,7 +1,7 @@
 use Rattle.std.proofs.Common.{ℕ, List, refl, subst, sym}
-use Rattle.mot_endpoints.specs.Inner.LineNames.{ComesBefore}
-use Rattle.mot_endpoints.specs.Inner.LineNames.Keeps.{passed}
-use Rattle.mot_endpoints.proofs.names.Names.keep.Goals as goal
+use Rattle.mot_line_folder.specs.Inner.LineNames.{ComesBefore}
+use Rattle.mot_line_folder.specs.Inner.LineNames.Keeps.{passed}
+use Rattle.mot_line_folder.proofs.names.Names.keep.Goals as goal
 
 pub returns-clause-kept : goal.returns-clause-kept
 returns-clause-kept c =

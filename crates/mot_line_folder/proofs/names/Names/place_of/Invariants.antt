@@ -1,6 +1,6 @@
 use Rattle.std.proofs.Common.{ℕ, ◌≤◌, ◌<◌, ◌-◌, get_or, length, vec_items}
-use Rattle.mot_endpoints.specs.Inner.LineNames.{ComesBefore}
-use Rattle.mot_endpoints.proofs.names.Names.place_of.Given as goal
+use Rattle.mot_line_folder.specs.Inner.LineNames.{ComesBefore}
+use Rattle.mot_line_folder.proofs.names.Names.place_of.Given as goal
 
 abbrev pub invariant-loop-at : goal.invariant-loop-at
 invariant-loop-at l =

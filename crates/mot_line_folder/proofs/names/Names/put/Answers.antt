@@ -1,6 +1,6 @@
 use Rattle.std.proofs.Common.{ℕ, List, ◌≡◌, Result, Ok, Err, OnOk, insert}
-use Rattle.mot_endpoints.specs.Inner.LineNames.{IsPlaceOf, IsPut}
-use Rattle.mot_endpoints.proofs.names.Names.put.Goals as goal
+use Rattle.mot_line_folder.specs.Inner.LineNames.{IsPlaceOf, IsPut}
+use Rattle.mot_line_folder.proofs.names.Names.put.Goals as goal
 
 is_put : {V E T : Type 0} (bytes : V → List ℕ) (name : List ℕ) (old new : List V) (place : ℕ) (entry : V)
     (result : Result T E) → IsPlaceOf bytes name old place → bytes entry ≡ name

@@ -1,10 +1,11 @@
 use Rattle.std.proofs.Common.{◌≡◌, ◌++◌, ◌∷◌, List, [], append-nil, arith, length, refl, subst, sym}
-use Rattle.mot_endpoints.specs.Inner.Notices.{AreEventsOf}
-use Rattle.mot_endpoints.specs.declared.notices.Notice.{Notice}
-use Rattle.mot_endpoints.proofs.OfFiles.{one_on}
+use Rattle.mot_line_folder.specs.Inner.Notices.{AreEventsOf}
+use Rattle.mot_line_folder.specs.declared.notices.Notice.{Notice}
+use Rattle.mot_line_folder.proofs.OfFiles.{one_on}
+use Rattle.mot_events.specs.Log.{Entry}
 use Rattle.mot_events.specs.Log.Entry.{of}
 use Rattle.mot_events.proofs.Laws.{hears_on}
-use Rattle.mot_endpoints.proofs.notices.Notices.tell.Goals as goal
+use Rattle.mot_line_folder.proofs.notices.Notices.tell.Goals as goal
 
 none_left : (notices : List Notice) → length notices ≡ 0 → notices ≡ []
 none_left [] none = refl

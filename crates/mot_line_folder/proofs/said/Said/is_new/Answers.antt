@@ -1,5 +1,5 @@
-use Rattle.mot_endpoints.specs.Inner.Said.IsNew.{due}
-use Rattle.mot_endpoints.proofs.said.Said.is_new.Goals as goal
+use Rattle.mot_line_folder.specs.Inner.Said.IsNew.{due}
+use Rattle.mot_line_folder.proofs.said.Said.is_new.Goals as goal
 
 pub returns-in-Ok-Some : goal.returns-in-Ok-Some
 returns-in-Ok-Some c =

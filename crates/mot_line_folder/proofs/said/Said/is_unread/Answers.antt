@@ -1,10 +1,10 @@
 use Rattle.std.proofs.Common.{◌≡◌, refl, sym, subst}
-use Rattle.mot_endpoints.specs.Inner.Said.IsUnread.{told}
-use Rattle.mot_endpoints.specs.Inner.Said.Remembers.{by}
-use Rattle.mot_endpoints.specs.declared.said.Told.{Told}
-use Rattle.mot_endpoints.proofs.Told.{set_contains}
-use Rattle.mot_endpoints.proofs.said.Said.is_unread.Goals as goal
-use Rattle.mot_endpoints.proofs.said.Said.is_unread.Goals.{then-not-told-via-then-not-told, then-not-told-via-else-not-told+then-not-is_one}
+use Rattle.mot_line_folder.specs.Inner.Said.IsUnread.{told}
+use Rattle.mot_line_folder.specs.Inner.Said.Remembers.{by}
+use Rattle.mot_line_folder.specs.declared.said.Told.{Told}
+use Rattle.mot_line_folder.proofs.Told.{set_contains}
+use Rattle.mot_line_folder.proofs.said.Said.is_unread.Goals as goal
+use Rattle.mot_line_folder.proofs.said.Said.is_unread.Goals.{then-not-told-via-then-not-told, then-not-told-via-else-not-told+then-not-is_one}
 
 pub returns-clause-met : goal.returns-clause-met
 returns-clause-met c =

@@ -1,10 +1,10 @@
 use Rattle.std.proofs.Common.{◌≡◌, refl, sym, subst, arith}
-use Rattle.mot_endpoints.specs.Inner.Said.{Remembers}
-use Rattle.mot_endpoints.specs.Inner.Said.IsDue.{known, new}
-use Rattle.mot_endpoints.specs.Inner.Said.Remembers.{by}
-use Rattle.mot_endpoints.specs.declared.said.Told.{Told}
-use Rattle.mot_endpoints.proofs.Told.{added_contains, not_iff, set_contains}
-use Rattle.mot_endpoints.proofs.said.Said.keep.Goals as goal
+use Rattle.mot_line_folder.specs.Inner.Said.{Remembers}
+use Rattle.mot_line_folder.specs.Inner.Said.IsDue.{known, new}
+use Rattle.mot_line_folder.specs.Inner.Said.Remembers.{by}
+use Rattle.mot_line_folder.specs.declared.said.Told.{Told}
+use Rattle.mot_line_folder.proofs.Told.{added_contains, not_iff, set_contains}
+use Rattle.mot_line_folder.proofs.said.Said.keep.Goals as goal
 
 pub returns-in-Some : goal.returns-in-Some
 returns-in-Some c =

@@ -1,4 +1,4 @@
-use Rattle.mot_endpoints.proofs.said.Said.keep_unread.Goals as goal
+use Rattle.mot_line_folder.proofs.said.Said.keep_unread.Goals as goal
 
 pub returns-in-Ok-Some : goal.returns-in-Ok-Some
 returns-in-Ok-Some c =

@@ -1,6 +1,6 @@
 use Rattle.std.proofs.Common.{ℕ, ◌≢◌, ◌≤◌, ◌<◌, ◌-◌, get_or, length}
-use Rattle.mot_endpoints.specs.declared.said.Told.{Told}
-use Rattle.mot_endpoints.proofs.said.Said.place_of.Given as goal
+use Rattle.mot_line_folder.specs.declared.said.Told.{Told}
+use Rattle.mot_line_folder.proofs.said.Said.place_of.Given as goal
 
 abbrev pub invariant-loop-at : goal.invariant-loop-at
 invariant-loop-at l =

@@ -1,5 +1,5 @@
 use Rattle.std.proofs.Common.{ℕ, List, [], ◌∷◌, ◌≡◌, ◌≤◌, length, take, refl, set, arith, inr}
-use Rattle.mot_endpoints.proofs.spool.Spool.end_torn.Goals as goal
+use Rattle.mot_line_folder.proofs.spool.Spool.end_torn.Goals as goal
 
 torn_end : (room : List ℕ) → 2 ≤ length room → take 2 (set (set room 0 13) 1 10) ≡ 13 ∷ 10 ∷ []
 torn_end [] few = absurd (omega (arith, few))

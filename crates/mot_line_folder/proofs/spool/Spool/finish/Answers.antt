@@ -1,5 +1,5 @@
-use Rattle.mot_endpoints.proofs.OfFiles.{of_files}
-use Rattle.mot_endpoints.proofs.spool.Spool.finish.Goals as goal
+use Rattle.mot_line_folder.proofs.OfFiles.{of_files}
+use Rattle.mot_line_folder.proofs.spool.Spool.finish.Goals as goal
 
 pub returns-clause-told : goal.returns-clause-told
 returns-clause-told g c =

@@ -1,7 +1,7 @@
 use Rattle.std.proofs.Common.{Err, Ok}
 use Rattle.mot_files.proofs.Laws.{step}
-use Rattle.mot_endpoints.specs.Spooling.FinishesFile.{cut, ended, goes_on}
-use Rattle.mot_endpoints.proofs.spool.Spool.finish_file.Goals as goal
+use Rattle.mot_line_folder.specs.Spooling.FinishesFile.{cut, ended, goes_on}
+use Rattle.mot_line_folder.proofs.spool.Spool.finish_file.Goals as goal
 
 pub returns-then-lines-clause-finishes : goal.returns-then-lines-clause-finishes
 returns-then-lines-clause-finishes g c = cut c.if-lines.true c.close.ensures

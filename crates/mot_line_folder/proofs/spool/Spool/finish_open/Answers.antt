@@ -1,6 +1,6 @@
 use Rattle.std.proofs.Common.{sym, ◌∙◌}
-use Rattle.mot_endpoints.specs.Spooling.Finishes.{one}
-use Rattle.mot_endpoints.proofs.spool.Spool.finish_open.Goals as goal
+use Rattle.mot_line_folder.specs.Spooling.Finishes.{one}
+use Rattle.mot_line_folder.proofs.spool.Spool.finish_open.Goals as goal
 
 pub returns-clause-finishes : goal.returns-clause-finishes
 returns-clause-finishes g c =

@@ -1,8 +1,8 @@
 use Rattle.std.proofs.Common.{◌≡◌, Bool, true, false, not, Option, refl, subst, sym, string_bytes}
-use Rattle.mot_endpoints.specs.Inner.Said.{Remembers}
-use Rattle.mot_endpoints.specs.declared.said.Said.{Said}
-use Rattle.mot_endpoints.specs.declared.said.Stamp.{Stamp}
-use Rattle.mot_endpoints.proofs.spool.Spool.leave_unread.Goals as goal
+use Rattle.mot_line_folder.specs.Inner.Said.{Remembers}
+use Rattle.mot_line_folder.specs.declared.said.Said.{Said}
+use Rattle.mot_line_folder.specs.declared.said.Stamp.{Stamp}
+use Rattle.mot_line_folder.proofs.spool.Spool.leave_unread.Goals as goal
 
 is_known : (known : Bool) → not known ≡ false → known ≡ true
 is_known true goes = refl

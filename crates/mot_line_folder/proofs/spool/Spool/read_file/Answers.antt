@@ -1,7 +1,7 @@
 use Rattle.std.proofs.Common.{refl, ap, ◌∙◌, string_bytes}
-use Rattle.mot_endpoints.specs.Spooling.ServesFile.{ended, failed, given}
-use Rattle.mot_endpoints.proofs.OnlyReads.{left_as, taken_as}
-use Rattle.mot_endpoints.proofs.spool.Spool.read_file.Goals as goal
+use Rattle.mot_line_folder.specs.Spooling.ServesFile.{ended, failed, given}
+use Rattle.mot_line_folder.proofs.OnlyReads.{left_as, taken_as}
+use Rattle.mot_line_folder.proofs.spool.Spool.read_file.Goals as goal
 
 pub returns-in-Ok-eq0-clause-serves : goal.returns-in-Ok-eq0-clause-serves
 returns-in-Ok-eq0-clause-serves g c =

@@ -1,6 +1,6 @@
 use Rattle.std.proofs.Common.{refl, ap, sym, ◌∙◌}
-use Rattle.mot_endpoints.specs.Spooling.Serves.{line_end, next, on}
-use Rattle.mot_endpoints.proofs.spool.Spool.read_on.Goals as goal
+use Rattle.mot_line_folder.specs.Spooling.Serves.{line_end, next, on}
+use Rattle.mot_line_folder.proofs.spool.Spool.read_on.Goals as goal
 
 pub returns-then-self-clause-serves : goal.returns-then-self-clause-serves
 returns-then-self-clause-serves g c =

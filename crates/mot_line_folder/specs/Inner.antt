@@ -1,0 +1,4 @@
+pub mod Finding
+pub mod LineNames
+pub mod Notices
+pub mod Said

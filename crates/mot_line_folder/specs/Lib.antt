@@ -1,0 +1,4 @@
+pub mod Inner
+pub mod LineFiles
+pub mod LineReads
+pub mod Spooling
