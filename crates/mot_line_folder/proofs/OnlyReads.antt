@@ -1,5 +1,5 @@
 -- Calls that only read, one after the other.
-use Rattle.std.proofs.Common.{ℕ, List, [], ◌∷◌, ◌++◌, ◌≡◌, refl, sym, subst, Option, Result, Ok, Err, IsTrue, IsErr, MatchResult}
+use Rattle.std.proofs.Common.{ℕ, List, [], ◌∷◌, ◌++◌, ◌≡◌, refl, sym, subst, Option, Result, Ok, Err, IsTrue, MatchResult}
 use Rattle.mot_files.specs.Call.{Call}
 use Rattle.mot_files.specs.declared.system.Handle.{Handle}
 use Rattle.mot_files.specs.declared.system.Seen.{Seen}

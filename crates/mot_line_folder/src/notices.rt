@@ -1,5 +1,5 @@
 //! What is to be told of files of lines, until it is.
-ghost use Rattle.std.specs.Prelude.{◌≡◌, ◌≢◌, ◌⊎◌, List, None, Some, [], vec_capacity};
+ghost use Rattle.std.specs.Prelude.{◌≡◌, ◌≢◌, ◌⊎◌, ◌↔◌, IsTrue, List, None, Some, [], vec_capacity};
 ghost use Rattle.mot_line_folder.specs.Inner.Notices.{Adds, AreEventsOf, IsEventOf, IsOfFile};
 ghost use Rattle.mot_line_folder.specs.declared.notices.Notice.TheVariants as notice;
 ghost use Rattle.mot_events.specs.Log.{AreOfFiles, Entry, HearsAll};
@@ -78,7 +78,7 @@ impl<'a> Notices<'a> {
         ensures unread { self.new.unread ≡ Some refusal }
         ensures folder { self.new.folder ≡ self.old.folder }
     {
-        if self.unread != Some(refusal) {
+        if !self.is_told(refusal) {
             self.unread = Some(refusal);
             let _ = self.waiting.push(Notice::Folder(refusal, why));
         }
@@ -104,10 +104,17 @@ impl<'a> Notices<'a> {
         ensures readable { self.new.unread ≢ Some refusal }
         ensures folder { self.new.folder ≡ self.old.folder }
     {
-        if self.unread == Some(refusal) {
+        if self.is_told(refusal) {
             self.unread = None;
             let _ = self.waiting.push(Notice::Readable);
         }
+    }
+
+    /// Whether it is told that the folder can't be read, for this reason.
+    fn is_told(&self, refusal: Refusal) -> bool
+        ensures { IsTrue result ↔ (self.now.unread ≡ Some refusal) }
+    {
+        self.unread == Some(refusal)
     }
 
     /// Tells all, in their order.
