@@ -100,8 +100,9 @@ fn refused(fault: Fault) -> LinesFault
     ensures { IsRefused fault result }
 {
     match fault {
-        Fault::Absent(error) | Fault::System(error) => LinesFault::System(error),
+        Fault::Absent(error) => LinesFault::System(error),
         Fault::Busy => LinesFault::System(io::Error::from(ErrorKind::WouldBlock)),
+        Fault::System(error) => LinesFault::System(error),
     }
 }
 

@@ -94,7 +94,8 @@ fn unless_absent(fault: Fault) -> Result<bool, PacketsFault>
 {
     match fault {
         Fault::Absent(_) => Ok(false),
-        other => Err(PacketsFault::from(other)),
+        Fault::Busy => Err(PacketsFault::InUse),
+        Fault::System(error) => Err(PacketsFault::System(error)),
     }
 }
 

@@ -304,9 +304,13 @@ fn place_at<S: System>(system: &mut S, path: &str, disk: &str) -> Result<Place, 
 fn place_without(path: &str, fault: Fault) -> Result<Place, PacketsFault>
     ensures { result ≡ place_without path.now fault }
 {
+    if path == "" {
+        return Err(PacketsFault::from(fault));
+    }
     match fault {
-        Fault::Absent(_) if path != "" => Ok(Place::Nothing),
-        other => Err(PacketsFault::from(other)),
+        Fault::Absent(_) => Ok(Place::Nothing),
+        Fault::Busy => Err(PacketsFault::InUse),
+        Fault::System(error) => Err(PacketsFault::System(error)),
     }
 }
 

@@ -3,6 +3,7 @@ use Rattle.std.proofs.Common.{ℕ, List, [], ◌∷◌, ◌++◌, ◌≡◌, ◌
 use Rattle.std.specs.declared.io.Error.{Error}
 use lib.Seq.{length-take-le}
 use Rattle.mot_files.specs.Call.{Call, read}
+use Rattle.mot_files.specs.Listing.{path_in}
 use Rattle.mot_files.specs.declared.system.Handle.{Handle}
 use Rattle.mot_line_folder.specs.Inner.Finding.{HasFolder, HasRead, IsPassed, KeepsOpen, KnowsNames}
 use Rattle.mot_line_folder.specs.Inner.Finding.{ListsOn, OpensFolder, OpensNamed, OpensNext, OpensOne}
@@ -20,7 +21,7 @@ use Rattle.mot_line_folder.specs.Inner.Finding.OpensOne.{enough, last, no_memory
 use Rattle.mot_line_folder.specs.Inner.Finding.Passes.{more as pass_more, none as pass_none}
 use Rattle.mot_line_folder.specs.Inner.Finding.ReadsNames.{begun, ended, failed, unkept}
 use Rattle.mot_line_folder.specs.LineFiles.{IsFound, Leaves}
-use Rattle.mot_line_folder.specs.Spooling.{Finds, OnlyReads, path_in}
+use Rattle.mot_line_folder.specs.Spooling.{Finds, OnlyReads}
 use Rattle.mot_line_folder.specs.Spooling.Finds.{nothing, one}
 use Rattle.mot_line_folder.specs.Spooling.OnlyReads.{more, none}
 use Rattle.mot_line_folder.specs.declared.line_file.Found.{Found}
@@ -127,10 +128,14 @@ read_further handle old mid new fewer count room some fits before here =
     (given_is handle count room mid new fits here)
 
 -- a path with a name that is written otherwise
-pub named_path : {path name bytes : List ℕ} (folder : List ℕ) → path ≡ folder ++ 47 ∷ name
+pub named_path : {path name bytes : List ℕ} (folder : List ℕ) → path ≡ path_in folder name
     → name ≡ bytes → path ≡ path_in folder bytes
-named_path {name = name} folder is same =
-    is ∙ sym (append_assoc folder (47 ∷ []) name) ∙ ap (λ n. path_in folder n) same
+named_path folder is same = is ∙ ap (λ n. path_in folder n) same
+
+-- the path of a folder with a dot behind it
+pub dotted_path : {path : List ℕ} (folder : List ℕ) → path ≡ path_in folder (46 ∷ [])
+    → path ≡ folder ++ 47 ∷ 46 ∷ []
+dotted_path folder is = is ∙ append_assoc folder (47 ∷ []) (46 ∷ [])
 
 -- a name that gave an error, by another term for it
 pub named_failed : {folder name : List ℕ} {tolds : List Told} {error : Error}

@@ -1,9 +1,10 @@
 -- What is asked of the system while files of lines are read, one after the other.
 use Rattle.std.specs.Prelude.{◌≡◌, ◌≢◌, ◌⊎◌, ℕ, Bool, true, false, IsTrue, List, [], ◌∷◌, ◌++◌, Result, Ok, Err}
-use Rattle.std.specs.Prelude.{Option, None, Some, codes, string_bytes, take}
+use Rattle.std.specs.Prelude.{Option, None, Some, string_bytes, take}
 use Rattle.std.specs.Result.{result_unwrap_or}
 use Rattle.std.specs.declared.io.Error.{Error}
 use Rattle.mot_files.specs.Call.{Call, closed, read}
+use Rattle.mot_files.specs.Listing.{path_in}
 use Rattle.mot_files.specs.declared.system.Event.{Event}
 use Rattle.mot_files.specs.declared.system.Event.TheVariants.{Closed, Followed, IsTerminal, Locked, Looked}
 use Rattle.mot_files.specs.declared.system.Event.TheVariants.{LookedAt, Opened, Peeked, Read, Removed, Renamed}
@@ -47,10 +48,6 @@ pub data OnlyReads (old : List Call) : (new : List Call) → Type 0 where
   none : {new : List Call} → new ≡ old → OnlyReads old new
   more : {new : List Call} (mid : List Call) (call : Call) → OnlyReads old mid
       → IsTrue (is_reading call.what) → new ≡ mid ++ call ∷ [] → OnlyReads old new
-
--- the path of a name in a folder
-abbrev pub path_in : (folder name : List ℕ) → List ℕ
-path_in folder name = folder ++ codes "/" ++ name
 
 -- a file stands in the folder, by a plain name of lines
 pub record IsOfFolder (folder : List ℕ) (file : LineFile) : Type 0 where

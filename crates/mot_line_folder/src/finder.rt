@@ -14,7 +14,7 @@ use crate::names::{Names, is_of_lines, plain_text};
 use crate::notices::{Notices, words_of};
 use crate::said::{Said, Stamp};
 use mot_events::Why;
-use mot_files::{Fault, Handle, How, Seen, System};
+use mot_files::{Fault, Handle, How, Seen, System, path_in};
 use mot_numbers::Refusal;
 use std::alloc::Global;
 use std::io::{self, ErrorKind};
@@ -163,8 +163,8 @@ impl<'a, S: System + Drop> Finder<'a, S> {
             self.leave(bytes, None, Refusal::BadName, why_of_name(bytes))?;
             return Ok(None);
         };
+        let path = path_in(self.alloc, self.folder, name)?;
         let name = String::from_str(self.alloc, name)?;
-        let path = format!(in self.alloc; "{}/{}", self.folder, name)?;
         match find(&mut self.system, path.as_str()) {
             Found::Lines(handle) => Ok(self.open_found(LineFile::new(handle, name, path))),
             Found::Left(reason, named) => {
@@ -318,7 +318,7 @@ impl<'a, S: System + Drop> Finder<'a, S> {
 fn open_folder<S: System>(system: &mut S, alloc: Global, folder: &str) -> io::Result<Handle>
     ensures { OpensFolder folder.now result (S.calls system.old) (S.calls system.new) }
 {
-    let path = format!(in alloc; "{folder}/.")?;
+    let path = path_in(alloc, folder, ".")?;
     match system.open(path.as_str(), How::Folder) {
         Ok(handle) => Ok(handle),
         Err(fault) => Err(fault.error()),

@@ -5,13 +5,14 @@ use Rattle.std.specs.Prelude.{Result, Ok, Err, IsErr, MatchResult, Option, None,
 use Rattle.std.specs.declared.io.Error.{Error}
 use Rattle.mot_line_folder.specs.Inner.Said.{IsUnread}
 use Rattle.mot_line_folder.specs.LineFiles.{IsFound, IsOfLines, IsPlain, Leaves, Stamps}
-use Rattle.mot_line_folder.specs.Spooling.{IsOfFolder, path_in}
+use Rattle.mot_line_folder.specs.Spooling.{IsOfFolder}
 use Rattle.mot_line_folder.specs.declared.line_file.Found.{Found}
 use Rattle.mot_line_folder.specs.declared.line_file.Found.TheVariants.{Lines}
 use Rattle.mot_line_folder.specs.declared.line_file.LineFile.{LineFile}
 use Rattle.mot_line_folder.specs.declared.said.Stamp.{Stamp}
 use Rattle.mot_line_folder.specs.declared.said.Told.{Told}
 use Rattle.mot_files.specs.Call.{Call, closed, failed_read, opened, read_of}
+use Rattle.mot_files.specs.Listing.{path_in}
 use Rattle.mot_files.specs.declared.system.Fault.{Fault}
 use Rattle.mot_files.specs.declared.system.Handle.{Handle}
 use Rattle.mot_files.specs.declared.system.How.TheVariants as How
