@@ -3,7 +3,7 @@ use Rattle.std.specs.Prelude.{codes, option_map}
 use Rattle.mot_air.specs.Commands.{PlaysTo, played_as}
 use Rattle.mot_air.specs.Telling.{tale_with, watch_in, watched}
 use Rattle.mot_air.proofs.Begun.{unbegun_so}
-use Rattle.mot_endpoints.specs.declared.lines.LineFolder.{LineFolder}
+use Rattle.mot_line_folder.specs.declared.folder.LineFolder.{LineFolder}
 use Rattle.mot_air.proofs.Used.{opened_none}
 use Rattle.mot_air.proofs.on_air.play_file.Goals as goal
 
