@@ -45,14 +45,16 @@ PROMISES = [
         ("mot_session", "serve_and_restart", ""), ("mot_session", "serve_line_and_restart", ""), ("mot_playout", "run_and_restart", ""), ("mot_playout", "format_and_restart", ""),
     ]),
     ("The program", [
-        ("mot_commands", "run_command", ""),
+        ("mot_cli", "task_of", ""), ("mot_commands", "format_file", ""), ("mot_commands", "serve_file", ""),
+        ("mot_commands", "check_file", ""), ("mot_commands", "migrate_file", ""), ("mot_commands", "serve_memory", ""),
     ]),
     ("On the air", [
         ("mot_update", "update_laws", ""), ("mot_update", "look", ""),
         ("mot_feed", "feed", ""), ("mot_feed", "feed_often", ""), ("mot_feed", "feed_every", ""), ("mot_folder", "look_at_folder", ""), ("mot_suffixes", "FileTypes::new", ""),
         ("mot_suffixes", "FileTypes::add", ""), ("mot_suffixes", "FileTypes::of_name", ""), ("mot_endpoints", "file_types", ""),
         ("mot_feed_lines", "answer_there", ""), ("mot_feed_lines", "Lines::new", ""), ("mot_feed_lines", "Lines::update", ""),
-        ("mot_air", "is_air", ""), ("mot_air", "run_command", ""), ("mot_air", "play_disk", ""),
+        ("mot_air", "play", ""), ("mot_air", "sync", ""), ("mot_air", "export_file", ""),
+        ("mot_air", "inspect_file", ""), ("mot_air", "play_disk", ""),
         ("mot_air", "play_and_answer", ""), ("mot_air", "sync_disk", ""), ("mot_export", "export_disk", ""), ("mot_export", "inspect_disk", ""),
     ]),
     ("Any command", [
@@ -63,7 +65,7 @@ PROMISES = [
         ("mot_files", "read_file", ""), ("mot_files", "is_file", ""), ("mot_files", "write_all", ""), ("mot_files", "hold", ""),
         ("mot_files", "take_place", ""), ("mot_files", "replace", ""), ("mot_endpoints", "StatusFile::write", ""),
         ("mot_endpoints", "OpenPackets::take_place", ""), ("mot_endpoints", "OpenPackets::take_away", ""),
-        ("mot_endpoints", "PacketWriter::write_once", ""), ("mot_endpoints", "Station::packets", ""),
+        ("mot_endpoints", "PacketWriter::write_once", ""), ("mot_endpoints", "Host::packets", ""),
         ("mot_line_folder", "Spool::read", ""), ("mot_line_folder", "Spool::finish", ""),
     ]),
     ("Single crates", []),
@@ -91,7 +93,8 @@ CITED_BY_NONE = [
     ("mot_feed_lines/Logged", "LogHas", "private functions of `answer_there`"),
     ("mot_line_folder/LineFiles", "refusal_of", "private functions of `Spool`"),
     ("mot_status/Measured", "IsMeasured", "private functions of `Reporter`"),
-    ("mot_air/Telling", "EndsAs", "private functions of `mot_air::run_command`"),
+    ("mot_air/Telling", "EndsAs", "private functions of `mot_air::play`"),
+    ("mot_cli/Asked", "AskBy", "proofs of `mot_server`"),
     ("mot_update/HasRun", "commands_for", "a private function of `settle`"),
     ("mot_update/Looking", "unknown_names withdraw_all HasSettled", "private functions of `look`"),
 ]
