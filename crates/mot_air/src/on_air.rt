@@ -129,8 +129,8 @@ fn open_both<'a, B: Start>(
     }
 }
 
-/// Plays the disk of a file into what was opened for packets. (It is a function of its own since a
-/// proof at any system of files is shorter than one at the program's.)
+/// Plays the disk of a file into what was opened for packets. (It is a function of its own, for any
+/// system of files, since calls at the program's own take longer to prove.)
 fn play_both<B: Start, P: System + Drop, F: Shelf + Drop, Y: System + Drop, W: Write, E: Write>(
     alloc: Global,
     disk: BegunFile<B, WasThere>,

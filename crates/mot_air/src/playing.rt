@@ -213,7 +213,7 @@ pub fn play_and_answer<S: Shelf + Drop, F: System + Drop, D: Disk, O: Outlet, L:
 
 /// Opens the disk and plays it into the outlet with these updates, and tells of them and of the
 /// end. The updates and the log are handed out. (Each layer of updates has a function of its own,
-/// since the proof of a call at a type of several layers takes minutes.)
+/// since a call at a type of several layers takes long to prove.)
 fn play_telling<D: Disk, U: Update + Facts + Drop, F: System + Drop, O: Outlet, L: Write + Drop>(
     alloc: Global,
     disk: D,
