@@ -3,6 +3,7 @@
 use Rattle.std.specs.Prelude.{◌≡◌, ◌≤◌, ℕ, Bool, true, false, List, [], ◌∷◌, ◌++◌, Ok, Err, None, Some}
 use Rattle.std.specs.Prelude.{All, Result, codes, length}
 use Rattle.mot_files.specs.Call.{Call, followed, opened, read_of}
+use Rattle.mot_files.specs.Listing.{path_in}
 use Rattle.mot_files.specs.Reading.{joined, reads}
 use Rattle.mot_files.specs.declared.system.Event.{Event}
 use Rattle.mot_files.specs.declared.system.Event.TheVariants.{Locked}
@@ -61,6 +62,22 @@ pub record WasRead (path : List ℕ) (way : How) (most : ℕ) (whole : Bool) (by
   pub calls : new ≡ old ++ first ++ opened path way (Ok handle) ∷ reads handle chunks
       ++ last_read whole handle ++ last
 
+-- what the path names was opened so, or was to be
+pub record Asks (path : List ℕ) (way : How) (old new : List Call) : Type 0 where
+  pub first : List Call
+  pub last : List Call
+  pub answer : Result Handle Fault
+  pub calls : new ≡ old ++ first ++ opened path way answer ∷ last
+
+-- where the system tells of the device of this number
+abbrev pub device_folder : ℕ → List ℕ
+device_folder number = path_in (codes "/sys/dev/block") (number_text number)
+
+-- whether the device of this number is a swap, and what stands on it, was asked for
+pub record AsksHolders (number : ℕ) (old new : List Call) : Type 0 where
+  pub swaps : Asks (codes "/proc/swaps") how.Read old new
+  pub holders : Asks (path_in (device_folder number) (codes "holders")) how.Folder old new
+
 -- what the system said of the path: it names no block device, or nothing
 abbrev pub NamesNone : Result Seen Fault → Type 0
 NamesNone (Ok seen) = seen.block ≡ None
@@ -80,11 +97,14 @@ pub record IsUnsigned (path : List ℕ) (old new : List Call) : Type 0 where
   pub read : WasRead path how.Read HEAD whole head old new
   pub none : signature_in head ≡ None
 
--- the device of this number, which the path names, is not mounted and has no signature
+-- the device of this number, which the path names, is not mounted and has no signature; its partitions
+-- and what uses it otherwise were asked for
 pub record IsFreeDevice (path : List ℕ) (number : ℕ) (old new : List Call) : Type 0 where
   pub others : List ℕ
   pub unmounted : IsUnmounted (number_text number) others old new
   pub unsigned : IsUnsigned path old new
+  pub partitions : Asks (path_in (device_folder number) (codes ".")) how.Folder old new
+  pub held : AsksHolders number old new
 
 -- The path named no block device, and nothing but that was asked; or it names one that is free.
 pub data IsFree (path : List ℕ) (old new : List Call) : Type 0 where

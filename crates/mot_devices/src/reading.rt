@@ -3,7 +3,7 @@
 
 ghost use Rattle.std.specs.Prelude.{◌≡◌, true, IfOk};
 ghost use Rattle.mot_devices.specs.Inner.Reading.{IsFirst, IsMore};
-ghost use Rattle.mot_devices.specs.Looking.{OnlyLooks, WasRead, reads_only};
+ghost use Rattle.mot_devices.specs.Looking.{Asks, OnlyLooks, WasRead, reads_only};
 
 use mot_files::{Handle, How, System};
 use std::alloc::{AllocError, Global};
@@ -33,6 +33,7 @@ pub(crate) fn read_first<S: System>(
     ensures looks { OnlyLooks (S.calls system.old) (S.calls system.new) }
     ensures read { IfOk result (λ first. WasRead path.now how most first.is_whole first.bytes.items
         (S.calls system.old) (S.calls system.new)) }
+    ensures asks { Asks path.now how (S.calls system.old) (S.calls system.new) }
 {
     let handle = match system.open(path, how) {
         Ok(handle) => handle,

@@ -1,8 +1,10 @@
 //! What is asked where it can be: the partitions, the swaps and the holders of a device.
 #![tactic(auto, using(crate::proofs::Looks::looks_on, crate::proofs::Looks::looks_one, crate::proofs::Looks::looks_none))]
 
-ghost use Rattle.std.specs.Prelude.{◌≡◌, IfOk};
-ghost use Rattle.mot_devices.specs.Looking.{OnlyLooks};
+ghost use Rattle.std.specs.Prelude.{◌≡◌, IfOk, OnOk, codes};
+ghost use Rattle.mot_files.specs.Listing.{path_in};
+ghost use Rattle.mot_files.specs.declared.system.How.TheVariants as How;
+ghost use Rattle.mot_devices.specs.Looking.{Asks, OnlyLooks, device_folder};
 ghost use Rattle.mot_devices.specs.Number.{number_text};
 
 use crate::number::{Numbers, number_text};
@@ -27,6 +29,8 @@ pub(crate) fn numbers_of<S: System>(
 ) -> Result<Numbers, AllocError>
     ensures looks { OnlyLooks (S.calls system.old) (S.calls system.new) }
     ensures own { IfOk result (λ numbers. numbers.own.items ≡ number_text number) }
+    ensures asks { OnOk result (Asks (path_in (device_folder number) (codes ".")) How.Folder
+        (S.calls system.old) (S.calls system.new)) }
 {
     let text = number_text(alloc, number)?;
     let link = path_in(alloc, FOLDER, text.as_str())?;
@@ -46,7 +50,8 @@ fn add_partitions<S: System>(
     folder: &str,
     others: &mut Vec<u8>,
 ) -> Result<(), AllocError>
-    ensures { OnlyLooks (S.calls system.old) (S.calls system.new) }
+    ensures looks { OnlyLooks (S.calls system.old) (S.calls system.new) }
+    ensures asks { Asks folder.now How.Folder (S.calls system.old) (S.calls system.new) }
 {
     let Ok(names) = read_first(system, alloc, folder, How::Folder, MOST_OF_TABLE) else {
         return Ok(());
@@ -90,7 +95,8 @@ pub(crate) fn is_swap<S: System>(
     alloc: Global,
     numbers: &Numbers,
 ) -> Result<bool, AllocError>
-    ensures { OnlyLooks (S.calls system.old) (S.calls system.new) }
+    ensures looks { OnlyLooks (S.calls system.old) (S.calls system.new) }
+    ensures asks { Asks (codes "/proc/swaps") How.Read (S.calls system.old) (S.calls system.new) }
 {
     let Ok(table) = read_first(system, alloc, "/proc/swaps", How::Read, MOST_OF_TABLE) else {
         return Ok(false);
@@ -135,7 +141,9 @@ pub(crate) fn holder_of<S: System>(
     alloc: Global,
     number: u64,
 ) -> Result<Option<ShortName>, AllocError>
-    ensures { OnlyLooks (S.calls system.old) (S.calls system.new) }
+    ensures looks { OnlyLooks (S.calls system.old) (S.calls system.new) }
+    ensures asks { OnOk result (Asks (path_in (device_folder number) (codes "holders")) How.Folder
+        (S.calls system.old) (S.calls system.new)) }
 {
     let text = number_text(alloc, number)?;
     let folder = path_in(alloc, FOLDER, text.as_str())?;

@@ -2,7 +2,8 @@
 #![tactic(auto, using(crate::proofs::Looks::looks_on, crate::proofs::Looks::looks_one, crate::proofs::Looks::looks_none))]
 
 ghost use Rattle.std.specs.Prelude.{IfNone, OnOk};
-ghost use Rattle.mot_devices.specs.Looking.{IsFree, IsFreeDevice, IsUnmounted, IsUnsigned, OnlyLooks};
+ghost use Rattle.mot_devices.specs.Looking.{AsksHolders, IsFree, IsFreeDevice, IsUnmounted};
+ghost use Rattle.mot_devices.specs.Looking.{IsUnsigned, OnlyLooks};
 
 use crate::device_use::DeviceUse;
 use crate::mounts::find_mount;
@@ -96,7 +97,8 @@ fn refuse_held<S: System>(
     numbers: &Numbers,
     number: u64,
 ) -> Result<(), DeviceUse>
-    ensures { OnlyLooks (S.calls system.old) (S.calls system.new) }
+    ensures looks { OnlyLooks (S.calls system.old) (S.calls system.new) }
+    ensures held { OnOk result (AsksHolders number (S.calls system.old) (S.calls system.new)) }
 {
     match is_swap(system, alloc, numbers) {
         Ok(false) => {}

@@ -7,3 +7,9 @@ returns-in-Ok-read_first g c =
     looks_on (g.S.System.calls c.args.system.now) (g.S.System.calls c.look.new.self)
     (g.S.System.calls c.read_first.new.system) (looks_one _ _ _ c.look.ensures refl)
     c.read_first.ensures.looks
+
+pub returns : goal.returns
+returns g c =
+    looks_on (g.S.System.calls c.args.system.now) (g.S.System.calls c.look.new.self)
+    (g.S.System.calls c.read_first.new.system) (looks_one _ _ _ c.look.ensures refl)
+    c.read_first.ensures.looks

@@ -8,7 +8,7 @@ returns-in_err-refuse_held-clause-looks g c =
     (g.S.System.calls c.refuse_held.new.system)
     (looks_on (g.S.System.calls c.args.system.now) (g.S.System.calls c.numbers_of.new.system)
     (g.S.System.calls c.refuse_mounted.new.system) c.numbers_of.ensures.looks
-    c.refuse_mounted.ensures.looks) c.refuse_held.ensures
+    c.refuse_mounted.ensures.looks) c.refuse_held.ensures.looks
 
 pub returns-clause-looks : goal.returns-clause-looks
 returns-clause-looks g c =
@@ -18,7 +18,7 @@ returns-clause-looks g c =
     (g.S.System.calls c.refuse_held.new.system)
     (looks_on (g.S.System.calls c.args.system.now) (g.S.System.calls c.numbers_of.new.system)
     (g.S.System.calls c.refuse_mounted.new.system) c.numbers_of.ensures.looks
-    c.refuse_mounted.ensures.looks) c.refuse_held.ensures) c.refuse_signature.ensures.looks
+    c.refuse_mounted.ensures.looks) c.refuse_held.ensures.looks) c.refuse_signature.ensures.looks
 
 pub returns-clause-free : goal.returns-clause-free
 returns-clause-free g c =
@@ -26,5 +26,6 @@ returns-clause-free g c =
     (g.S.System.calls c.args.system.now) (g.S.System.calls c.numbers_of.new.system)
     (g.S.System.calls c.refuse_mounted.new.system) (g.S.System.calls c.refuse_held.new.system)
     (g.S.System.calls c.refuse_signature.new.system) c.in-Ok.ensures.own c.numbers_of.ensures.looks
-    c.refuse_mounted.ensures.looks c.refuse_held.ensures c.refuse_signature.ensures.looks
-    c.in_ok-refuse_mounted.ensures.free c.refuse_signature.result c.refuse_signature.ensures.free
+    c.refuse_mounted.ensures.looks c.refuse_held.ensures.looks c.refuse_signature.ensures.looks
+    c.in_ok-refuse_mounted.ensures.free c.in-Ok.ensures.asks c.in_ok-refuse_held.ensures.held
+    c.refuse_signature.result c.refuse_signature.ensures.free

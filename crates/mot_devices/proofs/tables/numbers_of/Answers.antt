@@ -1,0 +1,9 @@
+use Rattle.std.proofs.Common.{rules, subst}
+use Rattle.mot_devices.specs.Looking.{Asks}
+use Rattle.mot_files.specs.declared.system.How.TheVariants as how
+use Rattle.mot_devices.proofs.tables.numbers_of.Goals as goal
+
+pub returns-clause-asks : goal.returns-clause-asks
+returns-clause-asks g c =
+    subst (λ path. Asks path how.Folder (g.S.System.calls c.args.system.now)
+    (g.S.System.calls c.add_partitions.new.system)) (search rules) c.add_partitions.ensures.asks
