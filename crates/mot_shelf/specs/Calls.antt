@@ -1,8 +1,8 @@
 -- Which calls a folder is listed and read by.
 use Rattle.std.specs.Prelude.{◌≡◌, ◌≢◌, ◌⊎◌, ℕ, Bool, false, List, [], ◌∷◌, ◌++◌, Option, Some, None}
-use Rattle.std.specs.Prelude.{Result, Ok, Err, codes}
+use Rattle.std.specs.Prelude.{IsUtf8, Result, Ok, Err, codes}
 use Rattle.std.specs.declared.io.Error.{Error}
-use Rattle.mot_files.specs.Call.{Call, closed, looked, opened, read}
+use Rattle.mot_files.specs.Call.{Call, closed, failed_read, looked, opened, read}
 use Rattle.mot_files.specs.Listing.{file_of, path_in}
 use Rattle.mot_files.specs.Reading.{IsRead, IsUnread}
 use Rattle.mot_files.specs.declared.reading.Unread.{Unread}
@@ -40,6 +40,12 @@ pub data NamesAreRead (before after : Option Handle) (room : List ℕ) (count : 
       → new ≡ old ++ read handle room (Ok count) ∷ [] ++ closed handle ∷ []
       → NamesAreRead before after room count old new
 
+-- none came: no folder is open, or its read failed, and it stays open
+pub data NamesAreUnread (before after : Option Handle) (old new : List Call) : Type 0 where
+  none : before ≡ None → after ≡ before → new ≡ old → NamesAreUnread before after old new
+  failed : (handle : Handle) (fault : Fault) → before ≡ Some handle → after ≡ before
+      → new ≡ old ++ failed_read handle fault ∷ [] → NamesAreUnread before after old new
+
 -- whether a name in the folder is that of a regular file: the system was asked for it, but of a name
 -- that is no text
 abbrev pub IsAsked : (path name : List ℕ) → Bool → (old new : List Call) → Type 0
@@ -47,6 +53,13 @@ IsAsked path name is_file old new =
     ((is_file ≡ false) × (new ≡ old))
     ⊎ ((answer : Result Seen Fault) × (file_of answer ≡ Ok is_file)
     × (new ≡ old ++ looked (path_in path name) answer ∷ []))
+
+-- why that is not told, which is so of a text alone: there was no memory for its path, or the system
+-- refused to look at it
+pub record IsUnasked (path name : List ℕ) (old new : List Call) : Type 0 where
+  pub text : IsUtf8 name
+  pub calls : (new ≡ old)
+      ⊎ ((fault : Fault) × (new ≡ old ++ looked (path_in path name) (Err fault) ∷ []))
 
 -- what a name in the folder names
 abbrev pub KindIsAsked : (path name : List ℕ) → Kind → (old new : List Call) → Type 0

@@ -8,8 +8,9 @@ ghost use Rattle.mot_files.specs.declared.system.How.TheVariants as How;
 ghost use Rattle.mot_shelf.specs.Given.{and_asked, and_failed, and_listed, and_missed, and_read};
 ghost use Rattle.mot_shelf.specs.Given.{nothing};
 ghost use Rattle.mot_files.specs.declared.reading.Unread.TheVariants.{TooLong, Young};
-ghost use Rattle.mot_shelf.specs.Calls.{FileIsRead, FileIsUnread, IsAsked, NamesAreRead};
+ghost use Rattle.mot_shelf.specs.Calls.{FileIsRead, FileIsUnread, IsAsked, IsUnasked};
 ghost use Rattle.mot_shelf.specs.Calls.{FolderIsClosed, FolderIsOpened, KindIsAsked};
+ghost use Rattle.mot_shelf.specs.Calls.{NamesAreRead, NamesAreUnread};
 ghost use Rattle.mot_shelf.specs.Seen.{given_of};
 
 use crate::{LookNotes, Seen, Shelf};
@@ -141,6 +142,8 @@ impl<'a, S: System + Drop> Shelf for SystemShelf<'a, S> {
             (λ _. given_of self.new.seen ≡ and_failed (given_of self.old.seen) self.old.path.now) }
         ensures calls { IfOk result (λ count. NamesAreRead self.old.listing self.new.listing
             room.new count (S.calls self.old.system) (S.calls self.new.system)) }
+        ensures refused { IfErr result (λ _. NamesAreUnread self.old.listing self.new.listing
+            (S.calls self.old.system) (S.calls self.new.system)) }
     {
         match next_names(&mut self.system, &mut self.listing, room) {
             Ok(count) => {
@@ -162,6 +165,8 @@ impl<'a, S: System + Drop> Shelf for SystemShelf<'a, S> {
             ≡ and_asked (given_of self.old.seen) name.now is_file)
             (λ _. given_of self.new.seen ≡ and_failed (given_of self.old.seen) name.now) }
         ensures calls { IfOk result (λ is_file. IsAsked self.old.path.now name.now is_file
+            (S.calls self.old.system) (S.calls self.new.system)) }
+        ensures refused { IfErr result (λ _. IsUnasked self.old.path.now name.now
             (S.calls self.old.system) (S.calls self.new.system)) }
     {
         let answer = is_regular(&mut self.system, alloc, self.path, name);
@@ -265,6 +270,8 @@ fn next_names<S: System>(
     ensures fits { IfOk result (λ count. count ≤ length room.new) }
     ensures calls { IfOk result (λ count. NamesAreRead listing.old listing.new room.new count
         (S.calls system.old) (S.calls system.new)) }
+    ensures refused { IfErr result (λ _. NamesAreUnread listing.old listing.new
+        (S.calls system.old) (S.calls system.new)) }
 {
     let Some(handle) = *listing else {
         return Err(io::Error::from(ErrorKind::NotFound));
@@ -281,8 +288,11 @@ fn next_names<S: System>(
 }
 
 /// Whether there is a regular file of this name in the folder. A link is none.
+#[tactic(auto, using(crate::proofs::Asked::unasked))]
 fn is_regular<S: System>(system: &mut S, alloc: Global, path: &str, name: &[u8]) -> io::Result<bool>
-    ensures { IfOk result (λ is_file. IsAsked path.now name.now is_file (S.calls system.old)
+    ensures calls { IfOk result (λ is_file. IsAsked path.now name.now is_file (S.calls system.old)
+        (S.calls system.new)) }
+    ensures refused { IfErr result (λ _. IsUnasked path.now name.now (S.calls system.old)
         (S.calls system.new)) }
 {
     let Ok(name) = from_utf8(name) else {

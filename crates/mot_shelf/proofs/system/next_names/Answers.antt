@@ -2,6 +2,7 @@ use Rattle.std.proofs.Common.{ℕ, ◌++◌, ◌∷◌, [], ◌∙◌, ap, refl,
 use Rattle.mot_files.specs.Call.{read}
 use Rattle.mot_files.proofs.Laws.{step}
 use Rattle.mot_shelf.specs.Calls.NamesAreRead.{none, some}
+use Rattle.mot_shelf.specs.Calls.NamesAreUnread.{failed, none as unopened}
 use Rattle.mot_shelf.proofs.system.next_names.Goals as goal
 
 pub returns-in-Ok-eq0-clause-calls : goal.returns-in-Ok-eq0-clause-calls
@@ -14,3 +15,10 @@ returns-in-Ok-eq0-clause-calls g c =
 pub returns-in-Ok-clause-calls : goal.returns-in-Ok-clause-calls
 returns-in-Ok-clause-calls g c =
     some c.in-Some.handle c.in-Some.is refl c.in-Ok.count-test.1 c.in-Ok.ensures.noted
+
+pub returns-in_default-clause-refused : goal.returns-in_default-clause-refused
+returns-in_default-clause-refused g c = unopened c.in_default.is refl refl
+
+pub returns-in-Err-clause-refused : goal.returns-in-Err-clause-refused
+returns-in-Err-clause-refused g c =
+    failed c.in-Some.handle c.in-Err.fault c.in-Some.is refl c.in-Err.ensures.noted
