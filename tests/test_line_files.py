@@ -106,6 +106,16 @@ class Answered(LineFiles):
         self.expect("and it comes again", wanted, self.answered("--every", "1", "--turns", "2"))
         self.expect("until it is answered", [], self.left())
 
+    def test_a_file_that_was_answered_before_a_fault(self):
+        """It stays where a fault ends the run, whose packets nobody has, and its lines come again."""
+        send(self.asked, "1.lines", b"period 3\n")
+        status, told, said = self.motcar("play", self.place, "/dev/full", "--lines", self.asked, "--every", "1", "--turns", "3")
+        self.expect("a full device", (1, [b"lines 1.lines:1 period 3 done directory 2"], b"motcar: 23 WriteFault"),
+                    (status, told.splitlines()[1:], said.splitlines()[0]))
+        self.expect("leaves the file", ["1.lines"], self.left())
+        self.expect("and it comes again", (0, b"done directory 3\n", b""), self.answered("--every", "1", "--turns", "2"))
+        self.expect("until it is answered", [], self.left())
+
     def test_a_file_that_was_answered_as_playing_ends(self):
         """One read, and an end: a file that is at its end then is taken away, and its lines do not come again."""
         read = b"turn\n" * 818 + b"turn \n"
