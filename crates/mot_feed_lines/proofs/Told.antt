@@ -7,7 +7,7 @@ use Rattle.mot_events.specs.Log.{Entry, HearsAll, is_complete, is_event}
 use Rattle.mot_events.specs.Log.Entry.{left_out, of}
 use Rattle.mot_events.specs.declared.event.Event.{Event}
 use Rattle.mot_events.proofs.Laws.{hears_on}
-use Rattle.mot_feed_lines.specs.Logged.{Answers, AreAnswers, AreShown, IsLogged, IsShown, LogHas}
+use Rattle.mot_feed_lines.specs.Logged.{Answers, AreAnswers, AreShown, IsShown, LogHas}
 use Rattle.mot_feed_lines.specs.Logged.AreAnswers.{shown}
 use Rattle.mot_feed_lines.specs.Logged.AreShown.{one_line}
 use Rattle.mot_lines.specs.Lines.{HasNoLineEnd}

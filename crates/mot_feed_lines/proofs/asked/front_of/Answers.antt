@@ -1,4 +1,4 @@
-use Rattle.std.proofs.Common.{◌≤◌, arith, drop, length, sym, take}
+use Rattle.std.proofs.Common.{◌≤◌, arith, drop, sym}
 use Rattle.std.proofs.lemmas.List.{length-take-le, take-append-drop}
 use Rattle.mot_feed_lines.proofs.asked.front_of.Goals as goal
 
