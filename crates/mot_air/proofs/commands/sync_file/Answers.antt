@@ -1,4 +1,5 @@
-use Rattle.std.proofs.Common.{◌≡◌, ℕ, List, false, subst, sym}
+use Rattle.std.proofs.Common.{◌≡◌, ◌∙◌, ◌++◌, ℕ, List, [], ◌∷◌, false, refl, subst, sym}
+use Rattle.std.specs.Prelude.{codes}
 use Rattle.std.specs.Result.{result_unwrap_or}
 use Rattle.disk_store.specs.Begun.{begun_state}
 use Rattle.disk_store.proofs.Laws.{since_opened}
@@ -6,8 +7,10 @@ use Rattle.mot_air.specs.Commands.{Concludes}
 use Rattle.mot_air.specs.Commands.{SyncsTo}
 use Rattle.mot_air.specs.Syncing.{Syncs}
 use Rattle.mot_air.proofs.Begun.{concludes_so}
+use Rattle.mot_air.proofs.Used.{opened_whole}
 use Rattle.mot_air.proofs.commands.sync_file.Goals as goal
 use Rattle.mot_numbers.specs.declared.refusal.Refusal.TheVariants.{DeviceFault}
+use Rattle.mot_outcome.specs.Outcome.{Opens}
 use Rattle.mot_outcome.specs.declared.used.UsedDisk.TheVariants.{OfFile}
 use Rattle.mot_playout.specs.Attempts.{fault_of}
 use Rattle.mot_shelf.specs.Given.{Given}
@@ -45,3 +48,19 @@ returns-in-Ok-clause-ended g c =
     (told (λ pa gi. Syncs types allows pa gi (begun_state c.in-Ok.disk) (begun_state ended.disk) all
     ending old new) c.folder-shelf.result.path.now path c.sync_shelf-ended.result.2 seen
     c.folder-shelf.ensures.path c.folder.ensures c.sync_shelf-ended.ensures)))
+
+pub returns-in-Ok-clause-opens : goal.returns-in-Ok-clause-opens
+returns-in-Ok-clause-opens g c =
+    let folder = (codes "folder", c.args.folder.now) ∷ [] in
+    subst (λ (f : _). Opens folder c.args.path.now f.disk c.args.host.now.paths.all
+    c.disk.new.self.paths.all) (sym c.of_file.ensures)
+    (opened_whole folder [] ((codes "disk", c.args.path.now) ∷ []) c.args.host.now.paths.all
+    c.folder-shelf.new.self.paths.all c.disk.new.self.paths.all c.folder-shelf.ensures.paths
+    c.in-Ok.ensures.paths)
+
+pub returns-in-Err-clause-opens : goal.returns-in-Err-clause-opens
+returns-in-Err-clause-opens g c =
+    let folder = (codes "folder", c.args.folder.now) ∷ [] in
+    subst (λ (f : _). Opens folder c.args.path.now f.disk c.args.host.now.paths.all
+    c.disk.new.self.paths.all) (sym c.unopened.ensures)
+    (folder, [], refl, c.in-Err.ensures.paths ∙ c.folder-shelf.ensures.paths)
