@@ -1,7 +1,6 @@
 -- What the commands come to is what the program comes to.
 use Rattle.std.proofs.Common.{[], ◌≡◌, ◌⊎◌, ℕ, Bool, true, false, List, Option, Some, None, Result, Ok}
-use Rattle.std.proofs.Common.{Err, inl, inr, refl, subst, sym}
-use Rattle.std.proofs.KnownBytes.{Keeps-refl}
+use Rattle.std.proofs.Common.{Err, inl, inr, refl, subst}
 use Rattle.std.specs.Io.KnownBytes.{Keeps}
 use Rattle.std.specs.Prelude.{IsErrAnd}
 use Rattle.std.specs.Result.{result_unwrap_or}
@@ -21,6 +20,11 @@ use Rattle.mot_outcome.specs.declared.used.UsedDisk.{UsedDisk}
 use Rattle.mot_playout.specs.Attempts.{fault_of}
 use Rattle.mot_server.specs.Inner.Coming.{ComesOut, whole_result}
 use Rattle.mot_server.specs.Program.{Ends, IsBeginningRefusal, IsWhole, LooksFor, RunsTo, Uses}
+
+-- what is done whole ends by the same refusal
+pub fault_whole : (result : Result Unit Refusal) → fault_of (whole_result result) ≡ fault_of result
+fault_whole (Ok done) = refl
+fault_whole (Err refusal) = refl
 
 module _ {S : Type 0} {start : Ghosts S} (task : Task) (unread left old new : Option (List ℕ)) where
   -- a command that is done whole if no refusal ends it

@@ -1,11 +1,9 @@
 use Rattle.std.proofs.Common.{◌≡◌, ◌∙◌, ℕ, List, Option, None, Some, ap, inl, inr, map, refl, subst}
 use Rattle.std.proofs.Common.{sym}
 use Rattle.std.proofs.KnownBytes.{Keeps-refl}
-use Rattle.std.specs.Result.{result_unwrap_or}
-use Rattle.std.specs.Prelude.{false}
 use Rattle.clap.specs.Words.{Row, Text, found_of, rows_of, subcommand_of}
 use Rattle.mot_cli.proofs.Laws.{AreWrong-none, AskBy-matched, motcar_simple}
-use Rattle.mot_cli.specs.Asked.{AskBy, AskFor}
+use Rattle.mot_cli.specs.Asked.{AskBy}
 use Rattle.mot_cli.specs.Command.{motcar_app}
 use Rattle.mot_cli.specs.Task.{AskForNothing, IsTask, IsWhy, LackOption}
 use Rattle.mot_cli.specs.declared.task.NoTask.{NoTask}
@@ -15,12 +13,10 @@ use Rattle.mot_numbers.specs.declared.refusal.Refusal.{Refusal}
 use Rattle.mot_numbers.specs.declared.refusal.Refusal.TheVariants.{BadNumber, WriteFault}
 use Rattle.disk_store.specs.declared.file.start.Start.{Ghosts}
 use Rattle.mot_outcome.proofs.Laws.{explained}
-use Rattle.mot_outcome.specs.Outcome.{IsUntold, IsUntouched, Prints, UsesFiles, status_of}
+use Rattle.mot_outcome.specs.Outcome.{IsUntouched, Prints, UsesFiles}
 use Rattle.mot_outcome.specs.Outcome.ComesTo.{no_task, wrong}
 use Rattle.mot_outcome.specs.Outcome.UsesFiles.{asked, none}
 use Rattle.mot_outcome.specs.declared.exit.Exit.{Exit}
-use Rattle.mot_outcome.specs.declared.used.UsedDisk.{UsedDisk}
-use Rattle.mot_playout.specs.Attempts.{fault_of}
 use Rattle.mot_server.proofs.Asking.{IsNamed, lacks, lacks_none, memory_is, named_so, none_is}
 use Rattle.mot_server.proofs.Asking.{number_of_named}
 use Rattle.mot_server.proofs.Coming.{runs}

@@ -1,4 +1,4 @@
-use Rattle.std.proofs.Common.{◌≡◌, subst, sym}
+use Rattle.std.proofs.Common.{[], ◌≡◌, Option, refl, subst, sym}
 use Rattle.std.proofs.KnownBytes.{Keeps-refl}
 use Rattle.std.specs.Io.KnownBytes.{Keeps}
 use Rattle.mot_air.specs.Commands.{ExportsFile, InspectsFile, IsUnplayed, IsUnsynced, PlaysTask}
@@ -7,11 +7,15 @@ use Rattle.mot_cli.specs.declared.task.Task.{Task}
 use Rattle.mot_cli.specs.declared.task.Task.TheVariants.{Memory, Format, Serve, Check, Migrate}
 use Rattle.mot_cli.specs.declared.task.Task.TheVariants.{Play, Sync, Export, Inspect}
 use Rattle.mot_commands.specs.Commands.{ChecksFile, FormatsFile, IsUnformatted, IsUnmade}
-use Rattle.mot_commands.specs.Commands.{LooksFirst, MigratesFile, ServesFile, ServesMemory}
+use Rattle.mot_commands.specs.Commands.{LooksFirst, MigratesFile, OpensOrMakes, ServesFile}
+use Rattle.mot_commands.specs.Commands.{ServesMemory}
+use Rattle.mot_numbers.specs.declared.refusal.Refusal.{Refusal}
 use Rattle.mot_numbers.specs.declared.refusal.Refusal.TheVariants.{DeviceFault}
+use Rattle.mot_outcome.specs.Outcome.{Opens}
+use Rattle.mot_playout.specs.Attempts.{fault_of}
 use Rattle.mot_server.specs.Inner.Coming.{ComesOut}
-use Rattle.mot_server.specs.Program.{LooksFor}
-use Rattle.mot_server.proofs.Coming.{comes_so, comes_whole}
+use Rattle.mot_server.specs.Program.{LooksFor, UsesFor}
+use Rattle.mot_server.proofs.Coming.{comes_so, comes_whole, fault_whole}
 use Rattle.mot_server.proofs.running.execute.Goals as goal
 
 pub returns-in-Memory-clause-ended : goal.returns-in-Memory-clause-ended
@@ -154,3 +158,115 @@ returns-in-Inspect-clause-ended g c =
     (comes_whole task unread unread old new (λ r. r ≡ DeviceFault)
     (λ ending used. InspectsFile c.in-Inspect.rate ending used old new) result used (λ r early. (early, Keeps-refl _))
     (λ all ending whole is. (whole, Keeps-refl _, is)) c.inspect_file.ensures.ended))
+
+pub returns-in-Serve-clause-files : goal.returns-in-Serve-clause-files
+returns-in-Serve-clause-files g c =
+    let old = c.args.host.now.paths.all in
+    let new = c.serve_file.new.host.paths.all in
+    let done = c.whole-in-Serve.result in
+    subst (λ (t : Task). UsesFor (fault_of done.result) t done.disk old new) (sym c.in-Serve.is)
+    (subst (λ (w : _). Opens [] c.in-Serve.path.now w.disk old new) (sym c.whole-in-Serve.ensures)
+    c.serve_file.ensures.files)
+
+pub returns-in-Check-clause-files : goal.returns-in-Check-clause-files
+returns-in-Check-clause-files g c =
+    let old = c.args.host.now.paths.all in
+    let new = c.check_file.new.host.paths.all in
+    let done = c.whole-in-Check.result in
+    subst (λ (t : Task). UsesFor (fault_of done.result) t done.disk old new) (sym c.in-Check.is)
+    (subst (λ (w : _). Opens [] c.in-Check.path.now w.disk old new) (sym c.whole-in-Check.ensures)
+    c.check_file.ensures.files)
+
+pub returns-in-Migrate-clause-files : goal.returns-in-Migrate-clause-files
+returns-in-Migrate-clause-files g c =
+    let old = c.args.host.now.paths.all in
+    let new = c.migrate_file.new.host.paths.all in
+    let done = c.whole-in-Migrate.result in
+    subst (λ (t : Task). UsesFor (fault_of done.result) t done.disk old new) (sym c.in-Migrate.is)
+    (subst (λ (w : _). Opens [] c.in-Migrate.path.now w.disk old new) (sym c.whole-in-Migrate.ensures)
+    c.migrate_file.ensures.files)
+
+pub returns-in-Export-clause-files : goal.returns-in-Export-clause-files
+returns-in-Export-clause-files g c =
+    let old = c.args.host.now.paths.all in
+    let new = c.export_file.new.host.paths.all in
+    let done = c.whole-in-Export.result in
+    subst (λ (t : Task). UsesFor (fault_of done.result) t done.disk old new) (sym c.in-Export.is)
+    (subst (λ (w : _). Opens [] c.in-Export.path.now w.disk old new) (sym c.whole-in-Export.ensures)
+    c.export_file.ensures.opens)
+
+pub returns-in-Inspect-clause-files : goal.returns-in-Inspect-clause-files
+returns-in-Inspect-clause-files g c =
+    let old = c.args.host.now.paths.all in
+    let new = c.inspect_file.new.host.paths.all in
+    let done = c.whole-in-Inspect.result in
+    subst (λ (t : Task). UsesFor (fault_of done.result) t done.disk old new) (sym c.in-Inspect.is)
+    (subst (λ (w : _). Opens [] c.in-Inspect.disk.now w.disk old new) (sym c.whole-in-Inspect.ensures)
+    c.inspect_file.ensures.opens)
+
+pub returns-in-Memory-clause-files : goal.returns-in-Memory-clause-files
+returns-in-Memory-clause-files g c =
+    let old = c.args.host.now.paths.all in
+    subst (λ (t : Task). UsesFor (fault_of c.whole.result.result) t c.whole.result.disk old old)
+    (sym c.in-Memory.is) refl
+
+pub returns-in-Format-clause-files : goal.returns-in-Format-clause-files
+returns-in-Format-clause-files g c =
+    let old = c.args.host.now.paths.all in
+    let new = c.format_file.new.host.paths.all in
+    let done = c.whole-in-Format.result in
+    subst (λ (t : Task). UsesFor (fault_of done.result) t done.disk old new) (sym c.in-Format.is)
+    (subst (λ (w : _). OpensOrMakes (fault_of w.result) c.in-Format.path.now w.disk old new)
+    (sym c.whole-in-Format.ensures)
+    (subst (λ (e : Option Refusal). OpensOrMakes e c.in-Format.path.now c.format_file.result.disk old
+    new) (sym (fault_whole c.format_file.result.result)) c.format_file.ensures.files))
+
+pub returns-in-Play-clause-files : goal.returns-in-Play-clause-files
+returns-in-Play-clause-files g c =
+    subst (λ (t : Task). UsesFor (fault_of c.play.result.result) t c.play.result.disk
+    c.args.host.now.paths.all c.play.new.host.paths.all) (sym c.in-Play.is) c.play.ensures.opens
+
+pub returns-in-Sync-clause-files : goal.returns-in-Sync-clause-files
+returns-in-Sync-clause-files g c =
+    subst (λ (t : Task). UsesFor (fault_of c.sync.result.result) t c.sync.result.disk
+    c.args.host.now.paths.all c.sync.new.host.paths.all) (sym c.in-Sync.is) c.sync.ensures.opens
+
+pub returns-in-Memory-clause-looked : goal.returns-in-Memory-clause-looked
+returns-in-Memory-clause-looked g c =
+    let calls = g.Y.System.calls c.args.system.now in
+    subst (λ (t : Task). LooksFor t c.whole.result.disk calls calls) (sym c.in-Memory.is) refl
+
+pub returns-in-Serve-clause-looked : goal.returns-in-Serve-clause-looked
+returns-in-Serve-clause-looked g c =
+    let calls = g.Y.System.calls c.args.system.now in
+    subst (λ (t : Task). LooksFor t c.whole-in-Serve.result.disk calls calls) (sym c.in-Serve.is) refl
+
+pub returns-in-Check-clause-looked : goal.returns-in-Check-clause-looked
+returns-in-Check-clause-looked g c =
+    let calls = g.Y.System.calls c.args.system.now in
+    subst (λ (t : Task). LooksFor t c.whole-in-Check.result.disk calls calls) (sym c.in-Check.is) refl
+
+pub returns-in-Migrate-clause-looked : goal.returns-in-Migrate-clause-looked
+returns-in-Migrate-clause-looked g c =
+    let calls = g.Y.System.calls c.args.system.now in
+    subst (λ (t : Task). LooksFor t c.whole-in-Migrate.result.disk calls calls) (sym c.in-Migrate.is) refl
+
+pub returns-in-Play-clause-looked : goal.returns-in-Play-clause-looked
+returns-in-Play-clause-looked g c =
+    let calls = g.Y.System.calls c.args.system.now in
+    subst (λ (t : Task). LooksFor t c.play.result.disk calls calls) (sym c.in-Play.is) refl
+
+pub returns-in-Sync-clause-looked : goal.returns-in-Sync-clause-looked
+returns-in-Sync-clause-looked g c =
+    let calls = g.Y.System.calls c.args.system.now in
+    subst (λ (t : Task). LooksFor t c.sync.result.disk calls calls) (sym c.in-Sync.is) refl
+
+pub returns-in-Export-clause-looked : goal.returns-in-Export-clause-looked
+returns-in-Export-clause-looked g c =
+    let calls = g.Y.System.calls c.args.system.now in
+    subst (λ (t : Task). LooksFor t c.whole-in-Export.result.disk calls calls) (sym c.in-Export.is) refl
+
+pub returns-in-Inspect-clause-looked : goal.returns-in-Inspect-clause-looked
+returns-in-Inspect-clause-looked g c =
+    let calls = g.Y.System.calls c.args.system.now in
+    subst (λ (t : Task). LooksFor t c.whole-in-Inspect.result.disk calls calls) (sym c.in-Inspect.is) refl
