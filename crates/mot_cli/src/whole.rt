@@ -39,7 +39,6 @@ fn is_absent(words: &ArgMatches<'_>, name: &str) -> bool
     option_of(words, name).is_none()
 }
 
-
 /// The option that is missing among words that are not whole, as help shows it.
 pub(crate) fn missing_option(words: &ArgMatches<'_>) -> &'static str {
     if !goes_with(words, "every", "lines") {

@@ -99,8 +99,6 @@ pub fn run_program_on<'a, Y: System, S: AsStr, B: Start, R: Read, W: Write, E: W
         Ok(task) => task,
         Err(why) => return tell_no_task(errors, why, rest, start),
     };
-    let finished = execute(
-        host, system, alloc, &task, start, reader, writer, errors,
-    );
+    let finished = execute(host, system, alloc, &task, start, reader, writer, errors);
     conclude(errors, rest, finished)
 }
