@@ -1,5 +1,8 @@
 //! What a refusal is about: the file that was not opened, made or written, or the option whose
 //! number is out of its range. It is printed, and nothing is decided by it.
+ghost use Rattle.std.specs.Prelude.{◌≡◌, ◌⊎◌, codes};
+ghost use Rattle.std.specs.declared.io.ErrorKind.TheVariants.{QuotaExceeded, StorageFull};
+
 use clap::ArgMatches;
 use disk_store::OpenFault;
 use mot_devices::DeviceUse;
@@ -171,23 +174,31 @@ fn suffix_beside(fault: OpenFault) -> &'static str {
 /// What to do about a disk that was not opened or made.
 fn hint_of(cause: Cause) -> &'static str {
     match cause {
-        Cause::Disk(OpenFault::System(error)) | Cause::Disk(OpenFault::Beside(error)) =>
-            match error.kind() {
-                ErrorKind::NotFound | ErrorKind::NotADirectory | ErrorKind::IsADirectory => {
-                    "; check the path"
-                }
-                ErrorKind::PermissionDenied => "; motcar has to read and write it",
-                ErrorKind::ReadOnlyFilesystem => "; the disk has to be written",
-                ErrorKind::StorageFull | ErrorKind::QuotaExceeded => "; make room",
-                ErrorKind::ResourceBusy => "; another program has it: end that",
-                ErrorKind::Unsupported => "; it has to be a regular file of one name: move it away",
-                ErrorKind::AlreadyExists => "; move it away",
-                _ => "",
-            },
+        Cause::Disk(OpenFault::System(error)) | Cause::Disk(OpenFault::Beside(error)) => {
+            hint_of_kind(error.kind())
+        }
         Cause::Disk(OpenFault::InUse) => "; end that program first",
         Cause::Disk(OpenFault::NoDisk) => "; check the path",
         Cause::Disk(OpenFault::SecondName) => "; remove the other name",
         Cause::Device(found) => hint_of_use(found),
+        _ => "",
+    }
+}
+
+/// What to do about a disk for which the system gave a reason of this kind.
+fn hint_of_kind(kind: ErrorKind) -> &'static str
+    ensures room { (kind ≡ StorageFull) ⊎ (kind ≡ QuotaExceeded) → result.now ≡ codes "; make room" }
+{
+    match kind {
+        ErrorKind::NotFound | ErrorKind::NotADirectory | ErrorKind::IsADirectory => {
+            "; check the path"
+        }
+        ErrorKind::PermissionDenied => "; motcar has to read and write it",
+        ErrorKind::ReadOnlyFilesystem => "; the disk has to be written",
+        ErrorKind::StorageFull | ErrorKind::QuotaExceeded => "; make room",
+        ErrorKind::ResourceBusy => "; another program has it: end that",
+        ErrorKind::Unsupported => "; it has to be a regular file of one name: move it away",
+        ErrorKind::AlreadyExists => "; move it away",
         _ => "",
     }
 }
