@@ -80,7 +80,8 @@ class Clone:
         for it in ("tools/from_help.py", *(f"docs/help/{it}.txt" for it in ("motcar", "memory", *ON_FILES))):
             shutil.copy(top / it, self.top / it)
         (self.top / "examples/motcar.service").write_text("ExecStart=/usr/local/bin/motcar\n")
-        (self.top / "examples/motcar.sysusers").touch()
+        for it in ("motcar.sysusers", "motcar.default"):
+            (self.top / "examples" / it).touch()
         (self.top / "CHANGELOG.md").touch()
         (self.top / "README.md").touch()
         (self.top / "crates/motcar/must-fail").mkdir()
@@ -388,7 +389,7 @@ def installed_and_taken_away(clone):
     files = ["bin/motcar", "share/man/man1/motcar.1", "share/motcar/README.md", "share/motcar/VERSION",
              "share/motcar/CHANGELOG.md", "share/bash-completion/completions/motcar",
              "share/zsh/site-functions/_motcar", "share/motcar/examples/motcar.service",
-             "share/motcar/examples/motcar.sysusers"]
+             "share/motcar/examples/motcar.sysusers", "share/motcar/examples/motcar.default"]
     files += [f"share/motcar/docs/help/{it}.txt" for it in ("motcar", "memory", *ON_FILES)]
     for _ in range(2):
         status, _, said = clone.run("install", str(prefix))
@@ -479,7 +480,7 @@ def packed(clone):
         held = subprocess.run(["dpkg-deb", "-c", it], cwd=folder, capture_output=True, text=True, check=True).stdout
         expect("drwxr-xr-x root/root", held[:20])
         for name in ("usr/bin/motcar", "usr/lib/systemd/system/motcar.service", "usr/lib/sysusers.d/motcar.conf",
-                     "usr/share/motcar/VERSION", "usr/share/man/man1/motcar.1.gz"):
+                     "etc/default/motcar", "usr/share/motcar/VERSION", "usr/share/man/man1/motcar.1.gz"):
             expect_in(f" ./{name}\n", held)
     expect("motcar 7.8.9\nproved with stand-in 1\n", (folder / "VERSION").read_text())
     expect_nothing_left(clone)
