@@ -83,7 +83,8 @@ class Clone:
         for it in ("motcar.sysusers", "motcar.default"):
             (self.top / "examples" / it).touch()
         (self.top / "CHANGELOG.md").touch()
-        (self.top / "README.md").touch()
+        (self.top / "README.md").write_text("[there](docs/FORMATS.md#x), [not there](CONTRIBUTING.md)\n")
+        (self.top / "docs/FORMATS.md").write_text("| 15 | DeviceFault | the disk, as `format` makes it |\n")
         (self.top / "crates/motcar/must-fail").mkdir()
         (self.top / "crates/motcar/must-fail/wrong.edit").touch()
         (self.top / "crates.txt").write_text("motcar:\nmot_tests: motcar\n")
@@ -387,7 +388,7 @@ def a_clone_that_cannot_be_written(clone):
 def installed_and_taken_away(clone):
     prefix = clone.room / "a prefix of $HOME"
     files = ["bin/motcar", "share/man/man1/motcar.1", "share/motcar/README.md", "share/motcar/VERSION",
-             "share/motcar/CHANGELOG.md", "share/bash-completion/completions/motcar",
+             "share/motcar/CHANGELOG.md", "share/motcar/docs/FORMATS.md", "share/bash-completion/completions/motcar",
              "share/zsh/site-functions/_motcar", "share/motcar/examples/motcar.service",
              "share/motcar/examples/motcar.sysusers", "share/motcar/examples/motcar.default"]
     files += [f"share/motcar/docs/help/{it}.txt" for it in ("motcar", "memory", *ON_FILES)]
@@ -399,6 +400,9 @@ def installed_and_taken_away(clone):
     expect_in('.TH MOTCAR 1 "" "motcar 7.8.9" "User Commands"\n', page)
     for command in ("memory", *ON_FILES):
         expect_in(f"\n.SS motcar {command} ", page)
+    expect_in("\n.SH DIAGNOSTICS\n", page)
+    expect_in("\n.TP\n.B 15 DeviceFault\nthe disk, as format makes it\n", page)
+    expect("[there](docs/FORMATS.md#x), not there\n", (prefix / files[2]).read_text())
     # Lines that are not filled stand in 80 columns, after the indents of a section and of an example.
     parts = [part.split(".fi\n")[0].splitlines() for part in page.split(".nf\n")[1:]]
     kept = [it for part in parts for it in part if not it.startswith(".")]
@@ -480,7 +484,8 @@ def packed(clone):
         held = subprocess.run(["dpkg-deb", "-c", it], cwd=folder, capture_output=True, text=True, check=True).stdout
         expect("drwxr-xr-x root/root", held[:20])
         for name in ("usr/bin/motcar", "usr/lib/systemd/system/motcar.service", "usr/lib/sysusers.d/motcar.conf",
-                     "etc/default/motcar", "usr/share/motcar/VERSION", "usr/share/man/man1/motcar.1.gz"):
+                     "etc/default/motcar", "usr/share/doc/motcar/copyright", "usr/share/doc/motcar/changelog.gz",
+                     "usr/share/motcar/VERSION", "usr/share/man/man1/motcar.1.gz"):
             expect_in(f" ./{name}\n", held)
     expect("motcar 7.8.9\nproved with stand-in 1\n", (folder / "VERSION").read_text())
     expect_nothing_left(clone)

@@ -9,12 +9,13 @@ import pathlib
 import re
 import sys
 
-HELP = pathlib.Path(__file__).resolve().parent.parent / "docs/help"
+DOCS = pathlib.Path(__file__).resolve().parent.parent / "docs"
+HELP = DOCS / "help"
 MANUAL = {
     "FILES": r"""
 .TP
 .I DISK
-A disk: a regular file or a block device. Its format is described in docs/FORMATS.md.
+A disk: a regular file or a block device. Its format is described in FORMATS.md.
 .TP
 .I DISK\-wal
 An empty file that motcar makes beside a disk that is a regular file. Leave it in place.
@@ -46,8 +47,8 @@ echo \(aqput hello.txt 1 0 text/plain 68656c6c6f\(aq |
 .fi
 """,
     "SEE ALSO": r"""
-docs/OPERATING.md (the manual), docs/FORMATS.md (disks, lines, replies, log lines) and docs/PROMISES.md (what is proved), which are installed in
-share/motcar/docs.
+OPERATING.md (the manual), FORMATS.md (disks, lines, replies, log lines) and PROMISES.md (what is proved), which are installed in
+share/motcar/docs (of the Debian package: /usr/share/doc/motcar/docs).
 .PP
 ETSI EN 300 401, ETSI EN 301 234, ETSI TS 101 756.
 """,
@@ -90,6 +91,12 @@ def terms(found):
     return "".join(f".TP\n.B {roff(term)}\n{roff(help)}\n" for term, help in found)
 
 
+def refusals():
+    """Each refusal with its number, and what it means: the table of FORMATS."""
+    found = re.findall(r"(?m)^\| (\d+) \| ([A-Z][a-z]\w+) \| (.*) \|$", (DOCS / "FORMATS.md").read_text())
+    return [(f"{number} {name}", re.sub(r"`|\[([^\]]*)\]\(\S+\)", r"\1", meaning)) for number, name, meaning in found]
+
+
 def manual(version):
     top, all_commands = commands()
     notes = top.partition("Print help\n\n")[2]
@@ -107,6 +114,7 @@ def manual(version):
                ("-V, --version", "Print the version, the commit and the toolchain that proved it")]
     page += ".SH OPTIONS\n" + terms(options)
     page += ".SH EXIT STATUS\n" + terms([("0", done), ("1", refused), ("2", wrong)])
+    page += ".SH DIAGNOSTICS\nEach refusal by its number and name. OPERATING.md says what to do at each.\n" + terms(refusals())
     return page + "".join(f".SH {title}\n{text.strip()}\n" for title, text in MANUAL.items())
 
 
@@ -116,18 +124,18 @@ def bash():
     text = "# Completions of motcar for bash.\n_motcar() {\n"
     text += "    local word=${COMP_WORDS[COMP_CWORD]} before=${COMP_WORDS[COMP_CWORD-1]} options=\n"
     text += '    if [ "$COMP_CWORD" -eq 1 ]; then\n'
-    text += f'        COMPREPLY=($(compgen -W "{names} help --help --version" -- "$word"))\n'
+    text += f'        mapfile -t COMPREPLY < <(compgen -W "{names} help --help --version" -- "$word")\n'
     text += "        return\n    fi\n    case \"${COMP_WORDS[1]}\" in\n"
     for it in all_commands:
         text += f'        {it.name}) options="{" ".join([*(name for name, _, _ in it.words()), "--help"])}" ;;\n'
     text += f'        help) options="{names}" ;;\n    esac\n'
     folders = sorted({name for it in all_commands for name, value, _ in it.words() if value == "DIR"})
     numbers = sorted({name for it in all_commands for name, value, _ in it.words() if value == "N"})
-    text += f'    case "$before" in\n        {" | ".join(folders)}) COMPREPLY=($(compgen -d -- "$word")); return ;;\n'
+    text += f'    case "$before" in\n        {" | ".join(folders)}) mapfile -t COMPREPLY < <(compgen -d -- "$word"); return ;;\n'
     text += f'        {" | ".join(numbers)}) return ;;\n    esac\n'
     text += '    case "${COMP_WORDS[1]} $word" in\n'
-    text += '        "help "* | *" -"*) COMPREPLY=($(compgen -W "$options" -- "$word")) ;;\n'
-    text += '        *) COMPREPLY=($(compgen -f -- "$word")) ;;\n    esac\n}\n'
+    text += '        "help "* | *" -"*) mapfile -t COMPREPLY < <(compgen -W "$options" -- "$word") ;;\n'
+    text += '        *) mapfile -t COMPREPLY < <(compgen -f -- "$word") ;;\n    esac\n}\n'
     return text + "complete -o filenames -F _motcar motcar\n"
 
 
