@@ -1,6 +1,7 @@
 //! Commands.
+use crate::repetition::set_period;
 use mot_base::Refusal;
-use mot_carousel::{Body, Command, Content, Mime, Name, Period};
+use mot_carousel::{Body, Command, Content, Mime, Name};
 use std::alloc::Global;
 
 fn name_of(alloc: Global, text: &[u8]) -> Result<Name, Refusal> {
@@ -39,17 +40,12 @@ pub fn withdraw(alloc: Global, name: &[u8]) -> Result<Command, Refusal> {
     })
 }
 
-/// Sets the repetition period.
-pub fn period(seconds: u32) -> Result<Command, Refusal> {
-    Ok(Command::Period(Period::new(seconds)?))
-}
-
 /// Adds an object, and then sets the period again and again: twelve commands.
 pub fn twelve(alloc: Global) -> Result<Vec<Command>, Refusal> {
     let mut all = Vec::new(alloc);
     all.push(put(alloc, b"a", b"abc")?)?;
-    for seconds in 1..12 {
-        all.push(period(seconds)?)?;
+    for number in 1..12 {
+        all.push(set_period(number)?)?;
     }
     Ok(all)
 }

@@ -1,9 +1,10 @@
 //! Crashes and faults on the way of a command, and what is opened of what they leave.
 ghost use Rattle.std.specs.Prelude.{◌≤◌};
 
-use crate::commands::{period, put, twelve};
+use crate::commands::{put, twelve};
 use crate::disks::{ONE, OPENING, SHORT, Server, USUAL, image_of, new_disk, old_disk, open};
 use crate::expecting::expect;
+use crate::repetition::set_period;
 use disk_store::MemoryDisk;
 use mot_base::Refusal;
 use mot_carousel::Command;
@@ -171,7 +172,7 @@ fn refusal_to_play(server: &mut Server) -> Option<Refusal> {
 
 fn answers_of(alloc: Global, server: &mut Server) -> Result<Halted, Refusal> {
     let put = refusal_of(alloc, server, &put(alloc, b"a", b"abc")?);
-    let period = refusal_of(alloc, server, &period(1)?);
+    let period = refusal_of(alloc, server, &set_period(1)?);
     Ok((put, period, refusal_to_play(server)))
 }
 

@@ -20,6 +20,10 @@ pub use mot_server::{
     Restarted, RunEnd, ServeEnd, Server, parse_line, restart, run_program, serve,
 };
 
+mod repetition;
+
+pub use repetition::set_period;
+
 #[cfg(test)]
 mod commands;
 #[cfg(test)]

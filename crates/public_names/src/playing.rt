@@ -1,7 +1,8 @@
 //! Packets of a server.
-use crate::commands::{period, put, put_with_mime};
+use crate::commands::{put, put_with_mime};
 use crate::disks::{OPENING, SHORT, Server, new_disk, new_server, open};
 use crate::expecting::expect;
+use crate::repetition::set_period;
 use mot_base::Refusal;
 use std::alloc::Global;
 use std::test::Fail;
@@ -72,6 +73,6 @@ fn a_failed_read_of_a_body_costs_one_request(rt: HostRuntime) -> Result<(), Fail
     for seen in rows {
         expect(&rt, next_seen(&mut server), seen);
     }
-    expect(&rt, server.execute(alloc, &period(1)?).is_ok(), true);
+    expect(&rt, server.execute(alloc, &set_period(1)?).is_ok(), true);
     Ok(())
 }
