@@ -12,6 +12,10 @@ use Rattle.disk_store.specs.declared.file.start.Start.{Ghosts}
 use Rattle.disk_store.specs.declared.file.FileDiskFrom.{FileDiskFrom}
 use Rattle.disk_store.specs.Beginning.{BeginWith, HasFirstCalls, IsFirst, SinceMade, SinceOpened}
 use Rattle.disk_store.specs.Beginning.{first_calls, first_state, state_after}
+use Rattle.disk_store.specs.Second.{second_calls, second_state}
+use Rattle.disk_store.specs.declared.call_count.CallCount.{CallCount}
+use Rattle.disk_store.specs.declared.file.SecondDisk.{SecondDisk}
+use Rattle.disk_store.specs.declared.file.system.HeldFile.{HeldFile}
 
 module _ {S : Type 0} {start : Ghosts S} where
   module _ (is_new : Bool) (first disk : FileDiskFrom S start) (was : IsFirst is_new first)
@@ -91,3 +95,27 @@ begins_after is_new old new begins len goes =
     subst (λ n. BeginWith (first_calls is_new n) (calls_on new)) (sym len)
     (subst (BeginWith (first_calls is_new (file_state old).len)) (sym goes.1)
     (BeginWith-more (first_calls is_new (file_state old).len) (calls_on old) goes.0 begins))
+
+-- what holds of a file's disk is told of the second disk that it ends as
+module _ {S : Type 0} {start : Ghosts S} {T : Type 0} {other : Ghosts T} (disk : FileDiskFrom T other)
+    (second : SecondDisk S start) (bytes : other.bytes ≡ start.others)
+    (file : second.file ≡ disk.file) (failures : second.failures ≡ disk.failures)
+    (count : second.calls ≡ disk.calls) where
+  abbrev state_with : List ℕ → HeldFile → ℕ → CallCount → State
+  state_with bytes file failures count =
+      replayed_state (after_call bytes) no_content file.history.calls
+      (content_after bytes file.history.calls) (AreRight bytes file.history.calls no_content)
+      failures count.number
+
+  pub second_of : (P : List ℕ → List Call → State → Type 0)
+      → P other.bytes (calls_on disk) (file_state disk)
+      → P start.others (second_calls second) (second_state second)
+  second_of P p =
+      subst (λ (b : List ℕ). P b (second_calls second)
+      (state_with b second.file second.failures second.calls)) bytes
+      (subst (λ (c : CallCount). P other.bytes (second_calls second)
+      (state_with other.bytes second.file second.failures c)) (sym count)
+      (subst (λ (n : ℕ). P other.bytes (second_calls second)
+      (state_with other.bytes second.file n disk.calls)) (sym failures)
+      (subst (λ (f : HeldFile). P other.bytes f.history.calls
+      (state_with other.bytes f disk.failures disk.calls)) (sym file) p)))

@@ -22,31 +22,44 @@ abbrev pub state_after : List ℕ → List Call → State
 state_after bytes calls = replayed_state (after_call bytes) no_content calls
     (content_after bytes calls) (AreRight bytes calls no_content) 0 0
 
+-- Calls on a file that held these bytes as it was opened, and what its disk is after them. They begin
+-- with those of its making or opening, and then it was a new disk. Where one that was opened is as
+-- long as those bytes, it held them.
+pub record HasBegun (bytes : List ℕ) (is_new : Bool) (calls : List Call) (now : State) : Type 0
+  where
+    pub order : BeginWith (first_calls is_new now.len) calls
+    pub new : IsNew (state_after bytes (first_calls is_new now.len)).bytes
+        (state_after bytes (first_calls is_new now.len))
+    pub first_bytes : is_new ≡ false → now.len ≡ length bytes
+        → (state_after bytes (first_calls is_new now.len)).bytes ≡ bytes
+
+-- the file was opened, and this holds between what the disk was then and what it is
+pub record IsSinceOpened (bytes : List ℕ) (P : State → State → Type 0) (calls : List Call)
+    (now : State) : Type 0 where
+  pub begun : HasBegun bytes false calls now
+  pub since : P (state_after bytes (first_calls false now.len)) now
+
+-- it was made, so long, and this holds between what the disk was then and what it is
+pub record IsSinceMade (bytes : List ℕ) (len : ℕ) (P : State → State → Type 0) (calls : List Call)
+    (now : State) : Type 0 where
+  pub begun : HasBegun bytes true calls now
+  pub len_is : now.len ≡ len
+  pub since : P (state_after bytes (first_calls true now.len)) now
+
 -- a file that held these bytes as it was opened
 module _ {S : Type 0} {start : Ghosts S} where
   -- what its disk was as it was made, or opened
   abbrev pub first_state : Bool → FileDiskFrom S start → State
   first_state is_new disk = state_after start.bytes (first_calls is_new (file_state disk).len)
 
-  -- Its calls begin with those of its making or opening, and then it was a new disk. Where one that
-  -- was opened is as long as those bytes, it held them.
-  pub record HasFirstCalls (is_new : Bool) (disk : FileDiskFrom S start) : Type 0 where
-    pub order : BeginWith (first_calls is_new (file_state disk).len) (calls_on disk)
-    pub new : IsNew (first_state is_new disk).bytes (first_state is_new disk)
-    pub first_bytes : is_new ≡ false → (file_state disk).len ≡ length start.bytes
-        → (first_state is_new disk).bytes ≡ start.bytes
+  abbrev pub HasFirstCalls : Bool → FileDiskFrom S start → Type 0
+  HasFirstCalls is_new disk = HasBegun start.bytes is_new (calls_on disk) (file_state disk)
 
-  -- the file was opened, and this holds between what the disk was then and what it is
-  pub record SinceOpened (P : State → State → Type 0) (disk : FileDiskFrom S start) : Type 0 where
-    pub begun : HasFirstCalls false disk
-    pub since : P (first_state false disk) (file_state disk)
+  abbrev pub SinceOpened : (State → State → Type 0) → FileDiskFrom S start → Type 0
+  SinceOpened P disk = IsSinceOpened start.bytes P (calls_on disk) (file_state disk)
 
-  -- it was made, so long, and this holds between what the disk was then and what it is
-  pub record SinceMade (len : ℕ) (P : State → State → Type 0) (disk : FileDiskFrom S start) :
-      Type 0 where
-    pub begun : HasFirstCalls true disk
-    pub len_is : (file_state disk).len ≡ len
-    pub since : P (first_state true disk) (file_state disk)
+  abbrev pub SinceMade : ℕ → (State → State → Type 0) → FileDiskFrom S start → Type 0
+  SinceMade len P disk = IsSinceMade start.bytes len P (calls_on disk) (file_state disk)
 
   -- nothing was called on it but its making or opening
   pub record IsFirst (is_new : Bool) (disk : FileDiskFrom S start) : Type 0 where

@@ -1,5 +1,8 @@
 -- A file as a disk.
-use Rattle.std.specs.Prelude.{List, IsTrue, IsFalse}
+use Rattle.std.specs.declared.io.Error.{Error}
+use Rattle.std.specs.Prelude.{◌≡◌, ◌⊎◌, List, Option, IsTrue, IsFalse, IsSome, IsOk, IsErr, Result}
+use Rattle.disk_model.specs.Failures.{most_failures}
+use Rattle.disk_model.specs.declared.disk.DiskFault.{DiskFault}
 use Rattle.disk_model.specs.Disk.{State}
 use Rattle.disk_store.specs.Content.{Content, replayed_state}
 use Rattle.disk_store.specs.Calls.{Call, after_call, content_after, no_content, AreRight}
@@ -23,6 +26,10 @@ module _ {S : Type 0} {start : Ghosts S} where
       (file_content disk) (AreRight start.bytes (calls_on disk) no_content)
       disk.failures disk.calls.number
 
+  -- why the first call of the system that failed did so
+  abbrev pub fault_on : FileDiskFrom S start → Option Error
+  fault_on disk = disk.file.fault
+
   -- no sync of it has failed
   abbrev pub CanSync : FileDiskFrom S start → Type 0
   CanSync disk = IsTrue disk.can_sync
@@ -30,3 +37,13 @@ module _ {S : Type 0} {start : Ghosts S} where
   -- a sync of it has failed, and each later one fails
   abbrev pub HasFailedSync : FileDiskFrom S start → Type 0
   HasFailedSync disk = IsFalse disk.can_sync
+
+  -- Why the first call of the system that failed did so is kept. A call on a disk that fails calls
+  -- the system, unless a sync failed before, or the count of failures is the greatest.
+  pub record KeepsFault (old new : FileDiskFrom S start) {T : Type 0} (result : Result T DiskFault)
+      : Type 0 where
+    pub stays : IsSome (fault_on old) → fault_on new ≡ fault_on old
+    pub kept : IsErr result → IsSome (fault_on new)
+        ⊎ ((calls_on new ≡ calls_on old)
+        × (HasFailedSync old ⊎ (old.failures ≡ most_failures)))
+    pub none : IsOk result → fault_on new ≡ fault_on old

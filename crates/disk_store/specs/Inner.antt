@@ -1,4 +1,5 @@
 -- What only private contracts, and the proof that each disk keeps the model, need.
+pub mod FirstFault
 pub mod Log
 pub mod MemorySound
 pub mod Noting

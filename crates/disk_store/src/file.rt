@@ -7,6 +7,7 @@ mod begun;
 mod calls;
 mod fault;
 mod opening;
+mod second;
 mod start;
 mod system;
 
@@ -14,7 +15,7 @@ use crate::call_count::CallCount;
 pub use begun::{Beginning, BegunFile, WasMade, WasThere, make_file, open_file};
 pub use fault::OpenFault;
 pub use opening::Unopened;
-pub use start::{Start, Unknown};
+pub use start::{Second, Start, Unknown, with_second};
 use std::marker::PhantomData;
 use system::HeldFile;
 pub use system::SideFile;
@@ -42,3 +43,16 @@ pub struct FileDiskFrom<S: Start> {
 
 /// A file whose first bytes are not spoken of.
 pub type FileDisk = FileDiskFrom<Unknown>;
+
+/// A file's disk that takes no more calls.
+#[derive(Drop)]
+pub struct SecondDisk<S: Start> {
+    file: HeldFile,
+    failures: u64,
+    calls: CallCount,
+    len: u64,
+    can_sync: bool,
+    /// What the file held as it was opened. Only clauses read it.
+    start: PhantomData<S>,
+    ghost len_is: { length (content_after S.Start.others file.history.calls).bytes ≡ len },
+}

@@ -14,6 +14,7 @@ use crate::{Disk, DiskFault};
 
 impl<S: Start> Disk for FileDiskFrom<S> {
     ghost use Rattle.disk_store.specs.File.{file_state, calls_on, CanSync, HasFailedSync};
+    ghost use Rattle.disk_store.specs.File.{KeepsFault};
     ghost use Rattle.disk_store.specs.FileSound.{file_sound};
 
     ghost state = { file_state };
@@ -44,6 +45,7 @@ impl<S: Start> Disk for FileDiskFrom<S> {
             ((calls_on self.new ≡ calls_on self.old ++ FailedRead at ∷ [])
             ⊎ ((calls_on self.new ≡ calls_on self.old)
             × ((file_state self.old).failures ≡ most_failures))) }
+        ensures first { KeepsFault self.old self.new result }
         ensures syncs { self.new.can_sync ≡ self.old.can_sync }
         ensures all { LeavesAll (file_state self.new) }
     {
@@ -82,6 +84,7 @@ impl<S: Start> Disk for FileDiskFrom<S> {
             ((calls_on self.new ≡ calls_on self.old ++ FailedWrite at bytes.now ∷ [])
             ⊎ ((calls_on self.new ≡ calls_on self.old)
             × ((file_state self.old).failures ≡ most_failures))) }
+        ensures first { KeepsFault self.old self.new result }
         ensures syncs { self.new.can_sync ≡ self.old.can_sync }
         ensures all { LeavesAll (file_state self.new) }
     {
@@ -112,6 +115,8 @@ impl<S: Start> Disk for FileDiskFrom<S> {
             ((calls_on self.new ≡ calls_on self.old ++ FailedSync ∷ [])
             ⊎ ((calls_on self.new ≡ calls_on self.old) × (HasFailedSync self.old
             ⊎ ((file_state self.old).failures ≡ most_failures)))) }
+
+        ensures first { KeepsFault self.old self.new result }
 
         // Once a sync has failed, each later one fails: the system may have dropped what it should
         // have written, and report the next sync as a success.

@@ -3,7 +3,7 @@ ghost use Rattle.std.specs.Prelude.{◌≡◌};
 
 use crate::DiskFault;
 use std::fmt::{self, Display, Formatter, Write};
-use std::io;
+use std::io::{self, ErrorKind};
 
 /// Why a file was not opened or made as a disk.
 #[derive(Clone, Copy)]
@@ -24,11 +24,24 @@ pub enum OpenFault {
 impl Display for OpenFault {
     fn fmt<W: fmt::Write>(&self, f: &mut Formatter<W>) -> fmt::Result {
         match self {
-            OpenFault::System(error) | OpenFault::Beside(error) => write_reason(error, f),
+            OpenFault::System(error) => write_reason(error, f),
+            OpenFault::Beside(error) => write_reason_beside(error, f),
             OpenFault::InUse => f.pad("in use by another program"),
             OpenFault::NoDisk => f.pad("neither a regular file nor a block device"),
             OpenFault::SecondName => f.pad("the file has a second name (a hard link)"),
         }
+    }
+}
+
+/// What the opening of the file beside a disk answers has no number of the system if it is that
+/// opening's own answer.
+fn write_reason_beside<W: fmt::Write>(error: &io::Error, f: &mut Formatter<W>) -> fmt::Result {
+    match error.kind() {
+        ErrorKind::AlreadyExists if error.raw_os_error().is_none() => f.pad("a file is there"),
+        ErrorKind::Unsupported if error.raw_os_error().is_none() => {
+            f.pad("not a regular file of one name")
+        }
+        _ => write_reason(error, f),
     }
 }
 

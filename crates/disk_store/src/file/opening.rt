@@ -1,10 +1,11 @@
 //! How a file is opened as a disk, and how a new one is made.
-ghost use Rattle.std.specs.Prelude.{◌≡◌, [], ◌∷◌, ◌++◌, length, replicate, IfOk, OnOk};
+ghost use Rattle.std.specs.Prelude.{◌≡◌, [], ◌∷◌, ◌++◌, length, option_map, replicate, IfOk, OnOk};
 ghost use Rattle.disk_store.specs.Calls.{content_after, opening_calls, making_calls};
 ghost use Rattle.disk_store.specs.Calls.{Locked, Opened, Made, Synced, Dropped, Named};
 ghost use Rattle.disk_store.specs.Inner.Noting.{HasOnlyOpened};
 ghost use Rattle.disk_model.specs.Disk.{IsNew, LeavesAll};
-ghost use Rattle.disk_store.specs.File.{file_state, calls_on, CanSync};
+ghost use Rattle.disk_store.specs.File.{file_state, calls_on, fault_on, CanSync};
+ghost use Rattle.disk_store.specs.declared.file.fault.OpenFault.TheVariants.{System};
 
 use super::system::{HeldFile, SideFile};
 use super::{FileDisk, FileDiskFrom, OpenFault, Start, Unknown};
@@ -179,6 +180,13 @@ impl<S: Start> FileDiskFrom<S> {
         Ok(FileDiskFrom::begin(made, len))
     }
 
+    /// Why the first read, write or sync of the file that failed did so, in the system's words.
+    pub fn fault(&self) -> Option<OpenFault>
+        ensures { result ≡ option_map System (fault_on self.now) }
+    {
+        self.file.fault().map(OpenFault::System)
+    }
+
     /// The disk before its first call.
     fn begin(file: HeldFile, len: u64) -> FileDiskFrom<S>
         requires { HasOnlyOpened S.Start.bytes len file.history.calls }
@@ -214,7 +222,7 @@ fn synced_length(file: &mut HeldFile, rt: &HostRuntime, path: &str) -> Result<u6
 {
     file.sync_all()?;
     if let Err(error) = file.drop_cached(rt, path) {
-        return Err(OpenFault::Beside(error));
+        return Err(fault_of_dropping(rt, path, error));
     }
     Ok(file.take_length()?)
 }
@@ -227,8 +235,20 @@ fn make_zeros(made: &mut HeldFile, rt: &HostRuntime, path: &str, len: u64) -> Re
     made.fill(len)?;
     made.sync_all()?;
     if let Err(error) = made.drop_cached(rt, path) {
-        return Err(OpenFault::Beside(error));
+        return Err(fault_of_dropping(rt, path, error));
     }
     made.sync_folder(rt, path)?;
     Ok(())
+}
+
+/// Which file this error is about: the empty one beside the disk or, if the error is that of a
+/// device and the empty file is there, the disk itself.
+fn fault_of_dropping(rt: &HostRuntime, path: &str, error: io::Error) -> OpenFault {
+    match error.kind() {
+        ErrorKind::StorageFull | ErrorKind::QuotaExceeded | ErrorKind::ReadOnlyFilesystem
+            if SideFile::of_target(rt, path).is_ok_and(|beside| beside.is_there()) => {
+            OpenFault::System(error)
+        }
+        _ => OpenFault::Beside(error),
+    }
 }

@@ -4,6 +4,7 @@
 ghost use Rattle.std.specs.Prelude.{◌≡◌, [], ◌∷◌, ◌++◌, IfOk, OnOk, OnErr};
 ghost use Rattle.disk_store.specs.Calls.{Locked, Opened, Made, Gave, FailedRead, Wrote};
 ghost use Rattle.disk_store.specs.Calls.{FailedWrite, Synced, FailedSync, Dropped, Named};
+ghost use Rattle.disk_store.specs.Inner.FirstFault.{KeepsFirst};
 
 use super::OpenFault;
 use crate::history::History;
@@ -23,6 +24,8 @@ const PIECE: u64 = 16_384;
 pub struct HeldFile {
     file: File,
     history: History,
+    /// Why the first read, write or sync that failed did so.
+    fault: Option<io::Error>,
 }
 
 impl HeldFile {
@@ -32,7 +35,11 @@ impl HeldFile {
     {
         let mut history = History::new();
         match history.locked(file.try_lock()) {
-            Ok(()) => Ok(HeldFile { file, history }),
+            Ok(()) => Ok(HeldFile {
+                file,
+                history,
+                fault: None,
+            }),
             Err(TryLockError::WouldBlock) => Err(OpenFault::InUse),
             Err(TryLockError::Error(error)) => Err(OpenFault::System(error)),
         }
@@ -111,8 +118,10 @@ impl HeldFile {
             (self.new.history.calls ≡ self.old.history.calls ++ Gave at out.new ∷ []) }
         ensures err { OnErr result
             (self.new.history.calls ≡ self.old.history.calls ++ FailedRead at ∷ []) }
+        ensures first { KeepsFirst self.old.fault self.new.fault result }
     {
         let answer = self.file.read_exact_at(out, at);
+        self.keep_first(&answer);
         self.history.gave(at, out, answer)
     }
 
@@ -122,9 +131,11 @@ impl HeldFile {
             (self.new.history.calls ≡ self.old.history.calls ++ Wrote at bytes.now ∷ []) }
         ensures err { OnErr result
             (self.new.history.calls ≡ self.old.history.calls ++ FailedWrite at bytes.now ∷ []) }
+        ensures first { KeepsFirst self.old.fault self.new.fault result }
     {
-        self.history
-            .wrote(at, bytes, self.file.write_all_at(bytes, at))
+        let answer = self.file.write_all_at(bytes, at);
+        self.keep_first(&answer);
+        self.history.wrote(at, bytes, answer)
     }
 
     /// Makes last what was written.
@@ -133,8 +144,30 @@ impl HeldFile {
             (self.new.history.calls ≡ self.old.history.calls ++ Synced ∷ []) }
         ensures err { OnErr result
             (self.new.history.calls ≡ self.old.history.calls ++ FailedSync ∷ []) }
+        ensures first { KeepsFirst self.old.fault self.new.fault result }
     {
-        self.history.synced(self.file.sync_data())
+        let answer = self.file.sync_data();
+        self.keep_first(&answer);
+        self.history.synced(answer)
+    }
+
+    /// Why the first of the calls that failed did so.
+    pub fn fault(&self) -> Option<io::Error>
+        ensures { result ≡ self.now.fault }
+    {
+        self.fault
+    }
+
+    /// Keeps why a call failed, if none did before.
+    fn keep_first(&mut self, answer: &io::Result<()>)
+        ensures first { KeepsFirst self.old.fault self.new.fault answer.now }
+        ensures history { self.new.history ≡ self.old.history }
+    {
+        if let Err(error) = answer
+            && self.fault.is_none()
+        {
+            self.fault = Some(*error);
+        }
     }
 }
 
@@ -192,6 +225,11 @@ impl SideFile {
     pub fn of_target(rt: &HostRuntime, path: &str) -> io::Result<SideFile> {
         let real = fs::canonicalize(rt, path)?;
         SideFile::of(rt, real.as_str())
+    }
+
+    /// Whether anything stands there.
+    pub fn is_there(&self) -> bool {
+        self.was_there
     }
 
     /// Removes the file of this path that was made and is of no use, and the empty one that was

@@ -1,0 +1,38 @@
+-- The second of two files, as a task leaves it.
+use Rattle.std.specs.declared.io.Error.{Error}
+use Rattle.std.specs.Prelude.{ℕ, Bool, List, Option}
+use Rattle.disk_model.specs.Disk.{State}
+use Rattle.disk_store.specs.Beginning.{HasBegun, IsSinceMade, IsSinceOpened}
+use Rattle.disk_store.specs.Calls.{AreRight, Call, after_call, content_after, no_content}
+use Rattle.disk_store.specs.Content.{replayed_state}
+use Rattle.disk_store.specs.declared.file.SecondDisk.{SecondDisk}
+use Rattle.disk_store.specs.declared.file.start.Start.{Ghosts}
+
+-- it held these other bytes as it was opened, if it was not made
+module _ {S : Type 0} {start : Ghosts S} where
+  -- the calls so far, with their answers
+  abbrev pub second_calls : SecondDisk S start → List Call
+  second_calls disk = disk.file.history.calls
+
+  -- all that contracts know of it as a disk
+  abbrev pub second_state : SecondDisk S start → State
+  second_state disk = replayed_state (after_call start.others) no_content (second_calls disk)
+      (content_after start.others (second_calls disk))
+      (AreRight start.others (second_calls disk) no_content) disk.failures disk.calls.number
+
+  -- why the first call of the system that failed did so
+  abbrev pub second_fault : SecondDisk S start → Option Error
+  second_fault disk = disk.file.fault
+
+  -- it was made, or opened
+  abbrev pub HasSecondCalls : Bool → SecondDisk S start → Type 0
+  HasSecondCalls is_new disk = HasBegun start.others is_new (second_calls disk) (second_state disk)
+
+  -- and this holds between what the disk was then and what it is
+  abbrev pub SinceSecondOpened : (State → State → Type 0) → SecondDisk S start → Type 0
+  SinceSecondOpened P disk =
+      IsSinceOpened start.others P (second_calls disk) (second_state disk)
+
+  abbrev pub SinceSecondMade : ℕ → (State → State → Type 0) → SecondDisk S start → Type 0
+  SinceSecondMade len P disk =
+      IsSinceMade start.others len P (second_calls disk) (second_state disk)
