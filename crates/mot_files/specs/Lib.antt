@@ -1,5 +1,6 @@
 pub mod Call
 pub mod Inner
+pub mod Lasting
 pub mod Listing
 pub mod Placing
 pub mod Reading

@@ -4,8 +4,9 @@ use Rattle.std.proofs.Common.{append_assoc}
 use Rattle.std.proofs.Common.{append-nil, map, refl, subst, sym, take, arith}
 use Rattle.std.proofs.Common.{Some, Option, Bool, true, false, not, ◌||◌, cond, inl, inr}
 use Rattle.std.specs.List.{list_any}
-use Rattle.std.specs.Prelude.{◌&&◌, ◌⊎◌, ◌↔◌, slice_get, filter, nat_lt}
+use Rattle.std.specs.Prelude.{◌≢◌, ◌&&◌, ◌⊎◌, ◌↔◌, bytes_eq, slice_get, filter, nat_lt}
 use Rattle.std.proofs.lemmas.Bool.{or_parts}
+use Rattle.std.proofs.lemmas.Slice.Eq.{bytes_eq-Decides}
 use Rattle.std.proofs.lemmas.List.Folds.{list_any-append}
 use Rattle.std.proofs.lemmas.List.{length-map, map-append}
 use Rattle.std.proofs.lemmas.List.Elements.{filter-append}
@@ -15,9 +16,9 @@ use Rattle.mot_events.specs.declared.event.LookEvent.{LookEvent}
 use Rattle.mot_events.specs.declared.event.Met.{Met}
 use Rattle.mot_events.specs.declared.event.Why.{Why}
 use Rattle.mot_folder.specs.Inner.Names.{name_or_none}
-use Rattle.mot_folder.specs.Inner.Reading.{Misses, Takes, TellsFile, TellsLook, as_wanted}
-use Rattle.mot_folder.specs.Inner.Reading.{heading}
-use Rattle.mot_folder.specs.Inner.Reading.Misses.{was_refused, was_unread}
+use Rattle.mot_folder.specs.Inner.Reading.{Misses, Takes, TellsFile, TellsLook, TellsOffered}
+use Rattle.mot_folder.specs.Inner.Reading.{as_wanted, heading}
+use Rattle.mot_folder.specs.Inner.Reading.Misses.{was_refused, was_unkept, was_unread}
 use Rattle.mot_folder.specs.Inner.Listing.{TellsNameless}
 use Rattle.mot_folder.specs.Inner.Reasons.{TellsNoMore, TellsUnless, and_waiting}
 use Rattle.mot_folder.proofs.Waiting.{told_more, told_same, waiting_more}
@@ -25,21 +26,26 @@ use Rattle.mot_folder.specs.Listed.{IsListing, nameless}
 use Rattle.mot_folder.specs.Looked.{EachIsTold}
 use Rattle.mot_folder.proofs.Log.{file_beside, file_named, look-more, note_beside}
 use Rattle.mot_folder.proofs.Log.{note_unnamed, note_unread}
+use Rattle.mot_folder.specs.Log.{AreKept, IsKept}
 use Rattle.mot_folder.specs.Log.{TellsOf, TellsOne, event_of_answer, is_note, is_read, is_waiting, met_for}
 use Rattle.mot_folder.specs.Log.{names_read, not_accepted, of_look, told_of}
 use Rattle.mot_folder.specs.Taken.{AreTaken}
 use Rattle.mot_numbers.specs.declared.refusal.Refusal.{Refusal}
-use Rattle.mot_folder.specs.Taken.AreTaken.{no_file, one_refused, one_unread, one_wanted}
+use Rattle.mot_folder.specs.Taken.AreTaken.{no_file, one_refused, one_unkept, one_unread}
+use Rattle.mot_folder.specs.Taken.AreTaken.{one_wanted}
 use Rattle.mot_folder.specs.declared.report.Report.{Report}
 use Rattle.mot_objects.specs.Content.{ContentNumbers}
 use Rattle.mot_playout.specs.declared.running.Attempt.TheVariants.{Accepted, Refused as WasRefused}
-use Rattle.mot_shelf.specs.Given.{Given, and_missed, and_read}
+use Rattle.mot_shelf.specs.Given.{Given, and_kept, and_missed, and_read}
 use Rattle.mot_suffixes.specs.Types.{SuffixType}
 use Rattle.mot_objects.specs.declared.command.Command.{Command}
 use Rattle.mot_update.specs.Laws.{names_of}
 use Rattle.mot_update.specs.Looking.{AreAccepted}
 use Rattle.mot_update.specs.Told.{Answer, AreAnswers, Put, Replaced, TellsBoth, Withdrew}
-use Rattle.mot_update.specs.Told.{came_of, was_accepted}
+use Rattle.mot_update.specs.Told.{answers_of, came_of, was_accepted}
+use Rattle.mot_update.specs.Updating.{is_known}
+use Rattle.mot_update.specs.declared.settling.Settled.{Settled}
+use Rattle.mot_update.specs.declared.settling.Settled.TheVariants as settles
 use Rattle.mot_update.specs.declared.wanted.Wanted.{Wanted}
 
 -- those that were read, of more entries
@@ -224,6 +230,58 @@ pub behind : (P Q R : List Answer → List Wanted → Type 0) (more : List Wante
 behind P Q R more first last = λ given answers was.
     last given answers (plain Q answers given (first given answers was))
 
+-- an answer more, whose file was made to last
+kept_more : (kept : List (List ℕ)) (answers : List Answer) (answer : Answer)
+    → AreKept kept answers → IsKept kept answer → AreKept kept (answers ++ answer ∷ [])
+kept_more kept [] answer are is = (is, tt)
+kept_more kept (first ∷ answers) answer are is = (are.0, kept_more kept answers answer are.1 is)
+
+-- and one file more that was
+known_on : (kept : List (List ℕ)) (more name : List ℕ) → is_known kept name ≡ true
+    → is_known (kept ++ more ∷ []) name ≡ true
+known_on kept more name is =
+    list_any-append (bytes_eq name) kept (more ∷ [])
+    ∙ ap (λ (b : Bool). b || list_any (bytes_eq name) (more ∷ [])) is
+
+kept_on : (kept : List (List ℕ)) (more : List ℕ) (answers : List Answer) → AreKept kept answers
+    → AreKept (kept ++ more ∷ []) answers
+kept_on kept more [] are = tt
+kept_on kept more (Withdrew name came ∷ answers) are = (tt, kept_on kept more answers are.1)
+kept_on kept more (Put name came ∷ answers) are =
+    (known_on kept more name are.0, kept_on kept more answers are.1)
+kept_on kept more (Replaced name came ∷ answers) are =
+    (known_on kept more name are.0, kept_on kept more answers are.1)
+
+-- the last of them is one of them
+or_true : (b : Bool) → (b || (true || false)) ≡ true
+or_true true = refl
+or_true false = refl
+
+pub known_last : (kept : List (List ℕ)) (name : List ℕ) → is_known (kept ++ name ∷ []) name ≡ true
+known_last kept name =
+    list_any-append (bytes_eq name) kept (name ∷ [])
+    ∙ ap (λ (b : Bool). list_any (bytes_eq name) kept || (b || false))
+    ((bytes_eq-Decides name name).1 refl)
+    ∙ or_true (list_any (bytes_eq name) kept)
+
+-- what was done for an object whose file was made to last
+pub answers_kept : (kept : List (List ℕ)) (name : List ℕ) (settled : Settled)
+    → (settled ≢ settles.Right → is_known kept name ≡ true) → AreKept kept (answers_of name settled)
+answers_kept kept name settles.Right is = tt
+answers_kept kept name (settles.Put came) is = (is (λ e. cc (e)), tt)
+answers_kept kept name (settles.Replaced came) is = (is (λ e. cc (e)), tt)
+
+-- nothing more was told or given
+both_same : (P : List Answer → List Wanted → Type 0) → TellsBoth P P [] []
+both_same P = λ given answers was.
+    subst (λ (l : List Wanted). P (answers ++ []) l) (sym (append-nil given))
+    (subst (λ (l : List Answer). P l given) (sym (append-nil answers)) was)
+
+-- what is wanted of a file has its name
+named_of : {types : List SuffixType} {g h : Given} (name : List ℕ) (w : Wanted)
+    → Takes types name g h w → name ≡ w.name
+named_of name w is = sym (ap (λ (v : Wanted). v.name) is.made)
+
 why_so : {P E F : Type 0} → (E → F) → P ⊎ E → P ⊎ F
 why_so on (inl untakable) = inl untakable
 why_so on (inr none) = inr (on none)
@@ -241,11 +299,14 @@ module _ (types : List SuffixType) where
       one_refused names missed told read others name bytes (why_so on why) (taken_so on was)
   taken_so on (one_unread names missed told read others name was) =
       one_unread names missed told read others name (taken_so on was)
+  taken_so on (one_unkept names missed told read others name bytes was) =
+      one_unkept names missed told read others name bytes (taken_so on was)
 
   misses_so : {E F : Type 0} → (E → F) → {name : List ℕ} {old new : Given}
       → Misses types name old new E → Misses types name old new F
   misses_so on (was_unread is) = was_unread is
   misses_so on (was_refused bytes is why) = was_refused bytes is (why_so on why)
+  misses_so on (was_unkept bytes is) = was_unkept bytes is
 
   -- nothing happens
   pub of_same : (g : Given) (report : Report) (waiting : ℕ) (names : List (List ℕ))
@@ -262,10 +323,11 @@ module _ (types : List SuffixType) where
       → of_look (last ∷ []) ≡ event_of_answer answer ∷ []
       → new.any_refused ≡ (old.any_refused || not_accepted answer)
       → (old.any_without_memory ≡ true → new.any_without_memory ≡ true)
-      → (is_waiting answer && nat_lt 0 waiting) ≡ false → TellsOne old new last
+      → (is_waiting answer && nat_lt 0 waiting) ≡ false → IsKept g.kept answer
+      → TellsOne old new last
       → TellsBoth (TellsOf types g old waiting names)
       (TellsOf types g new (and_waiting waiting (is_waiting answer)) names) (answer ∷ []) []
-  told_one g old new waiting names answer last none_read unread is any stays told one =
+  told_one g old new waiting names answer last none_read unread is any stays told is_kept one =
       let after = and_waiting waiting (is_waiting answer) in
       λ given answers was.
       subst (λ (l : List Wanted). TellsOf types g new after names (answers ++ answer ∷ []) l)
@@ -278,6 +340,7 @@ module _ (types : List SuffixType) where
             ∙ sym (map-append event_of_answer (told_of answers) (answer ∷ []))
             ∙ ap (map event_of_answer) (sym (told_more answers answer waiting was.waits told));
         waits = waiting_more answers answer waiting was.waits;
+        lasting = kept_more g.kept answers answer was.lasting is_kept;
         any = any_answered answers was.entries last old.any_refused new.any_refused answer unread
             any was.any;
         missed = was.missed;
@@ -291,10 +354,11 @@ module _ (types : List SuffixType) where
   counted_one : (g : Given) (old new : Report) (waiting : ℕ) (names : List (List ℕ))
       (answer : Answer) → new.any_refused ≡ (old.any_refused || not_accepted answer)
       → (old.any_without_memory ≡ true → new.any_without_memory ≡ true)
-      → (is_waiting answer && nat_lt 0 waiting) ≡ true → TellsNoMore old new
+      → (is_waiting answer && nat_lt 0 waiting) ≡ true → IsKept g.kept answer
+      → TellsNoMore old new
       → TellsBoth (TellsOf types g old waiting names)
       (TellsOf types g new (and_waiting waiting (is_waiting answer)) names) (answer ∷ []) []
-  counted_one g old new waiting names answer any stays counted one =
+  counted_one g old new waiting names answer any stays counted is_kept one =
       let after = and_waiting waiting (is_waiting answer) in
       λ given answers was.
       subst (λ (l : List Wanted). TellsOf types g new after names (answers ++ answer ∷ []) l)
@@ -304,6 +368,7 @@ module _ (types : List SuffixType) where
         are = was.are
             ∙ ap (map event_of_answer) (sym (told_same answers answer waiting was.waits counted));
         waits = waiting_more answers answer waiting was.waits;
+        lasting = kept_more g.kept answers answer was.lasting is_kept;
         any = any_counted answers was.entries old.any_refused new.any_refused answer any was.any;
         missed = was.missed;
         read = was.read;
@@ -315,25 +380,28 @@ module _ (types : List SuffixType) where
       → is_read last ≡ false → of_look (last ∷ []) ≡ event_of_answer answer ∷ []
       → new.any_refused ≡ (old.any_refused || not_accepted answer)
       → (old.any_without_memory ≡ true → new.any_without_memory ≡ true)
-      → (is_waiting answer && nat_lt 0 waiting) ≡ b → TellsUnless b old new last
+      → (is_waiting answer && nat_lt 0 waiting) ≡ b → IsKept g.kept answer
+      → TellsUnless b old new last
       → TellsBoth (TellsOf types g old waiting names)
       (TellsOf types g new (and_waiting waiting (is_waiting answer)) names) (answer ∷ []) []
-  told_or_counted g old new waiting names answer last true none_read unread is any stays e one =
-      counted_one g old new waiting names answer any stays e one
-  told_or_counted g old new waiting names answer last false none_read unread is any stays e one =
-      told_one g old new waiting names answer last none_read unread is any stays e one
+  told_or_counted g old new waiting names answer last true none_read unread is any stays e is_kept
+      one =
+      counted_one g old new waiting names answer any stays e is_kept one
+  told_or_counted g old new waiting names answer last false none_read unread is any stays e is_kept
+      one =
+      told_one g old new waiting names answer last none_read unread is any stays e is_kept one
 
   -- whatever the reason of a refusal
   pub of_answer : (g : Given) (old new : Report) (waiting : ℕ) (names : List (List ℕ))
       (answer : Answer) (why : Why) → new.any_refused ≡ (old.any_refused || not_accepted answer)
-      → (old.any_without_memory ≡ true → new.any_without_memory ≡ true)
+      → (old.any_without_memory ≡ true → new.any_without_memory ≡ true) → IsKept g.kept answer
       → TellsUnless (is_waiting answer && nat_lt 0 waiting) old new (event_for answer why)
       → TellsBoth (TellsOf types g old waiting names)
       (TellsOf types g new (and_waiting waiting (is_waiting answer)) names) (answer ∷ []) []
-  of_answer g old new waiting names answer why any stays one =
+  of_answer g old new waiting names answer why any stays is_kept one =
       let is = answer_told answer why in
       told_or_counted g old new waiting names answer (event_for answer why) _ is.0 is.1 is.2 any
-      stays refl one
+      stays refl is_kept one
 
   -- a file of this name is gone over that is not taken
   more_missed : {E : Type 0} (old new : Given) (names missed : List (List ℕ)) (given : List Wanted)
@@ -348,12 +416,24 @@ module _ (types : List SuffixType) where
       subst (λ (n : Given).
       AreTaken types E (names ++ name ∷ []) n.read n.missed given (missed ++ name ∷ []))
       (sym is) (one_refused names old.missed missed old.read given name bytes why was)
+  more_missed {E} old new names missed given name (was_unkept bytes is) was =
+      subst (λ (n : Given).
+      AreTaken types E (names ++ name ∷ []) n.read n.missed given (missed ++ name ∷ []))
+      (sym is) (one_unkept names old.missed missed old.read given name bytes was)
 
   -- and the folder has the files that it had
   files_missed : {E : Type 0} (old new : Given) (name : List ℕ) → Misses types name old new E
       → new.files ≡ old.files
   files_missed old new name (was_unread is) = ap (λ (n : Given). n.files) is
   files_missed old new name (was_refused bytes is why) = ap (λ (n : Given). n.files) is
+  files_missed old new name (was_unkept bytes is) = ap (λ (n : Given). n.files) is
+
+  -- and the same files were made to last
+  kept_missed : {E : Type 0} (old new : Given) (name : List ℕ) → Misses types name old new E
+      → new.kept ≡ old.kept
+  kept_missed old new name (was_unread is) = ap (λ (n : Given). n.kept) is
+  kept_missed old new name (was_refused bytes is why) = ap (λ (n : Given). n.kept) is
+  kept_missed old new name (was_unkept bytes is) = ap (λ (n : Given). n.kept) is
 
   -- one that is
   more_taken : {E : Type 0} (old new : Given) (names missed : List (List ℕ)) (given : List Wanted)
@@ -386,6 +466,7 @@ module _ (types : List SuffixType) where
             ∙ ap (λ l. of_look was.entries ++ l) (file_beside name one.0 one.1)
             ∙ append-nil (of_look was.entries) ∙ was.are;
         waits = was.waits;
+        lasting = subst (λ l. AreKept l answers) (sym (kept_missed g h name is)) was.lasting;
         any = any_read answers was.entries last old.any_refused new.any_refused one.1 any;
         missed = was.missed ++ name ∷ [];
         read = read-more was.entries (last ∷ [])
@@ -409,6 +490,7 @@ module _ (types : List SuffixType) where
         told = was.told;
         are = was.are;
         waits = was.waits;
+        lasting = subst (λ (n : Given). AreKept n.kept answers) (sym is.read) was.lasting;
         any = was.any;
         missed = was.missed;
         read = was.read ∙ ap (λ (n : Given). nameless n.files ++ was.missed) (sym is.read);
@@ -433,6 +515,7 @@ module _ (types : List SuffixType) where
             ∙ ap (λ l. of_look was.entries ++ l) (note_beside name met is)
             ∙ append-nil (of_look was.entries) ∙ was.are;
         waits = was.waits;
+        lasting = was.lasting;
         any = any_noted answers was.entries last old.any_refused new.any_refused
             (note_unread name met is) same was.any;
         missed = was.missed;
@@ -452,6 +535,7 @@ module _ (types : List SuffixType) where
         told = told.told;
         are = told.are;
         waits = refl;
+        lasting = tt;
         any = told.any;
         missed = [];
         read = told.read ∙ sym (append-nil (nameless g.files));
@@ -473,6 +557,8 @@ module _ (types : List SuffixType) where
   taken_all (one_refused names missed told read others name bytes why was) none =
       absurd (last_none told name none)
   taken_all (one_unread names missed told read others name was) none =
+      absurd (last_none told name none)
+  taken_all (one_unkept names missed told read others name bytes was) none =
       absurd (last_none told name none)
 
   -- so an object was given of each
@@ -545,6 +631,9 @@ module _ (types : List SuffixType) (path : List ℕ) (names : List (List ℕ)) w
       subst (λ (n : Given). IsListing types path n names) (sym is) (still_missed g name was)
   listing_misses g h name (was_refused bytes is why) was =
       subst (λ (n : Given). IsListing types path n names) (sym is) (still_read g name bytes was)
+  listing_misses g h name (was_unkept bytes is) was =
+      subst (λ (n : Given). IsListing types path n names) (sym is)
+      (still_missed (and_read g name bytes) name (still_read g name bytes was))
 
   -- and an object of the next name is given
   pub then_given : (P : List Answer → List Wanted → Type 0) (g h : Given) (place : ℕ)
@@ -579,6 +668,90 @@ module _ (types : List SuffixType) (path : List ℕ) (names : List (List ℕ)) w
       (sym (take-named names place name lt at))
       (of_missed types g h old new waiting (take place names) name (misses_so types memory is) any stays
       one)))
+
+  -- an object is offered: its file was read
+  pub then_offered : (P : List Answer → List Wanted → Type 0) (g h : Given) (place : ℕ)
+      (report : Report) (waiting : ℕ) (name : List ℕ) (w : Wanted)
+      → TellsBoth P (TellsLook types path g names place report waiting) [] []
+      → place < length names → slice_get names place ≡ Some name → Takes types name g h w
+      → TellsBoth P (TellsOffered types path h names (place + 1) report waiting w) [] []
+  then_offered P g h place report waiting name w told lt at is = λ given answers was. record {
+    before = g;
+    index = place;
+    next = refl;
+    within = lt;
+    named = at ∙ ap Some (named_of name w is);
+    takes = subst (λ n. Takes types n g h w) (named_of name w is) is;
+    was = told given answers was;
+  }
+
+  -- nothing is read for a file that is made to last
+  look_kept : (h : Given) (place : ℕ) (report : Report) (waiting : ℕ) (name : List ℕ)
+      (told : List Answer) (gave : List Wanted)
+      → TellsLook types path h names place report waiting told gave
+      → TellsLook types path (and_kept h name) names place report waiting told gave
+  look_kept h place report waiting name told gave is = record {
+    answers = is.answers;
+    wanted = is.wanted;
+    headed = is.headed;
+    typed = is.typed;
+    listing = record {
+      pieces = is.listing.pieces;
+      whole = is.listing.whole;
+      asked = is.listing.asked;
+      are = is.listing.are;
+    };
+    tells = record {
+      entries = is.tells.entries;
+      told = is.tells.told;
+      are = is.tells.are;
+      waits = is.tells.waits;
+      lasting = kept_on h.kept name is.answers is.tells.lasting;
+      any = is.tells.any;
+      missed = is.tells.missed;
+      read = is.tells.read;
+      taken = is.tells.taken;
+    };
+  }
+
+  -- and then it is given
+  pub then_taken : (h : Given) (place : ℕ) (report : Report) (waiting : ℕ) (w : Wanted)
+      → TellsBoth (TellsOffered types path h names place report waiting w)
+      (TellsLook types path h names place report waiting) [] (w ∷ [])
+  then_taken h place report waiting w = λ given answers was.
+      let before = TellsLook types path was.before names was.index report waiting in
+      subst (λ n. TellsLook types path h names n report waiting (answers ++ []) (given ++ w ∷ []))
+      (sym was.next)
+      (then_given before was.before h was.index report waiting w.name w
+      (both_same before) was.within was.named was.takes given answers was.was)
+
+  -- also if it was made to last before
+  pub then_kept : (h k : Given) (place : ℕ) (report : Report) (waiting : ℕ) (w : Wanted)
+      (name : List ℕ) → k ≡ and_kept h name
+      → TellsBoth (TellsOffered types path h names place report waiting w)
+      (TellsLook types path k names place report waiting) [] (w ∷ [])
+  then_kept h k place report waiting w name is = λ given answers was.
+      subst (λ (n : Given). TellsLook types path n names place report waiting (answers ++ [])
+      (given ++ w ∷ [])) (sym is)
+      (look_kept h place report waiting name (answers ++ []) (given ++ w ∷ [])
+      (then_taken h place report waiting w given answers was))
+
+  -- or its file is told as one that could not be taken
+  pub then_left : (h k : Given) (place : ℕ) (old new : Report) (waiting : ℕ) (w : Wanted)
+      → k ≡ and_missed h w.name → new.any_refused ≡ true
+      → (old.any_without_memory ≡ true → new.any_without_memory ≡ true)
+      → TellsFile old new w.name
+      → TellsBoth (TellsOffered types path h names place old waiting w)
+      (TellsLook types path k names place new waiting) [] []
+  then_left h k place old new waiting w is any stays one = λ given answers was.
+      let before = TellsLook types path was.before names was.index old waiting in
+      subst (λ n. TellsLook types path k names n new waiting (answers ++ []) (given ++ []))
+      (sym was.next)
+      (then_missed {E = ⊥} before was.before k was.index old new waiting w.name (both_same before)
+      was.within was.named
+      (was_unkept was.takes.bytes
+      (is ∙ ap (λ (n : Given). and_missed n w.name) was.takes.read))
+      (λ no. absurd no) any stays one given answers was.was)
 
 -- ---- what a look is of
 

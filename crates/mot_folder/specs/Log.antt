@@ -1,7 +1,7 @@
 -- What is told of a look at a folder: an event for each command, and each file that was not taken.
 use Rattle.std.specs.Prelude.{◌≡◌, ◌&&◌, ◌||◌, ℕ, Bool, true, false, not, List, [], ◌∷◌, ◌++◌, map}
 use Rattle.std.specs.Prelude.{filter, if◌then◌else◌, length, min}
-use Rattle.std.specs.List.{list_any}
+use Rattle.std.specs.List.{AllByRecursion, list_any}
 use Rattle.mot_events.specs.Text.{event_of}
 use Rattle.mot_events.specs.declared.event.Deed.{Deed}
 use Rattle.mot_events.specs.declared.event.Deed.TheVariants as deed
@@ -20,6 +20,7 @@ use Rattle.mot_playout.specs.declared.running.Attempt.TheVariants.{Accepted, Ref
 use Rattle.mot_shelf.specs.Given.{Given}
 use Rattle.mot_suffixes.specs.Types.{SuffixType}
 use Rattle.mot_update.specs.Told.{Answer, Put, Replaced, Withdrew, came_of, was_accepted}
+use Rattle.mot_update.specs.Updating.{is_known}
 use Rattle.mot_update.specs.declared.wanted.Wanted.{Wanted}
 
 -- what came of a command, with the reason of a refusal
@@ -132,6 +133,15 @@ waiting_in answers = min (length (filter is_waiting answers)) 4294967295
 abbrev pub not_accepted : Answer → Bool
 not_accepted answer = not (was_accepted (came_of answer))
 
+-- an object was put or replaced only if its file was made to last
+abbrev pub IsKept : (kept : List (List ℕ)) → Answer → Type 0
+IsKept kept (Withdrew name came) = Unit {0}
+IsKept kept (Put name came) = is_known kept name ≡ true
+IsKept kept (Replaced name came) = is_known kept name ≡ true
+
+abbrev pub AreKept : (kept : List (List ℕ)) → List Answer → Type 0
+AreKept kept answers = AllByRecursion (IsKept kept) answers
+
 -- It tells these answers, and beside them only files that were not taken, and notes; and so many
 -- objects wait, of which only the first is told. Of these names each is that of an object that was given, with the bytes that the folder gave, or of one of these
 -- files; before that the files are told that have no name of an object.
@@ -141,6 +151,7 @@ pub record TellsOf (types : List SuffixType) (given : Given) (report : Report) (
   pub told : ReportTells report entries
   pub are : of_look entries ≡ map event_of_answer (told_of answers)
   pub waits : waiting ≡ waiting_in answers
+  pub lasting : AreKept given.kept answers
   -- something was refused exactly if a command was, or a file is told
   pub any : report.any_refused ≡ (list_any not_accepted answers || list_any is_read entries)
   pub missed : List (List ℕ)

@@ -9,8 +9,8 @@ use Rattle.mot_events.specs.declared.event.LookEvent.{LookEvent}
 use Rattle.mot_events.specs.declared.event.Met.TheVariants.{Kept}
 use Rattle.mot_events.specs.declared.event.Why.TheVariants.{Unsaid}
 use Rattle.mot_folder.specs.Listed.{IsListing, nameless, names_in, with_type}
-use Rattle.mot_folder.specs.Log.{ReportTells, event_of_answer, names_read, of_look, told_of}
-use Rattle.mot_folder.specs.Log.{unlisted_for}
+use Rattle.mot_folder.specs.Log.{AreKept, ReportTells, event_of_answer, names_read, of_look}
+use Rattle.mot_folder.specs.Log.{told_of, unlisted_for}
 use Rattle.mot_folder.specs.Taken.{AreTaken}
 use Rattle.mot_folder.specs.declared.listing.TheConstants.{MAX_NAMES}
 use Rattle.mot_folder.specs.declared.looking.TheConstants.{SOON}
@@ -82,14 +82,15 @@ pub data IsLook (types : List SuffixType) (allows : Bool) (path : List ℕ) (giv
   -- It was listed once; none of the names begins with a dot. The commands are those of the update
   -- to the objects that were taken, all of them where no fault came, and what came of each is told.
   -- Each name that was gone over is that of such an object, or of a file that is told: all of them
-  -- where no fault came. It is fine exactly where no file is told and each command was accepted.
+  -- where no fault came. It is fine exactly where no file is told and each command was accepted. A
+  -- file whose object was put or replaced was made to last, with the folder.
   listed : AreShown names → IsListing types path given names
       → is_kept allows names (length c.objects) ≡ false → IsUpdate names wanted
       → (others : List Command) → updating c names wanted ≡ commands ++ others
       → (fault ≡ None → others ≡ [])
       → (fine ≡ true ↔ (names_read entries ≡ []) × AreAccepted marks)
       → (answers : List Answer) → AreAnswers answers commands marks
-      → of_look entries ≡ map event_of_answer (told_of answers)
+      → of_look entries ≡ map event_of_answer (told_of answers) → AreKept given.kept answers
       → (seen : List (List ℕ)) → (fault ≡ None → seen ≡ names)
       → EachIsTold types given seen wanted fault entries
       → IsLook types allows path given c commands marks fault names wanted fine entries

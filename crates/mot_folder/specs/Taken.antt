@@ -17,7 +17,8 @@ IsUntakable types name bytes =
 
 -- The files of these names, in order: they were read, or missed, of the folder; and each is wanted
 -- with the bytes that were read, or its name is told as that of one that could not be taken. One
--- that was read is told so only if it makes no object, or if memory was wanted.
+-- that was read is told so only if it makes no object, if memory was wanted, or if it was missed
+-- then, since it could not be made to last.
 pub data AreTaken (types : List SuffixType) (NoMemory : Type 0) : (names : List (List ℕ))
     → (read : List (List ℕ × List ℕ)) → (missed : List (List ℕ)) → (wanted : List Wanted)
     → (told : List (List ℕ)) → Type 0 where
@@ -38,3 +39,8 @@ pub data AreTaken (types : List SuffixType) (NoMemory : Type 0) : (names : List 
       → AreTaken types NoMemory names read missed others told
       → AreTaken types NoMemory (names ++ name ∷ []) read (missed ++ name ∷ []) others
       (told ++ name ∷ [])
+  one_unkept : (names missed told : List (List ℕ)) (read : List (List ℕ × List ℕ))
+      (others : List Wanted) (name bytes : List ℕ)
+      → AreTaken types NoMemory names read missed others told
+      → AreTaken types NoMemory (names ++ name ∷ []) (read ++ (name, bytes) ∷ [])
+      (missed ++ name ∷ []) others (told ++ name ∷ [])

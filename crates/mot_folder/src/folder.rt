@@ -3,9 +3,9 @@ ghost use Rattle.std.specs.Prelude.{◌≡◌, ◌⊎◌, ◌||◌, ◌-◌, ◌
 ghost use Rattle.std.specs.Prelude.{IfOk, MatchResult, slice_get};
 ghost use Rattle.mot_folder.specs.Inner.Names.{name_or_none};
 ghost use Rattle.mot_folder.specs.Inner.Reading.{Misses, Takes, TellsFile, TellsLook, TellsUntaken};
-ghost use Rattle.mot_folder.specs.Inner.Reading.{TellsFault, is_for_next};
+ghost use Rattle.mot_folder.specs.Inner.Reading.{TellsFault, TellsOffered, is_for_next};
 ghost use Rattle.mot_folder.specs.Inner.Reasons.{TellsSettled, and_settled};
-ghost use Rattle.mot_folder.specs.Log.{TellsOf, has_to_wait};
+ghost use Rattle.mot_folder.specs.Log.{AreKept, TellsOf, has_to_wait};
 ghost use Rattle.mot_folder.specs.declared.folder.Untaken.TheVariants.{Refused as NotTaken};
 ghost use Rattle.mot_folder.specs.declared.folder.Untaken.TheVariants.{Unread as NotRead};
 ghost use Rattle.mot_numbers.specs.declared.refusal.Refusal.{Refusal};
@@ -16,6 +16,7 @@ ghost use Rattle.mot_suffixes.specs.Types.{SuffixType, type_of_name};
 ghost use Rattle.mot_update.specs.Looking.{was_settled};
 ghost use Rattle.mot_folder.specs.Taken.{IsUntakable, wanted_file};
 ghost use Rattle.mot_update.specs.Told.{TellsBoth, answers_of};
+ghost use Rattle.mot_update.specs.Updating.{is_known};
 
 use crate::listing::{FileNames, read_refusal};
 use crate::report::{Report, Sizes};
@@ -89,7 +90,14 @@ impl<'a, S: Shelf + Drop> Source for Folder<'a, S> {
         (S.gave folder.shelf) folder.names.names.items folder.place folder.report
         folder.sizes.waiting };
 
+    ghost offers = { λ folder. TellsOffered folder.types.now (S.path folder.shelf)
+        (S.gave folder.shelf) folder.names.names.items folder.place folder.report
+        folder.sizes.waiting };
+
     ghost last = { λ folder. name_or_none (slice_get folder.names.names.items (folder.place - 1)) };
+
+    ghost lasts = { λ folder. is_known (S.gave folder.shelf).kept
+        (name_or_none (slice_get folder.names.names.items (folder.place - 1))) ≡ true };
 
     fn knows(&self, name: &Name) -> bool {
         self.names.has(name)
@@ -110,6 +118,20 @@ impl<'a, S: Shelf + Drop> Source for Folder<'a, S> {
             }
         }
         None
+    }
+
+    fn take(&mut self, alloc: Global, wanted: &Wanted, is_new: bool) -> bool {
+        if !is_new {
+            return true;
+        }
+        let name = wanted.name.as_bytes();
+        match self.shelf.keep(alloc, name) {
+            Ok(()) => true,
+            Err(unread) => {
+                tell_untaken(&mut self.report, name, Untaken::Unread(unread));
+                false
+            }
+        }
     }
 
     fn withdrew(&mut self, name: &Name, attempt: Attempt) {
@@ -192,7 +214,8 @@ fn name_at(names: &FileNames, place: usize) -> &[u8]
     }
 }
 
-/// Tells what became of the object of the name before this place, of these sizes.
+/// Tells what became of the object of the name before this place, of these sizes. If anything was
+/// done for it, its file was made to last.
 fn tell_settled(
     report: &mut Report,
     names: &FileNames,
@@ -203,6 +226,8 @@ fn tell_settled(
     ensures fine { report.new.any_refused ≡ false
         → (report.old.any_refused ≡ false) × (was_settled settled ≡ true) }
     ensures told { (types : List SuffixType) (given : Given) (names_before : List (List ℕ))
+        → AreKept given.kept
+        (answers_of (name_or_none (slice_get names.now.names.items (place - 1))) settled)
         → TellsBoth (TellsOf types given report.old sizes.waiting names_before)
         (TellsOf types given report.new (and_settled sizes.waiting settled) names_before)
         (answers_of (name_or_none (slice_get names.now.names.items (place - 1))) settled) [] }

@@ -3,7 +3,7 @@ ghost use Rattle.std.specs.List.{insert, list_any};
 ghost use Rattle.std.specs.Str.{is_utf8};
 ghost use Rattle.std.specs.Prelude.{◌≡◌, ◌↔◌, ◌+◌, ◌<◌, ◌≤◌, ◌∷◌, ◌++◌, [], true, false, length};
 ghost use Rattle.std.specs.Prelude.{if◌then◌else◌, IfErr, IfOk, IfNone, IfSome, IsOk, IsTrue};
-ghost use Rattle.std.specs.Prelude.{◌==◌, List, OnErr, OnOk, Some, nat_le, ℕ};
+ghost use Rattle.std.specs.Prelude.{◌==◌, ◌≢◌, List, MatchResult, OnErr, OnOk, Some, nat_le, ℕ};
 ghost use Rattle.mot_events.specs.Text.{event_of};
 ghost use Rattle.mot_events.specs.declared.event.Met.TheVariants.{Skipped};
 ghost use Rattle.mot_events.specs.declared.event.Skip.TheVariants.{NotUtf8};
@@ -11,6 +11,7 @@ ghost use Rattle.mot_events.specs.declared.event.Why.{Why};
 ghost use Rattle.mot_folder.specs.Inner.Listing.{GivesAll, GivesNoMore, GoesOn, IsCallRefusal};
 ghost use Rattle.mot_folder.specs.Inner.Listing.{IsLeftOutFor, IsUnread, Skips, StopsAt, TellsNameless};
 ghost use Rattle.mot_folder.specs.Inner.Listing.{WereAsked};
+ghost use Rattle.mot_folder.specs.Inner.Notes.{unknown_objects};
 ghost use Rattle.mot_folder.specs.Inner.Reading.{unread_for};
 ghost use Rattle.mot_folder.specs.Inner.Reasons.{TellsNoMore, why_nameless};
 ghost use Rattle.mot_objects.specs.Name.{is_name};
@@ -22,7 +23,7 @@ ghost use Rattle.mot_folder.specs.Looked.{IsUnlisted};
 ghost use Rattle.mot_numbers.specs.declared.refusal.Refusal.TheVariants.{BadName, OutOfMemory};
 ghost use Rattle.mot_numbers.specs.declared.refusal.Refusal.TheVariants.{TooManyObjects};
 ghost use Rattle.mot_objects.specs.Carousel.{are_names_distinct};
-ghost use Rattle.mot_shelf.specs.Given.{nothing};
+ghost use Rattle.mot_shelf.specs.Given.{and_failed, and_kept_names, nothing};
 ghost use Rattle.mot_suffixes.specs.Types.{AreShown, is_hidden};
 ghost use Rattle.mot_update.specs.Told.{TellsMore};
 ghost use Rattle.mot_update.specs.Updating.{is_known};
@@ -33,7 +34,7 @@ use memchr::memchr;
 use mot_events::{Deed, Skip, Why};
 use mot_files::Kind;
 use mot_numbers::Refusal;
-use mot_objects::Name;
+use mot_objects::{Carousel, Name};
 use mot_shelf::Shelf;
 use mot_suffixes::FileTypes;
 use std::alloc::{AllocError, Global};
@@ -164,10 +165,69 @@ fn place_in(names: &[Name], name: &[u8]) -> usize
 }
 
 /// The names of the regular files directly in the folder that have one of the suffixes and do not
-/// begin with a dot. A name that can't be an object's is logged, and left out. The errors are
-/// `ReadFault`, if the folder can't be listed, `TooManyObjects`, if more than `MAX_NAMES` names have
-/// one of the suffixes, and `OutOfMemory`.
+/// begin with a dot. A name that can't be an object's is logged, and left out. If the carousel has
+/// an object without a file, the folder's names are made to last: so after a power cut none comes
+/// back for which an object is withdrawn. The errors are `ReadFault`, if the folder can't be
+/// listed, or its names not be made to last; `TooManyObjects`, if more than `MAX_NAMES` names have
+/// one of the suffixes; and `OutOfMemory`.
 pub(crate) fn list<S: Shelf + Drop>(
+    shelf: &mut S,
+    alloc: Global,
+    types: &FileTypes,
+    report: &mut Report,
+    carousel: &Carousel,
+) -> Result<FileNames, Unlisted>
+    requires { S.gave shelf.old ≡ nothing }
+    ensures same { S.path shelf.new ≡ S.path shelf.old }
+    ensures told { TellsMore (TellsAnswers report.old) (TellsAnswers report.new) [] }
+    ensures further { TellsNameless [] report.old
+        → IfOk result (λ _. TellsNameless (S.gave shelf.new).files report.new) }
+    ensures listed { IfOk result (λ names. IsListing types.now (S.path shelf.old)
+        (S.gave shelf.new) names.names.items) }
+    ensures unread { IsUnread nothing (S.gave shelf.new) }
+    ensures shown { IfOk result (λ names. AreShown names.names.items) }
+    ensures why { IfErr result (λ unlisted. IsUnlisted types.now (S.path shelf.old)
+        (S.gave shelf.new) unlisted.refusal) }
+
+    // Nothing is withdrawn but by names that last.
+    ensures gone { IfOk result (λ names.
+        unknown_objects names.names.items carousel.now.objects.items ≢ []
+        → (before : List (List ℕ))
+        × ((S.gave shelf.new).kept_names ≡ before ++ S.path shelf.old ∷ [])) }
+{
+    let names = list_names(shelf, alloc, types, report)?;
+    if count_unknown(&names, carousel) == 0 {
+        return Ok(names);
+    }
+    keep_names(shelf)?;
+    Ok(names)
+}
+
+/// Makes the folder's names last.
+fn keep_names<S: Shelf + Drop>(shelf: &mut S) -> Result<(), Unlisted>
+    ensures same { S.path shelf.new ≡ S.path shelf.old }
+    ensures gave { MatchResult result
+        (λ _. S.gave shelf.new ≡ and_kept_names (S.gave shelf.old) (S.path shelf.old))
+        (λ unlisted. (S.gave shelf.new ≡ and_failed (S.gave shelf.old) (S.path shelf.old))
+        × IsCallRefusal unlisted.refusal) }
+{
+    match shelf.keep_names() {
+        Ok(()) => Ok(()),
+        Err(error) => Err(Unlisted::by(error)),
+    }
+}
+
+/// How many objects of the carousel have none of the names.
+pub(crate) fn count_unknown(names: &FileNames, carousel: &Carousel) -> usize
+    ensures { result
+        ≡ length (unknown_objects names.now.names.items carousel.now.objects.items) }
+{
+    let objects = carousel.objects.iter();
+    objects.filter(|object| !names.has(&object.name)).count()
+}
+
+/// The names, as the folder gives them.
+fn list_names<S: Shelf + Drop>(
     shelf: &mut S,
     alloc: Global,
     types: &FileTypes,

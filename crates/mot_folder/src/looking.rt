@@ -22,7 +22,7 @@ ghost use Rattle.mot_update.specs.declared.wanted.Wanted.{Wanted};
 ghost use Rattle.mot_playout.specs.Attempts.{fault_of};
 
 use crate::folder::Folder;
-use crate::listing::{FileNames, list, tell_unlisted};
+use crate::listing::{FileNames, count_unknown, list, tell_unlisted};
 use crate::report::{Report, Sizes};
 use disk_model::Disk;
 use mot_events::{LookEvent, is_listed};
@@ -69,7 +69,13 @@ pub fn look_at_folder<S: Shelf + Drop, D: Disk>(
 {
     folder.shelf.begin();
     folder.report.begin();
-    match list(&mut folder.shelf, alloc, folder.types, &mut folder.report) {
+    match list(
+        &mut folder.shelf,
+        alloc,
+        folder.types,
+        &mut folder.report,
+        server.carousel(),
+    ) {
         Ok(names) => folder.names = names,
         Err(unlisted) => {
             let path = folder.shelf.shown().as_bytes();
@@ -155,15 +161,6 @@ fn tell_most(report: &mut Report, path: &str, unknown: usize, all: usize)
     ensures notes { TellsOne report.old report.new (event_of path.now (Going unknown all)) }
 {
     report.going(path.as_bytes(), unknown as u64, all as u64);
-}
-
-/// How many objects are not known.
-fn count_unknown(names: &FileNames, carousel: &Carousel) -> usize
-    ensures { result
-        ≡ length (unknown_objects names.now.names.items carousel.now.objects.items) }
-{
-    let objects = carousel.objects.iter();
-    objects.filter(|object| !names.has(&object.name)).count()
 }
 
 /// Notes how many files wait, and how many objects there may be, if more than one waits.

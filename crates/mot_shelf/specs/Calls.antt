@@ -3,6 +3,7 @@ use Rattle.std.specs.Prelude.{◌≡◌, ◌≢◌, ◌⊎◌, ℕ, Bool, false,
 use Rattle.std.specs.Prelude.{IsUtf8, Result, Ok, Err, codes}
 use Rattle.std.specs.declared.io.Error.{Error}
 use Rattle.mot_files.specs.Call.{Call, closed, failed_read, looked, opened, read}
+use Rattle.mot_files.specs.Lasting.{MakesLast, SyncsPath}
 use Rattle.mot_files.specs.Listing.{file_of, path_in}
 use Rattle.mot_files.specs.Reading.{IsRead, IsUnread}
 use Rattle.mot_files.specs.declared.reading.Unread.{Unread}
@@ -77,3 +78,19 @@ abbrev pub FileIsUnread : (path name : List ℕ) → (most : ℕ) → (at_once :
 FileIsUnread path name most at_once unread old new =
     ((new ≡ old) × ((unread ≡ Changed) ⊎ (unread ≡ NoMemory)))
     ⊎ IsUnread (path_in path name) most at_once unread old new
+
+-- a file of the folder was made to last, and then the folder; and when it was not
+abbrev pub FileIsKept : (path name : List ℕ) → (old new : List Call) → Type 0
+FileIsKept path name old new = MakesLast (path_in path name) path (Ok tt) old new
+
+abbrev pub FileIsUnkept : (path name : List ℕ) → Unread → (old new : List Call) → Type 0
+FileIsUnkept path name unread old new =
+    ((new ≡ old) × ((unread ≡ Changed) ⊎ (unread ≡ NoMemory)))
+    ⊎ MakesLast (path_in path name) path (Err unread) old new
+
+-- the names of the folder were made to last; and when they were not
+abbrev pub NamesAreKept : (path : List ℕ) → (old new : List Call) → Type 0
+NamesAreKept path old new = SyncsPath path (Ok tt) old new
+
+abbrev pub NamesAreUnkept : (path : List ℕ) → (old new : List Call) → Type 0
+NamesAreUnkept path old new = (fault : Fault) × SyncsPath path (Err fault) old new

@@ -11,14 +11,27 @@ pub record Given : Type 0 where
   pub others : List (List ℕ)
   -- the files that were read: the name of each, and its bytes
   pub read : List (List ℕ × List ℕ)
-  -- the names of those that could not be
+  -- the names of those that could not be, or not be made to last
   pub missed : List (List ℕ)
+  -- the names of the files that were made to last, and the folder after each of them
+  pub kept : List (List ℕ)
+  -- the path, each time that the names alone were made to last
+  pub kept_names : List (List ℕ)
   -- what else failed: the path, where it was not opened or did not give its names; and each name
   -- that was asked for in vain
   pub failed : List (List ℕ)
 
 abbrev pub nothing : Given
-nothing = record { listed = []; files = []; others = []; read = []; missed = []; failed = [] }
+nothing = record {
+  listed = [];
+  files = [];
+  others = [];
+  read = [];
+  missed = [];
+  kept = [];
+  kept_names = [];
+  failed = [];
+}
 
 -- it is opened by this path, or gives these names
 abbrev pub and_listed : Given → List ℕ → Given
@@ -33,10 +46,19 @@ and_asked g name false = record g { others = g.others ++ name ∷ [] }
 abbrev pub and_read : Given → List ℕ → List ℕ → Given
 and_read g name bytes = record g { read = g.read ++ (name, bytes) ∷ [] }
 
--- or it can't be read
+-- or it can't be read, or be made to last
 abbrev pub and_missed : Given → List ℕ → Given
 and_missed g name = record g { missed = g.missed ++ name ∷ [] }
 
--- the folder of this path can't be listed, or it can't be said what this name in it names
+-- the file of this name was made to last
+abbrev pub and_kept : Given → List ℕ → Given
+and_kept g name = record g { kept = g.kept ++ name ∷ [] }
+
+-- the names of the folder of this path were
+abbrev pub and_kept_names : Given → List ℕ → Given
+and_kept_names g path = record g { kept_names = g.kept_names ++ path ∷ [] }
+
+-- the folder of this path can't be listed, or its names not be made to last; or it can't be said
+-- what this name in it names
 abbrev pub and_failed : Given → List ℕ → Given
 and_failed g of = record g { failed = g.failed ++ of ∷ [] }

@@ -9,5 +9,7 @@ given_of seen = record {
   others = seen.others.all;
   read = seen.read.all;
   missed = seen.missed.all;
+  kept = seen.kept.all;
+  kept_names = seen.kept_names.all;
   failed = seen.failed.all;
 }

@@ -118,4 +118,14 @@ impl Shelf for MemoryShelf {
             }
         }
     }
+
+    fn keep(&mut self, _alloc: Global, name: &[u8]) -> Result<(), Unread> {
+        self.seen.kept.note(name);
+        Ok(())
+    }
+
+    fn keep_names(&mut self) -> io::Result<()> {
+        self.seen.kept_names.note(b"memory");
+        Ok(())
+    }
 }

@@ -17,6 +17,8 @@ pub struct Seen {
     pub(crate) others: Notes,
     pub(crate) read: Pairs,
     pub(crate) missed: Notes,
+    pub(crate) kept: Notes,
+    pub(crate) kept_names: Notes,
     pub(crate) failed: Notes,
 }
 
@@ -28,6 +30,7 @@ impl Seen {
         ensures others { result.others.all ≡ [] }
         ensures read { result.read.all ≡ [] }
         ensures missed { result.missed.all ≡ [] }
+        ensures kept { (result.kept.all ≡ []) × (result.kept_names.all ≡ []) }
         ensures failed { result.failed.all ≡ [] }
     {
         Seen {
@@ -36,6 +39,8 @@ impl Seen {
             others: Notes::new(),
             read: Pairs::new(),
             missed: Notes::new(),
+            kept: Notes::new(),
+            kept_names: Notes::new(),
             failed: Notes::new(),
         }
     }

@@ -2,8 +2,8 @@
 ghost use Rattle.std.specs.Prelude.{◌≡◌, ◌≢◌, ◌<◌, ◌≤◌, ℕ, Bool, true, List, [], ◌∷◌, ◌++◌, IfErr, IfOk};
 ghost use Rattle.std.specs.Prelude.{MatchResult, length, take};
 ghost use Rattle.mot_files.specs.declared.reading.Unread.TheVariants.{TooLong, Young};
-ghost use Rattle.mot_shelf.specs.Given.{Given, and_asked, and_failed, and_listed, and_missed};
-ghost use Rattle.mot_shelf.specs.Given.{and_read, nothing};
+ghost use Rattle.mot_shelf.specs.Given.{Given, and_asked, and_failed, and_kept, and_kept_names};
+ghost use Rattle.mot_shelf.specs.Given.{and_listed, and_missed, and_read, nothing};
 
 use crate::LookNotes;
 use mot_files::{Kind, Unread};
@@ -83,4 +83,21 @@ pub trait Shelf {
         ensures young { at_once self.old ≡ true → IfErr result (λ unread. unread ≢ Young) }
         ensures long { IfErr result (λ unread.
             (count : ℕ) → unread ≡ TooLong count → most < count) };
+
+    /// Makes the file of this name last, and then its name: so after a power cut the folder has
+    /// under it what it has now, or what came to it later. The error says why not.
+    fn keep(&mut self, alloc: Global, name: &[u8]) -> Result<(), Unread>
+        ensures same { path self.new ≡ path self.old }
+        ensures rule { at_once self.new ≡ at_once self.old }
+        ensures gave { MatchResult result
+            (λ _. gave self.new ≡ and_kept (gave self.old) name.now)
+            (λ _. gave self.new ≡ and_missed (gave self.old) name.now) };
+
+    /// Makes its names last: so after a power cut none comes back that is gone now.
+    fn keep_names(&mut self) -> io::Result<()>
+        ensures same { path self.new ≡ path self.old }
+        ensures rule { at_once self.new ≡ at_once self.old }
+        ensures gave { MatchResult result
+            (λ _. gave self.new ≡ and_kept_names (gave self.old) (path self.old))
+            (λ _. gave self.new ≡ and_failed (gave self.old) (path self.old)) };
 }

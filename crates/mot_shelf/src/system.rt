@@ -5,16 +5,19 @@ ghost use Rattle.mot_files.specs.Call.{opened};
 ghost use Rattle.mot_files.specs.declared.system.Fault.{Fault};
 ghost use Rattle.mot_files.specs.declared.system.Handle.{Handle};
 ghost use Rattle.mot_files.specs.declared.system.How.TheVariants as How;
-ghost use Rattle.mot_shelf.specs.Given.{and_asked, and_failed, and_listed, and_missed, and_read};
-ghost use Rattle.mot_shelf.specs.Given.{nothing};
+ghost use Rattle.mot_shelf.specs.Given.{and_asked, and_failed, and_kept, and_kept_names};
+ghost use Rattle.mot_shelf.specs.Given.{and_listed, and_missed, and_read, nothing};
 ghost use Rattle.mot_files.specs.declared.reading.Unread.TheVariants.{TooLong, Young};
-ghost use Rattle.mot_shelf.specs.Calls.{FileIsRead, FileIsUnread, IsAsked, IsUnasked};
+ghost use Rattle.mot_shelf.specs.Calls.{FileIsKept, FileIsRead, FileIsUnkept, FileIsUnread};
+ghost use Rattle.mot_shelf.specs.Calls.{IsAsked, IsUnasked, NamesAreKept, NamesAreUnkept};
 ghost use Rattle.mot_shelf.specs.Calls.{FolderIsClosed, FolderIsOpened, KindIsAsked};
 ghost use Rattle.mot_shelf.specs.Calls.{NamesAreRead, NamesAreUnread};
 ghost use Rattle.mot_shelf.specs.Seen.{given_of};
 
 use crate::{LookNotes, Seen, Shelf};
-use mot_files::{Fault, Handle, How, Kind, System, Unread, is_file, path_in, read_file};
+use mot_files::{
+    Fault, Handle, How, Kind, System, Unread, is_file, make_last, path_in, read_file, sync_path,
+};
 use std::alloc::Global;
 use std::io::{self, ErrorKind};
 use std::str::from_utf8;
@@ -221,6 +224,59 @@ impl<'a, S: System + Drop> Shelf for SystemShelf<'a, S> {
             }
         }
     }
+
+    fn keep(&mut self, alloc: Global, name: &[u8]) -> Result<(), Unread>
+        ensures same { self.new.path.now ≡ self.old.path.now }
+        ensures rule { self.new.at_once ≡ self.old.at_once }
+        ensures gave { MatchResult result
+            (λ _. given_of self.new.seen ≡ and_kept (given_of self.old.seen) name.now)
+            (λ _. given_of self.new.seen ≡ and_missed (given_of self.old.seen) name.now) }
+        ensures calls { MatchResult result
+            (λ _. FileIsKept self.old.path.now name.now (S.calls self.old.system)
+            (S.calls self.new.system))
+            (λ unread. FileIsUnkept self.old.path.now name.now unread (S.calls self.old.system)
+            (S.calls self.new.system)) }
+    {
+        match keep_named(&mut self.system, alloc, self.path, name) {
+            Ok(()) => {
+                self.seen.kept.note(name);
+                Ok(())
+            }
+            Err(error) => {
+                self.seen.missed.note(name);
+                Err(error)
+            }
+        }
+    }
+
+    fn keep_names(&mut self) -> io::Result<()>
+        ensures same { self.new.path.now ≡ self.old.path.now }
+        ensures rule { self.new.at_once ≡ self.old.at_once }
+        ensures gave { MatchResult result
+            (λ _. given_of self.new.seen
+            ≡ and_kept_names (given_of self.old.seen) self.old.path.now)
+            (λ _. given_of self.new.seen ≡ and_failed (given_of self.old.seen) self.old.path.now) }
+        ensures calls { MatchResult result
+            (λ _. NamesAreKept self.old.path.now (S.calls self.old.system)
+            (S.calls self.new.system))
+            (λ _. NamesAreUnkept self.old.path.now (S.calls self.old.system)
+            (S.calls self.new.system)) }
+        ensures fault { MatchResult result (λ _. self.new.fault ≡ self.old.fault)
+            (λ error. self.new.fault ≡ Some error) }
+    {
+        match sync_path(&mut self.system, self.path) {
+            Ok(()) => {
+                self.seen.kept_names.note(self.path.as_bytes());
+                Ok(())
+            }
+            Err(fault) => {
+                let error = fault.error();
+                self.seen.failed.note(self.path.as_bytes());
+                self.fault = Some(error);
+                Err(error)
+            }
+        }
+    }
 }
 
 /// Closes the folder, if one is open.
@@ -348,6 +404,30 @@ fn read_named<S: System>(
     let (most, at_once) = how;
     match read_file(system, alloc, path.as_str(), most, at_once) {
         Ok(bytes) => Ok(bytes),
+        Err(unread) => Err(unread),
+    }
+}
+
+/// Makes the regular file of this name in the folder last, and then the folder.
+fn keep_named<S: System>(
+    system: &mut S,
+    alloc: Global,
+    path: &str,
+    name: &[u8],
+) -> Result<(), Unread>
+    ensures { MatchResult result
+        (λ _. FileIsKept path.now name.now (S.calls system.old) (S.calls system.new))
+        (λ unread. FileIsUnkept path.now name.now unread (S.calls system.old)
+        (S.calls system.new)) }
+{
+    let Ok(name) = from_utf8(name) else {
+        return Err(Unread::Changed);
+    };
+    let Ok(place) = path_in(alloc, path, name) else {
+        return Err(Unread::NoMemory);
+    };
+    match make_last(system, place.as_str(), path) {
+        Ok(()) => Ok(()),
         Err(unread) => Err(unread),
     }
 }

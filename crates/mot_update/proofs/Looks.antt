@@ -399,6 +399,35 @@ module _ {D : Type 0} (old mid new : ServerView D) (start between now : State) (
     };
   }
 
+-- one that was offered was not given, and nothing was done
+abbrev pub settled_left : {D : Type 0} (old mid new : ServerView D) (start between now : State)
+    (s : Standing) (names : List (List ℕ)) (first place further : ℕ)
+    (before after last : Option (List Wanted)) (fine later : Bool) → place ≤ further
+    → Gives after last [] → (later ≡ true → ⊥)
+    → (so_far : SettledSoFar old mid start between s names first place before after fine)
+    → ((t : Standing) → Holds mid.view t between → HasRun mid new between now t [] [] None)
+    → SettledSoFar old new start now s names first further before last later
+settled_left old mid new start between now s names first place further before after last fine later
+    le gives refused so_far run =
+    let commands = flat_map (settling s.carousel.objects) so_far.wanted in
+    record {
+      wanted = so_far.wanted;
+      gives = gives_kept before after last so_far.wanted so_far.gives gives;
+      known = so_far.known;
+      distinct = so_far.distinct;
+      below = below_more names place further so_far.wanted le so_far.below;
+      marks = so_far.marks;
+      run = subst (λ l. HasRun old new start now s l so_far.marks None) (append-nil commands)
+          (subst (λ l. HasRun old new start now s (commands ++ []) l None) (append-nil so_far.marks)
+          (join old mid new start between now s commands [] so_far.marks [] None so_far.run
+          (run so_far.run.leaves.last (so_far.run.leaves.going refl))));
+      every = λ e. absurd (refused e);
+      accepted = λ e. absurd (refused e);
+      answers = so_far.answers;
+      told = so_far.told;
+      right = so_far.right;
+    }
+
 -- all were settled
 abbrev pub settled_all : {D : Type 0} (old new : ServerView D) (start now : State) (s : Standing)
     (names : List (List ℕ)) (first place : ℕ) (before after last : Option (List Wanted))

@@ -1,5 +1,6 @@
 //! A look at a source: what it gives, made of a server's carousel.
-ghost use Rattle.std.specs.Prelude.{◌≡◌, ◌≤◌, [], length, true, IfErr, IfOk, OnOk};
+ghost use Rattle.std.specs.Prelude.{◌≡◌, ◌≢◌, ◌≤◌, [], None, Ok, Some, length, true, IfErr, IfOk};
+ghost use Rattle.std.specs.Prelude.{OnOk};
 ghost use Rattle.disk_model.specs.Disk.{KeepsLength};
 ghost use Rattle.mot_journal.specs.Image.{Standing};
 ghost use Rattle.mot_numbers.specs.declared.refusal.Refusal.TheVariants.{OutOfMemory};
@@ -7,11 +8,16 @@ ghost use Rattle.mot_objects.specs.Carousel.{are_names_distinct};
 ghost use Rattle.mot_repository.specs.Repository.{Holds};
 ghost use Rattle.mot_playout.specs.Attempts.{fault_of};
 ghost use Rattle.mot_update.specs.Faults.{TellsFaults};
+ghost use Rattle.mot_update.specs.HasRun.{HasRun};
+ghost use Rattle.mot_update.specs.Inner.Taking.{IsDoneRightly, commands_if, given_if, is_command};
+ghost use Rattle.mot_update.specs.Inner.Taking.{marks_if};
 ghost use Rattle.mot_update.specs.Looking.{Gives, HasLooked, HasSettled, RunsThrough};
 ghost use Rattle.mot_update.specs.Looking.{unknown_names, withdraw_all};
 ghost use Rattle.mot_update.specs.Told.{TellsBoth};
+ghost use Rattle.mot_update.specs.declared.settling.Settled.{Settled};
+ghost use Rattle.mot_update.specs.declared.settling.Settled.TheVariants.{Right};
 
-use crate::{Source, settle, withdraw};
+use crate::{Need, Settled, Source, Wanted, need_of, settle, withdraw};
 use disk_model::Disk;
 use mot_numbers::Refusal;
 use mot_objects::{Carousel, Name};
@@ -123,7 +129,60 @@ fn settle_all<D: Disk, S: Source>(
         let Some(wanted) = source.next(alloc) else {
             return Ok(());
         };
-        let settled = settle(server, alloc, wanted)?;
+        let Some(settled) = settle_taken(server, alloc, source, wanted)? else {
+            continue;
+        };
         source.settled(settled);
+    }
+}
+
+/// Settles the object that the source offered, if the source gives it. If the carousel lacks it,
+/// the source makes it last before.
+fn settle_taken<D: Disk, S: Source>(
+    server: &mut Server<D>,
+    alloc: Global,
+    source: &mut S,
+    wanted: Wanted,
+) -> Result<Option<Settled>, Refusal>
+    requires { S.last source.old ≡ wanted.name }
+    ensures keeps { KeepsLength (D.state server.old.disk) (D.state server.new.disk) }
+    ensures faults { TellsFaults server.old server.new
+        (D.state server.old.disk) (D.state server.new.disk) result }
+
+    // If it is not given, nothing is done for it.
+    ensures run { (s : Standing) → Holds server.old.view s (D.state server.old.disk)
+        → (D.state server.new.disk).IsHonest
+        → HasRun server.old server.new (D.state server.old.disk) (D.state server.new.disk) s
+        (commands_if result s.carousel.objects wanted) (marks_if result) (fault_of result) }
+    ensures right { (s : Standing) → Holds server.old.view s (D.state server.old.disk)
+        → (D.state server.new.disk).IsHonest
+        → IsDoneRightly server.old.view.journal.layout s wanted result }
+    ensures source { (S.names source.new ≡ S.names source.old)
+        × (S.place source.new ≡ S.place source.old) × (S.last source.new ≡ S.last source.old) }
+    ensures gives { Gives (S.given source.old) (S.given source.new) (given_if result wanted) }
+    ensures told { TellsBoth (S.offers source.old wanted) (S.was_told source.new) []
+        (given_if result wanted) }
+    ensures fine { S.is_fine source.new ≡ true
+        → (S.is_fine source.old ≡ true) × (result ≢ Ok None) }
+
+    // What a command was run for was made to last.
+    ensures lasts { (settled : Settled) → result ≡ Ok (Some settled) → settled ≢ Right
+        → S.lasts source.new }
+{
+    let need = need_of(server, &wanted);
+    if !source.take(alloc, &wanted, is_command(need)) {
+        return Ok(None);
+    }
+    let settled = settle(server, alloc, wanted, need?)?;
+    Ok(Some(settled))
+}
+
+/// Whether a command is needed.
+fn is_command(need: Result<Need, Refusal>) -> bool
+    ensures { result ≡ is_command need }
+{
+    match need {
+        Ok(Need::Put | Need::Replace) => true,
+        Ok(Need::Nothing) | Err(_) => false,
     }
 }

@@ -1,9 +1,12 @@
 //! The source of wanted objects.
 ghost use Rattle.std.specs.Prelude.{◌≡◌, ◌+◌, ◌<◌, ◌≤◌, [], ◌∷◌, ℕ, Bool, true, List, Option, Some};
-ghost use Rattle.std.specs.Prelude.{None, IfSome, MatchOption, ⊤, length, slice_get};
+ghost use Rattle.std.specs.Prelude.{◌≢◌, false, IfSome, MatchBool, MatchOption, None, ⊤, length};
+ghost use Rattle.std.specs.Prelude.{slice_get};
 ghost use Rattle.mot_update.specs.Looking.{Gives, was_settled};
 ghost use Rattle.mot_update.specs.Told.{Answer, TellsBoth, Withdrew, answers_of, was_accepted};
 ghost use Rattle.mot_update.specs.Updating.{is_known};
+ghost use Rattle.mot_update.specs.declared.settling.Settled.{Settled};
+ghost use Rattle.mot_update.specs.declared.settling.Settled.TheVariants.{Right};
 ghost use Rattle.mot_update.specs.declared.wanted.Wanted.{Wanted};
 
 use crate::{Settled, Wanted};
@@ -13,7 +16,9 @@ use std::alloc::Global;
 
 /// What an updated carousel is to have: names, all of them known at the beginning, and then the
 /// objects of these names one after the other. If no object of a name comes, the one that the
-/// carousel has of it stays as it is. The source learns what became of each.
+/// carousel has of it stays as it is. An object that the carousel lacks is made to last where it
+/// comes from before its command is run: so after a power cut the source has what the carousel has,
+/// or what came later. The source learns what became of each.
 pub trait Source {
     // The names that are known.
     ghost names: { Self → List (List ℕ) };
@@ -28,8 +33,14 @@ pub trait Source {
     // What it learned so far is this, and what it gave is that.
     ghost was_told: { Self → List Answer → List Wanted → Type 0 } = { λ _ _ _. ⊤ };
 
-    // The name of the object that it gave last.
+    // The same, once this object is offered, and before it is taken.
+    ghost offers: { Self → Wanted → List Answer → List Wanted → Type 0 } = { λ _ _ _ _. ⊤ };
+
+    // The name of the object that it offered last.
     ghost last: { Self → List ℕ };
+
+    // That object was made to last.
+    ghost lasts: { Self → Type 0 } = { λ _. ⊤ };
 
     // The objects that it gave, if that is known.
     ghost given: { Self → Option (List Wanted) } = { λ _. None };
@@ -38,17 +49,16 @@ pub trait Source {
     fn knows(&self, name: &Name) -> bool
         ensures { result ≡ is_known (names self.now) name.now };
 
-    /// The next object, of a further one of the names; `None` if there is no further one.
+    /// The next object that it offers, of a further one of the names; `None` if there is none.
     fn next(&mut self, alloc: Global) -> Option<Wanted>
         ensures same { names self.new ≡ names self.old }
         ensures goes { place self.old ≤ place self.new }
-        ensures gives { MatchOption result (Gives (given self.old) (given self.new) [])
-            (λ wanted. Gives (given self.old) (given self.new) (wanted ∷ [])) }
+        ensures gives { Gives (given self.old) (given self.new) [] }
         ensures named { IfSome result (λ wanted. (i : ℕ) × (place self.old ≤ i)
             × (i < place self.new) × (slice_get (names self.old) i ≡ Some wanted.name)) }
         ensures last { IfSome result (λ wanted. last self.new ≡ wanted.name) }
         ensures told { MatchOption result (TellsBoth (was_told self.old) (was_told self.new) [] [])
-            (λ wanted. TellsBoth (was_told self.old) (was_told self.new) [] (wanted ∷ [])) }
+            (λ wanted. TellsBoth (was_told self.old) (offers self.new wanted) [] []) }
         ensures ended { MatchOption result (length (names self.old) ≤ place self.new) (λ _. ⊤) }
         ensures fine { is_fine self.new ≡ true → is_fine self.old ≡ true }
 
@@ -56,6 +66,23 @@ pub trait Source {
         ensures every { is_fine self.new ≡ true → MatchOption result
             (length (names self.old) ≤ place self.old)
             (λ wanted. place self.new ≡ place self.old + 1) };
+
+    /// Takes the object that it offered last, this one: whether it gives it. One that is new to the
+    /// carousel is made to last before, and left if that fails.
+    fn take(&mut self, alloc: Global, wanted: &Wanted, is_new: bool) -> bool
+        requires { last self.old ≡ wanted.now.name }
+        ensures same { names self.new ≡ names self.old }
+        ensures stays { (place self.new ≡ place self.old) × (last self.new ≡ last self.old) }
+        ensures gives { MatchBool result (Gives (given self.old) (given self.new) (wanted.now ∷ []))
+            (Gives (given self.old) (given self.new) []) }
+        ensures told { MatchBool result
+            (TellsBoth (offers self.old wanted.now) (was_told self.new) [] (wanted.now ∷ []))
+            (TellsBoth (offers self.old wanted.now) (was_told self.new) [] []) }
+        ensures fine { is_fine self.new ≡ true → (is_fine self.old ≡ true) × (result ≡ true) }
+
+        // What is there already is given, and what is new was made to last.
+        ensures there { is_new ≡ false → result ≡ true }
+        ensures lasts { is_new ≡ true → result ≡ true → lasts self.new };
 
     /// What became of an object that is not known.
     fn withdrew(&mut self, name: &Name, attempt: Attempt)
@@ -67,8 +94,10 @@ pub trait Source {
         ensures fine { is_fine self.new ≡ true
             → (is_fine self.old ≡ true) × (was_accepted attempt ≡ true) };
 
-    /// What became of the object that it gave last.
+    /// What became of the object that it offered last, and gave. If anything was done for it, it
+    /// was made to last.
     fn settled(&mut self, settled: Settled)
+        requires { settled ≢ Right → lasts self.old }
         ensures same { names self.new ≡ names self.old }
         ensures stays { place self.new ≡ place self.old }
         ensures gives { Gives (given self.old) (given self.new) [] }

@@ -1,6 +1,6 @@
 -- A folder while its files are read, and what a source of them was told.
-use Rattle.std.specs.Prelude.{◌≡◌, ◌⊎◌, ℕ, List, [], ◌∷◌, ◌++◌, length, map, take}
-use Rattle.std.specs.Prelude.{None, Some, Bool, true, false}
+use Rattle.std.specs.Prelude.{◌≡◌, ◌⊎◌, ◌+◌, ◌<◌, ℕ, List, [], ◌∷◌, ◌++◌, length, map, take}
+use Rattle.std.specs.Prelude.{None, Some, Bool, true, false, slice_get}
 use Rattle.mot_events.specs.Text.{event_of}
 use Rattle.mot_events.specs.declared.event.Deed.TheVariants.{Read}
 use Rattle.mot_events.specs.declared.event.LookEvent.{LookEvent}
@@ -33,12 +33,15 @@ pub record Takes (types : List SuffixType) (name : List ℕ) (old new : Given) (
   pub read : new ≡ and_read old name bytes
   pub made : wanted ≡ wanted_file type name bytes
 
--- it was not; or it was, and makes no object, or memory was wanted
+-- it was not; or it was, and makes no object, or memory was wanted; or it was, and could not be
+-- made to last
 pub data Misses (types : List SuffixType) (name : List ℕ) (old new : Given) (NoMemory : Type 0) :
     Type 0 where
   was_unread : new ≡ and_missed old name → Misses types name old new NoMemory
   was_refused : (bytes : List ℕ) → new ≡ and_read old name bytes
       → IsUntakable types name bytes ⊎ NoMemory → Misses types name old new NoMemory
+  was_unkept : (bytes : List ℕ) → new ≡ and_missed (and_read old name bytes) name
+      → Misses types name old new NoMemory
 
 -- a file of this name is told as one that was not taken
 abbrev pub TellsFile : Report → Report → List ℕ → Type 0
@@ -65,6 +68,18 @@ pub record TellsLook (types : List SuffixType) (path : List ℕ) (given : Given)
   pub typed : gave ≡ map as_wanted types ++ wanted
   pub listing : IsListing types path given names
   pub tells : TellsOf types given report waiting (take place names) answers wanted
+
+-- the same, once the file of the name before this place was read, of which this is wanted
+pub record TellsOffered (types : List SuffixType) (path : List ℕ) (given : Given)
+    (names : List (List ℕ)) (place : ℕ) (report : Report) (waiting : ℕ) (offered : Wanted)
+    (told : List Answer) (gave : List Wanted) : Type 0 where
+  pub before : Given
+  pub index : ℕ
+  pub next : place ≡ index + 1
+  pub within : index < length names
+  pub named : slice_get names index ≡ Some offered.name
+  pub takes : Takes types offered.name before given offered
+  pub was : TellsLook types path before names index report waiting told gave
 
 -- whether the next look may take what was not taken: a file that is too young, or was changed
 abbrev pub is_for_next : Untaken → Bool

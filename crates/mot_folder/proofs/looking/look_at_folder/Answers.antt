@@ -120,7 +120,7 @@ of_names old new start now s types allows path given report names fault shown li
           looked.runs.whole
           (fine_is told.entries looked.runs.answers looked.runs.commands looked.runs.marks
           report.any_refused looked.runs.told told.any)
-          looked.runs.answers looked.runs.told told.are seen all (record {
+          looked.runs.answers looked.runs.told told.are told.lasting seen all (record {
             missed = told.missed;
             read = told.read;
             taken = taken_so types without told.taken;
@@ -319,7 +319,7 @@ returns-then-is_kept-clause-looked g c = λ s holds honest.
     let is : is_kept allows names (length s.carousel.objects) ≡ true =
     kept_as_counted allows names old.view s holds.agrees
     ∙ ap (λ (k : memory.Carousel). is_kept allows names (length k.objects.items))
-    (sym c.carousel.ensures.value)
+    (sym c.carousel-2.ensures.value)
     ∙ sym c.if-is_kept.ensures in
     let none = none_named allows names (length s.carousel.objects) is in
     let fault = fault_of c.end-then-is_kept.result in
@@ -349,7 +349,7 @@ returns-in_err-look-clause-looked g c = λ s holds honest.
     let updates : is_kept allows names (length s.carousel.objects) ≡ false =
     kept_as_counted allows names old.view s holds.agrees
     ∙ ap (λ (k : memory.Carousel). is_kept allows names (length k.objects.items))
-    (sym c.carousel.ensures.value)
+    (sym c.carousel-2.ensures.value)
     ∙ sym c.if-is_kept.ensures in
     let source = c.look.new.source in
     let given = g.S.Shelf.gave source.shelf in
@@ -385,7 +385,7 @@ returns-clause-looked g c = λ s holds honest.
     let updates : is_kept allows names (length s.carousel.objects) ≡ false =
     kept_as_counted allows names old.view s holds.agrees
     ∙ ap (λ (k : memory.Carousel). is_kept allows names (length k.objects.items))
-    (sym c.carousel.ensures.value)
+    (sym c.carousel-2.ensures.value)
     ∙ sym c.if-is_kept.ensures in
     let source = c.look.new.source in
     let given = g.S.Shelf.gave source.shelf in

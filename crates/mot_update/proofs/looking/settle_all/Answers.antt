@@ -1,17 +1,22 @@
-use Rattle.std.proofs.Common.{◌≡◌, ◌∙◌, ◌≤◌, ◌<◌, ◌-◌, ℕ, length, Ok, Some, [], ◌∷◌, refl, sym, ap}
-use Rattle.std.proofs.Common.{subst, arith}
+use Rattle.std.proofs.Common.{◌≡◌, ◌∙◌, ◌≤◌, ◌<◌, ◌-◌, ℕ, length, None, Ok, Option, Some, []}
+use Rattle.std.proofs.Common.{◌∷◌, refl, sym, ap, subst, arith}
 use Rattle.std.proofs.lemmas.Option.{slice_get_within}
 use Rattle.std.specs.Prelude.{slice_get}
 use Rattle.disk_model.proofs.Laws.{keeps_none, keeps_on}
 use Rattle.disk_model.proofs.Laws.{unchanged_none}
 use Rattle.mot_numbers.proofs.Laws.{same_error}
-use Rattle.mot_update.specs.HasRun.{marks_of_settling}
+use Rattle.mot_journal.specs.Image.{Standing}
+use Rattle.mot_repository.specs.Repository.{Holds}
+use Rattle.mot_update.specs.HasRun.{HasRun, marks_of_settling}
+use Rattle.mot_update.specs.Inner.Taking.{IsDoneRightly, commands_if, given_if, marks_if}
+use Rattle.mot_update.specs.Looking.{Gives}
+use Rattle.mot_update.specs.declared.settling.Settled.{Settled}
 use Rattle.mot_update.specs.Told.{AreAnswers, TellsBoth, answers_of}
 use Rattle.mot_update.proofs.Answers.{answers-settled, both_gives, both_kept, both_nil, both_on}
 use Rattle.mot_update.proofs.Answers.{both_trans}
 use Rattle.mot_update.proofs.Faults.{calm_here, calm_on, fault_on}
-use Rattle.mot_update.proofs.Looks.{accepted_settled, gives_nil, settled_all, settled_fault}
-use Rattle.mot_update.proofs.Looks.{settled_more, settled_none}
+use Rattle.mot_update.proofs.Looks.{accepted_settled, gives_nil, gives_trans, settled_all}
+use Rattle.mot_update.proofs.Looks.{settled_fault, settled_left, settled_more, settled_none}
 use Rattle.mot_update.proofs.looking.settle_all.Goals as goal
 
 -- of as many names, fewer are left
@@ -61,10 +66,14 @@ pub returns-in_err-settled-clause-settled : goal.returns-in_err-settled-clause-s
 returns-in_err-settled-clause-settled g c = λ s holds honest.
     let state = g.D.Disk.state in
     let given = g.S.Source.given in
+    let place = g.S.Source.place in
     let names = g.S.Source.names c.args.source.now in
     let old = c.args.server.now in
     let mid = c.loop-wanted.server in
-    let new = c.settle.new.server in
+    let new = c.settle_taken.new.server in
+    let begun = c.loop-wanted.source in
+    let taken = c.settle_taken.new.source in
+    let w = c.in-Some.wanted in
     let is = c.loop-wanted.invariant in
     let two = c.in_err-settled.ensures in
     let was = two.keeps.was_honest honest in
@@ -74,16 +83,21 @@ returns-in_err-settled-clause-settled g c = λ s holds honest.
     let told = g.S.Source.was_told in
     rw (same_error c.from_residual.result c.in_err-settled.field-0.0 c.from_residual.ensures.1) (
       settled_fault old mid new (state old.disk) (state mid.disk) (state new.disk) s names
-          (g.S.Source.place c.args.source.now) (g.S.Source.place c.loop-wanted.source)
-          (g.S.Source.place c.next.new.self) (given c.args.source.now)
-          (given c.loop-wanted.source) (given c.next.new.self) (given c.next.new.self)
-          (g.S.Source.is_fine c.loop-wanted.source) c.in-Some.wanted c.requires
-          (n.0, n.1, n.2, subst (λ l. slice_get l n.0 ≡ Some c.in-Some.wanted.name) is.same n.3)
-          next.gives (gives_nil (given c.next.new.self)) so_far.0
-          (g.S.Source.is_fine c.next.new.self) c.in_err-settled.field-0.0
-          (λ t held. two.run t held honest),
-      both_gives (told c.args.source.now) (told c.loop-wanted.source) (told c.next.new.self)
-          so_far.0.answers so_far.0.wanted (c.in-Some.wanted ∷ []) so_far.1 next.told,
+          (place c.args.source.now) (place begun) (place taken) (given c.args.source.now)
+          (given begun) (given taken) (given taken) (g.S.Source.is_fine begun) w c.requires (
+            n.0,
+            n.1,
+            subst (λ p. n.0 < p) (sym two.source.1) n.2,
+            subst (λ l. slice_get l n.0 ≡ Some w.name) is.same n.3,
+          )
+          (gives_trans (given begun) (given c.next.new.self) (given taken) [] (w ∷ []) next.gives
+          two.gives)
+          (gives_nil (given taken)) so_far.0 (g.S.Source.is_fine taken)
+          c.in_err-settled.field-0.0 (λ t held. two.run t held honest),
+      both_gives (told c.args.source.now) (told begun) (told taken) so_far.0.answers
+          so_far.0.wanted (w ∷ []) so_far.1
+          (both_gives (told begun) (g.S.Source.offers c.next.new.self w) (told taken) [] []
+          (w ∷ []) next.told two.told),
     )
 
 pub returns-in_default-clause-faults : goal.returns-in_default-clause-faults
@@ -94,7 +108,7 @@ returns-in_err-settled-clause-faults g c =
     let state = g.D.Disk.state in
     let old = c.args.server.now in
     let mid = c.loop-wanted.server in
-    let new = c.settle.new.server in
+    let new = c.settle_taken.new.server in
     let refusal = c.in_err-settled.field-0.0 in
     rw (same_error c.from_residual.result refusal c.from_residual.ensures.1)
     (fault_on old mid (state old.disk) (state mid.disk) (state new.disk) refusal
@@ -104,11 +118,18 @@ pub loop-wanted-preserved : goal.loop-wanted-preserved
 loop-wanted-preserved g c =
     let state = g.D.Disk.state in
     let given = g.S.Source.given in
+    let place = g.S.Source.place in
     let was_told = g.S.Source.was_told in
     let names = g.S.Source.names c.args.source.now in
     let old = c.args.server.now in
     let mid = c.loop-wanted.server in
-    let new = c.settle.new.server in
+    let new = c.settle_taken.new.server in
+    let begun = c.loop-wanted.source in
+    let taken = c.settle_taken.new.source in
+    let last = c.settled.new.self in
+    let w = c.in-Some.wanted in
+    let settled = c.in-Some-2.settled in
+    let some = c.in-Some-2.is in
     let is = c.loop-wanted.invariant in
     let two = c.in_ok-settled.ensures in
     let next = c.in-Some.ensures in
@@ -118,51 +139,120 @@ loop-wanted-preserved g c =
       keeps = keeps_on (state old.disk) (state mid.disk) (state new.disk) is.keeps two.keeps;
       calm = calm_on old mid new (state old.disk) (state mid.disk) (state new.disk) is.calm
           two.faults;
-      same = told.same ∙ next.same ∙ is.same;
+      same = told.same ∙ two.source.0 ∙ next.same ∙ is.same;
       so_far = λ s holds honest.
           let was = two.keeps.was_honest honest in
           let so_far = is.so_far s holds was in
-          let settled = c.in_ok-settled.settled in
-          let answers = answers_of c.in-Some.wanted.name settled in (
+          let answers = answers_of w.name settled in
+          let right : (t : Standing) → Holds mid.view t (state mid.disk)
+          → IsDoneRightly mid.view.journal.layout t w (Ok (Some settled)) =
+          λ t held. subst (λ (o : Option Settled). IsDoneRightly mid.view.journal.layout t w (Ok o))
+          some (two.right t held honest) in (
             settled_more old mid new (state old.disk) (state mid.disk) (state new.disk) s names
-                (g.S.Source.place c.args.source.now) (g.S.Source.place c.loop-wanted.source)
-                (g.S.Source.place c.settled.new.self)
-                (given c.args.source.now) (given c.loop-wanted.source) (given c.next.new.self)
-                (given c.settled.new.self) (g.S.Source.is_fine c.loop-wanted.source)
-                c.in-Some.wanted c.requires (
+                (place c.args.source.now) (place begun) (place last)
+                (given c.args.source.now) (given begun) (given taken) (given last)
+                (g.S.Source.is_fine begun) w c.requires (
                   n.0,
                   n.1,
-                  subst (λ p. n.0 < p) (sym told.stays) n.2,
-                  subst (λ l. slice_get l n.0 ≡ Some c.in-Some.wanted.name) is.same n.3,
+                  subst (λ p. n.0 < p) (sym (told.stays ∙ two.source.1)) n.2,
+                  subst (λ l. slice_get l n.0 ≡ Some w.name) is.same n.3,
                 )
-                next.gives told.gives so_far.0 (marks_of_settling (Ok settled)) answers
-                (g.S.Source.is_fine c.settled.new.self)
-                (λ t held. two.run t held honest)
+                (gives_trans (given begun) (given c.next.new.self) (given taken) [] (w ∷ [])
+                next.gives (subst (λ (o : Option Settled). Gives (given c.next.new.self)
+                (given taken) (given_if (Ok o) w)) some two.gives))
+                told.gives so_far.0 (marks_of_settling (Ok settled)) answers
+                (g.S.Source.is_fine last)
+                (λ t held. subst (λ (o : Option Settled). HasRun mid new (state mid.disk)
+                (state new.disk) t (commands_if (Ok o) t.carousel.objects w) (marks_if (Ok o)) None)
+                some (two.run t held honest))
                 (λ t held. subst (λ l. AreAnswers answers l (marks_of_settling (Ok settled)))
-                (sym (two.told t held honest)) (answers-settled settled c.in-Some.wanted))
-                (λ t held. two.right t held honest)
-                (λ e. let f = told.fine e in (
-                  next.fine f.0,
-                  told.stays ∙ next.every f.0,
+                (sym (right t held).0) (answers-settled settled w))
+                (λ t held. (right t held).1)
+                (λ e.
+                let f = told.fine e in
+                let t = two.fine f.0 in (
+                  next.fine t.0,
+                  told.stays ∙ two.source.1 ∙ next.every t.0,
                   accepted_settled settled f.1,
                 )),
-            both_trans (was_told c.args.source.now) (was_told c.loop-wanted.source)
-                (was_told c.settled.new.self) so_far.0.answers answers so_far.0.wanted
-                (c.in-Some.wanted ∷ []) so_far.1
-                (both_on (was_told c.loop-wanted.source) (was_told c.next.new.self)
-                (was_told c.settled.new.self) answers (c.in-Some.wanted ∷ []) next.told
-                (subst (λ l. TellsBoth (was_told c.next.new.self) (was_told c.settled.new.self)
-                (answers_of l settled) []) next.last told.told)),
+            both_trans (was_told c.args.source.now) (was_told begun) (was_told last)
+                so_far.0.answers answers so_far.0.wanted (w ∷ []) so_far.1
+                (both_on (was_told begun) (was_told taken) (was_told last) answers (w ∷ [])
+                (both_gives (was_told begun) (g.S.Source.offers c.next.new.self w)
+                (was_told taken) [] [] (w ∷ []) next.told
+                (subst (λ (o : Option Settled). TellsBoth (g.S.Source.offers c.next.new.self w)
+                (was_told taken) [] (given_if (Ok o) w)) some two.told))
+                (subst (λ l. TellsBoth (was_told taken) (was_told last) (answers_of l settled) [])
+                (two.source.2 ∙ next.last) told.told)),
           );
-      fine = λ e. is.fine (next.fine (told.fine e).0);
+      fine = λ e. is.fine (next.fine (two.fine (told.fine e).0).0);
+    }
+
+pub loop-wanted-preserved-in_default-2 : goal.loop-wanted-preserved-in_default-2
+loop-wanted-preserved-in_default-2 g c =
+    let state = g.D.Disk.state in
+    let given = g.S.Source.given in
+    let place = g.S.Source.place in
+    let was_told = g.S.Source.was_told in
+    let names = g.S.Source.names c.args.source.now in
+    let old = c.args.server.now in
+    let mid = c.loop-wanted.server in
+    let new = c.settle_taken.new.server in
+    let begun = c.loop-wanted.source in
+    let taken = c.settle_taken.new.source in
+    let w = c.in-Some.wanted in
+    let none = c.in_default-2.is in
+    let is = c.loop-wanted.invariant in
+    let two = c.in_ok-settled.ensures in
+    let next = c.in-Some.ensures in
+    let n = next.named in
+    let low = n.1 in
+    let high = n.2 in
+    let stays = two.source.1 in
+    record {
+      keeps = keeps_on (state old.disk) (state mid.disk) (state new.disk) is.keeps two.keeps;
+      calm = calm_on old mid new (state old.disk) (state mid.disk) (state new.disk) is.calm
+          two.faults;
+      same = two.source.0 ∙ next.same ∙ is.same;
+      so_far = λ s holds honest.
+          let was = two.keeps.was_honest honest in
+          let so_far = is.so_far s holds was in (
+            settled_left old mid new (state old.disk) (state mid.disk) (state new.disk) s names
+                (place c.args.source.now) (place begun) (place taken)
+                (given c.args.source.now) (given begun) (given taken) (g.S.Source.is_fine begun)
+                (g.S.Source.is_fine taken) (omega (arith, low, high, stays))
+                (gives_trans (given begun) (given c.next.new.self) (given taken) [] [] next.gives
+                (subst (λ (o : Option Settled). Gives (given c.next.new.self) (given taken)
+                (given_if (Ok o) w)) none two.gives))
+                (λ e. (two.fine e).1 (ap Ok none)) so_far.0
+                (λ t held. subst (λ (o : Option Settled). HasRun mid new (state mid.disk)
+                (state new.disk) t (commands_if (Ok o) t.carousel.objects w) (marks_if (Ok o)) None)
+                none (two.run t held honest)),
+            both_kept (was_told c.args.source.now) (was_told begun) (was_told taken)
+                so_far.0.answers so_far.0.wanted so_far.1
+                (both_gives (was_told begun) (g.S.Source.offers c.next.new.self w)
+                (was_told taken) [] [] [] next.told
+                (subst (λ (o : Option Settled). TellsBoth (g.S.Source.offers c.next.new.self w)
+                (was_told taken) [] (given_if (Ok o) w)) none two.told)),
+          );
+      fine = λ e. is.fine (next.fine (two.fine e).0);
     }
 
 pub loop-wanted-smaller : goal.loop-wanted-smaller
 loop-wanted-smaller g c =
     let next = c.in-Some.ensures in
+    let two = c.in_ok-settled.ensures in
     let told = c.settled.ensures in
     let n = next.named in
-    fewer _ _ _ n.0 _ _ (ap length (told.same ∙ next.same)) n.1 n.2 told.stays
+    fewer _ _ _ n.0 _ _ (ap length (told.same ∙ two.source.0 ∙ next.same)) n.1 n.2
+    (told.stays ∙ two.source.1) (slice_get_within _ n.0 _ n.3)
+
+pub loop-wanted-smaller-in_default-2 : goal.loop-wanted-smaller-in_default-2
+loop-wanted-smaller-in_default-2 g c =
+    let next = c.in-Some.ensures in
+    let two = c.in_ok-settled.ensures in
+    let n = next.named in
+    fewer _ _ _ n.0 _ _ (ap length (two.source.0 ∙ next.same)) n.1 n.2 two.source.1
     (slice_get_within _ n.0 _ n.3)
 
 pub returns-in_default-clause-keeps : goal.returns-in_default-clause-keeps
@@ -176,11 +266,12 @@ pub returns-in_err-settled-clause-keeps : goal.returns-in_err-settled-clause-kee
 returns-in_err-settled-clause-keeps g c =
     let state = g.D.Disk.state in
     keeps_on (state c.args.server.now.disk) (state c.loop-wanted.server.disk)
-    (state c.settle.new.server.disk) c.loop-wanted.invariant.keeps c.in_err-settled.ensures.keeps
+    (state c.settle_taken.new.server.disk) c.loop-wanted.invariant.keeps
+    c.in_err-settled.ensures.keeps
 
 pub returns-in_err-settled-clause-fine : goal.returns-in_err-settled-clause-fine
 returns-in_err-settled-clause-fine g c = λ e.
-    c.loop-wanted.invariant.fine (c.in-Some.ensures.fine e)
+    c.loop-wanted.invariant.fine (c.in-Some.ensures.fine (c.in_err-settled.ensures.fine e).0)
 
 pub returns-in_default-clause-ended : goal.returns-in_default-clause-ended
 returns-in_default-clause-ended g c =

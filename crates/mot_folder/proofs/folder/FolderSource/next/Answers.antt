@@ -1,8 +1,8 @@
-use Rattle.std.proofs.Common.{◌≡◌, ◌∙◌, ◌+◌, ◌<◌, ◌∷◌, [], Some, arith, length, refl, subst, sym}
+use Rattle.std.proofs.Common.{◌≡◌, ◌∙◌, ◌+◌, ◌<◌, [], Some, arith, length, refl, subst, sym}
 use Rattle.std.proofs.lemmas.Option.{slice_get_read}
 use Rattle.std.specs.Prelude.{slice_get}
-use Rattle.mot_folder.proofs.Taken.{then_given, then_missed}
-use Rattle.mot_folder.specs.Inner.Reading.{TellsFile, TellsLook}
+use Rattle.mot_folder.proofs.Taken.{then_missed, then_offered}
+use Rattle.mot_folder.specs.Inner.Reading.{TellsFile, TellsLook, TellsOffered}
 use Rattle.mot_folder.proofs.folder.FolderSource.next.Goals as goal
 use Rattle.mot_update.specs.Told.{TellsBoth}
 
@@ -19,10 +19,11 @@ returns-in-Ok-clause-told g c =
     let at : slice_get names mid.place ≡ Some name =
     slice_get_read names (length names) mid.place name refl within c.index-name.ensures in
     subst (λ p. TellsBoth (TellsLook old.types.now (path old.shelf) (gave old.shelf)
-    old.names.names.items old.place old.report old.sizes.waiting) (TellsLook mid.types.now p
-    (gave c.read.new.shelf) names (mid.place + 1) mid.report mid.sizes.waiting) [] (c.in-Ok.wanted ∷ []))
+    old.names.names.items old.place old.report old.sizes.waiting) (TellsOffered mid.types.now p
+    (gave c.read.new.shelf) names (mid.place + 1) mid.report mid.sizes.waiting c.in-Ok.wanted) []
+    [])
     (sym c.in-Ok.ensures.same)
-    (then_given mid.types.now (path mid.shelf) names
+    (then_offered mid.types.now (path mid.shelf) names
     (TellsLook old.types.now (path old.shelf) (gave old.shelf) old.names.names.items old.place
     old.report old.sizes.waiting) (gave mid.shelf) (gave c.read.new.shelf) mid.place mid.report
     mid.sizes.waiting name c.in-Ok.wanted

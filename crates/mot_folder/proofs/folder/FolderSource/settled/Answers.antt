@@ -1,6 +1,6 @@
 use Rattle.std.proofs.Common.{◌-◌, [], subst, sym, take}
 use Rattle.std.specs.Prelude.{slice_get}
-use Rattle.mot_folder.proofs.Taken.{look_on}
+use Rattle.mot_folder.proofs.Taken.{answers_kept, look_on}
 use Rattle.mot_folder.specs.Inner.Names.{name_or_none}
 use Rattle.mot_folder.specs.Log.{TellsOf}
 use Rattle.mot_folder.proofs.folder.FolderSource.settled.Goals as goal
@@ -19,4 +19,6 @@ returns-clause-told g c =
     report self.sizes.waiting c.and_settled-waiting.result answers [] (λ is. is)
     (subst (λ n. TellsBoth (TellsOf types given self.report self.sizes.waiting seen)
     (TellsOf types given report n seen) answers []) (sym c.and_settled-waiting.ensures)
-    (c.tell_settled.ensures.told types given seen))
+    (c.tell_settled.ensures.told types given seen
+    (answers_kept given.kept (name_or_none (slice_get names (self.place - 1))) c.args.settled
+    c.requires)))

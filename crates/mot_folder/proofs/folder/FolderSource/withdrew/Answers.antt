@@ -15,6 +15,7 @@ returns-clause-told g c =
     look_on types (g.S.Shelf.path self.shelf) names given given self.place self.place self.report
     c.answered.new.self self.sizes.waiting self.sizes.waiting _ [] (λ is. is)
     (of_answer types given self.report c.answered.new.self self.sizes.waiting (take self.place names)
-    (Withdrew c.args.name.now c.args.attempt) Unsaid c.answered.ensures.any c.answered.ensures.stays
+    (Withdrew c.args.name.now c.args.attempt) Unsaid c.answered.ensures.any
+    c.answered.ensures.stays tt
     (subst (λ n. TellsOne self.report c.answered.new.self
     (answered deed.Withdraw n c.args.attempt)) c.as_bytes.ensures.value c.answered.ensures.told))

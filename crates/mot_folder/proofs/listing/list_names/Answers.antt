@@ -4,7 +4,7 @@ use Rattle.mot_folder.specs.Looked.{IsUnlisted}
 use Rattle.mot_folder.proofs.Seen.{is_listing, is_unlisted}
 use Rattle.mot_folder.proofs.Unlisted.{why_same}
 use Rattle.mot_numbers.proofs.Laws.{same_error}
-use Rattle.mot_folder.proofs.listing.list.Goals as goal
+use Rattle.mot_folder.proofs.listing.list_names.Goals as goal
 
 pub returns-clause-listed : goal.returns-clause-listed
 returns-clause-listed g c =

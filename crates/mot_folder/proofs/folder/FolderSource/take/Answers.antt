@@ -1,0 +1,62 @@
+use Rattle.std.proofs.Common.{◌≡◌, ◌∙◌, ◌-◌, ◌++◌, ◌∷◌, [], subst, sym, true}
+use Rattle.std.specs.Prelude.{slice_get}
+use Rattle.mot_folder.proofs.Taken.{known_last, then_kept, then_left, then_taken}
+use Rattle.mot_folder.specs.Inner.Names.{name_or_none}
+use Rattle.mot_folder.specs.Inner.Reading.{TellsFile, TellsLook, TellsOffered}
+use Rattle.mot_folder.proofs.folder.FolderSource.take.Goals as goal
+use Rattle.mot_shelf.specs.Given.{Given, and_missed}
+use Rattle.mot_update.specs.Told.{TellsBoth}
+use Rattle.mot_update.specs.Updating.{is_known}
+
+pub returns-then-not-is_new-clause-told : goal.returns-then-not-is_new-clause-told
+returns-then-not-is_new-clause-told g c =
+    let self = c.args.self.now in
+    then_taken self.types.now (g.S.Shelf.path self.shelf) self.names.names.items
+    (g.S.Shelf.gave self.shelf) self.place self.report self.sizes.waiting c.args.wanted.now
+
+pub returns-in-Ok-clause-told : goal.returns-in-Ok-clause-told
+returns-in-Ok-clause-told g c =
+    let self = c.args.self.now in
+    let types = self.types.now in
+    let path = g.S.Shelf.path in
+    let gave = g.S.Shelf.gave in
+    let names = self.names.names.items in
+    let wanted = c.args.wanted.now in
+    subst (λ p. TellsBoth
+    (TellsOffered types (path self.shelf) (gave self.shelf) names self.place self.report
+    self.sizes.waiting wanted)
+    (TellsLook types p (gave c.keep.new.self) names self.place self.report self.sizes.waiting) []
+    (wanted ∷ [])) (sym c.in-Ok.ensures.same)
+    (then_kept types (path self.shelf) names (gave self.shelf) (gave c.keep.new.self) self.place
+    self.report self.sizes.waiting wanted c.as_bytes-name.result.now c.in-Ok.ensures.gave)
+
+pub returns-in-Ok-clause-lasts : goal.returns-in-Ok-clause-lasts
+returns-in-Ok-clause-lasts g c = λ is_new taken.
+    let self = c.args.self.now in
+    let kept = (g.S.Shelf.gave self.shelf).kept in
+    let name = c.as_bytes-name.result.now in
+    let last = name_or_none (slice_get self.names.names.items (self.place - 1)) in
+    let is : name ≡ last = c.as_bytes-name.ensures.value ∙ sym c.requires in
+    subst (λ (k : Given). is_known k.kept last ≡ true) (sym c.in-Ok.ensures.gave)
+    (subst (λ n. is_known (kept ++ name ∷ []) n ≡ true) is (known_last kept name))
+
+pub returns-in-Err-clause-told : goal.returns-in-Err-clause-told
+returns-in-Err-clause-told g c =
+    let self = c.args.self.now in
+    let types = self.types.now in
+    let path = g.S.Shelf.path in
+    let gave = g.S.Shelf.gave in
+    let names = self.names.names.items in
+    let wanted = c.args.wanted.now in
+    let report = c.tell_untaken.new.report in
+    let is = c.as_bytes-name.ensures.value in
+    subst (λ p. TellsBoth
+    (TellsOffered types (path self.shelf) (gave self.shelf) names self.place self.report
+    self.sizes.waiting wanted)
+    (TellsLook types p (gave c.keep.new.self) names self.place report self.sizes.waiting) [] [])
+    (sym c.in-Err.ensures.same)
+    (then_left types (path self.shelf) names (gave self.shelf) (gave c.keep.new.self) self.place
+    self.report report self.sizes.waiting wanted
+    (subst (λ n. gave c.keep.new.self ≡ and_missed (gave self.shelf) n) is c.in-Err.ensures.gave)
+    c.tell_untaken.ensures.any c.tell_untaken.ensures.stays
+    (subst (λ n. TellsFile self.report report n) is c.tell_untaken.ensures.told))

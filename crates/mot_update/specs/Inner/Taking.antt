@@ -1,0 +1,48 @@
+-- What came of an object that a source offered: it was not given, or it was settled so, or a fault
+-- came.
+use Rattle.std.specs.Prelude.{◌≡◌, Bool, true, false, List, [], ◌∷◌, Option, Some, None, Result}
+use Rattle.std.specs.Prelude.{Ok, Err, ⊤}
+use Rattle.mot_journal.specs.Image.{Standing}
+use Rattle.mot_journal.specs.declared.layout.Layout.{Layout}
+use Rattle.mot_numbers.specs.declared.refusal.Refusal.{Refusal}
+use Rattle.mot_objects.specs.Carousel.{Object}
+use Rattle.mot_objects.specs.declared.command.Command.{Command}
+use Rattle.mot_update.specs.HasRun.{marks_of_settling}
+use Rattle.mot_update.specs.Told.{AreAttemptsOf, answers_of, commands_of}
+use Rattle.mot_update.specs.Updating.{settling}
+use Rattle.mot_update.specs.declared.settling.Need.{Need}
+use Rattle.mot_update.specs.declared.settling.Need.TheVariants as need
+use Rattle.mot_update.specs.declared.settling.Settled.{Settled}
+use Rattle.mot_update.specs.declared.wanted.Wanted.{Wanted}
+
+-- whether a command is needed
+abbrev pub is_command : Result Need Refusal → Bool
+is_command (Ok need.Nothing) = false
+is_command (Ok need.Put) = true
+is_command (Ok need.Replace) = true
+is_command (Err refusal) = false
+
+-- what was given
+abbrev pub given_if : Result (Option Settled) Refusal → Wanted → List Wanted
+given_if (Ok None) w = []
+given_if (Ok (Some settled)) w = w ∷ []
+given_if (Err refusal) w = w ∷ []
+
+-- what was to be done for it, and the marks of what was answered
+abbrev pub commands_if : Result (Option Settled) Refusal → List Object → Wanted → List Command
+commands_if (Ok None) objects w = []
+commands_if (Ok (Some settled)) objects w = settling objects w
+commands_if (Err refusal) objects w = settling objects w
+
+abbrev pub marks_if : Result (Option Settled) Refusal → List Bool
+marks_if (Ok None) = []
+marks_if (Ok (Some settled)) = marks_of_settling (Ok settled)
+marks_if (Err refusal) = []
+
+-- what was done is what was to be done, and its ids and its refusal are the command's
+abbrev pub IsDoneRightly : Layout → Standing → Wanted → Result (Option Settled) Refusal → Type 0
+IsDoneRightly layout s w (Ok None) = ⊤
+IsDoneRightly layout s w (Ok (Some settled)) =
+    (settling s.carousel.objects w ≡ commands_of settled w)
+    × AreAttemptsOf layout s (settling s.carousel.objects w) (answers_of w.name settled)
+IsDoneRightly layout s w (Err refusal) = ⊤
