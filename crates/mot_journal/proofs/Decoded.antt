@@ -5,7 +5,8 @@ use Rattle.std.proofs.Common.{arith}
 use Rattle.std.specs.Prelude.{if◌then◌else◌, ◌==◌, nat_lt, slice_index, ◌&&◌}
 use Rattle.std.specs.Option.{option_map_or}
 use Rattle.std.proofs.lemmas.List.{drop-drop, length-take, length-drop}
-use Rattle.std.proofs.lemmas.Bool.{lt-ltb, false_from_ne_true}
+use Rattle.std.proofs.lemmas.Bool.{cases_lt, lt-ltb, false_from_ne_true}
+use Rattle.mot_journal.specs.Faults.{IsOutside}
 use Rattle.mot_numbers.specs.Reading.{◌>>=◌}
 use Rattle.std.proofs.lemmas.Bool.Decides.{nat_tests}
 use Rattle.mot_journal.specs.declared.layout.Layout.{Layout}
@@ -13,9 +14,13 @@ use Rattle.mot_journal.specs.declared.record.Record.{Record}
 use Rattle.mot_journal.specs.declared.record.Action.{Action}
 use Rattle.mot_journal.specs.declared.record.Action.TheVariants.{Nothing, Remove}
 use Rattle.mot_journal.specs.Geometry.{columns}
+use Rattle.mot_journal.specs.Inner.Unread.{BreaksSlot}
+use Rattle.mot_journal.specs.declared.decoding.SlotFault.{SlotFault}
+use Rattle.mot_journal.specs.declared.decoding.SlotFault.TheVariants.{OutOfMemory, Field}
 use Rattle.mot_journal.specs.Slot.{short_text_in, read_slot, is_sound, is_sound_action, kind_base}
 use Rattle.mot_journal.specs.Slot.{slot_columns, record_in, action_in}
-use Rattle.mot_journal.specs.Inner.Reading.{number_at, content_at, if_sound, set_in_slot}
+use Rattle.mot_journal.specs.Inner.Reading.{content_at, if_sound, set_in_slot}
+use Rattle.mot_journal.specs.Geometry.{number_at}
 use Rattle.mot_journal.specs.Inner.Reading.{action_in_slot, sound_action_of, name_from, mime_from}
 use Rattle.mot_numbers.specs.declared.geometry.Geometry.{Geometry}
 use Rattle.mot_objects.specs.Name.{IsName}
@@ -156,6 +161,19 @@ module _ (g : Geometry) (layout : Layout) (slot : List ℕ) where
       ∙ ap (λ (b : Bool). (if b then act-of set else if k == 3 then act-of remove else None)
       >>= if_sound g layout) e2
       ∙ ap (λ (b : Bool). (if b then act-of remove else None) >>= if_sound g layout) e3
+
+-- where nothing is read if nothing else is, it has the fault of the other
+pub unread_by : {A B : Type 0} (a : Option A) (b : Option B) (g : Geometry) (layout : Layout)
+    (slot : List ℕ) (fault : SlotFault) → (b ≡ None → a ≡ None) → BreaksSlot b g layout slot fault
+    → BreaksSlot a g layout slot fault
+unread_by a b g layout slot OutOfMemory e is = tt
+unread_by a b g layout slot (Field fault) e is = (e is.0, is.1)
+
+-- a kind that is none of the three is outside of them
+pub outside_kinds : (k b : ℕ) → (k - b ≡ 1 → ⊥) → (k - b ≡ 2 → ⊥) → (k - b ≡ 3 → ⊥)
+    → IsOutside (b + 1) (b + 3) k
+outside_kinds k b n1 n2 n3 =
+    elim (cases_lt k (b + 1)) [ inl low ↦ inl low | inr le ↦ inr (omega arith) ]
 
 -- the columns of a slot, by their places
 abbrev pub places : List ℕ → ℕ → List ℕ → List ℕ

@@ -22,7 +22,7 @@ use Rattle.mot_journal.specs.Slot.{bytes_of_slot, kind_base, action_kind}
 use Rattle.mot_journal.specs.Image.{catalogue_of, or_damaged}
 use Rattle.mot_numbers.specs.Refusal.{◌>>=◌}
 use Rattle.mot_journal.specs.Image.{records_in, area_of, are_gates_clean}
-use Rattle.mot_journal.specs.Inner.Reading.{number_at}
+use Rattle.mot_journal.specs.Geometry.{number_at}
 use Rattle.mot_journal.specs.Inner.Steps.{slot_from, IsReadable, HasSlots}
 use Rattle.mot_journal.specs.Journal.{JournalView, in_other_half}
 use Rattle.mot_journal.proofs.Laws.{drop_behind, part, geometry_stays, half_selected_stays}

@@ -2,10 +2,14 @@
 use Rattle.std.proofs.Common.{◌≡◌, ℕ, ◌+◌, ◌<◌, ◌≤◌, Bool, true, false, List, [], ◌∷◌, ◌++◌, length}
 use Rattle.std.proofs.Common.{take, drop, Option, Some, None, refl, sym, ◌∙◌, ap, arith}
 use Rattle.std.specs.Prelude.{if◌then◌else◌, nat_le, ◌&&◌, bytes_eq}
-use Rattle.std.proofs.lemmas.Bool.{leb-true, false_from_ne_true}
+use Rattle.std.proofs.lemmas.Bool.{leb-true, le-leb, false_from_ne_true}
 use Rattle.std.proofs.lemmas.List.{length-drop, length-append, drop-append-le, take-append-le}
-use Rattle.mot_journal.specs.Geometry.{geometry_of, geometry_in, has_magic, magic}
-use Rattle.mot_journal.specs.Inner.Reading.{number_at}
+use Rattle.mot_journal.specs.Faults.{HasHeadFault}
+use Rattle.mot_journal.specs.Geometry.{geometry_of, geometry_in, has_magic, head_numbers, magic}
+use Rattle.mot_journal.specs.Inner.Loading.{HasRangeFault, IsNoHead}
+use Rattle.mot_journal.specs.declared.reason.HeadFault.{HeadFault}
+use Rattle.mot_journal.specs.declared.reason.HeadFault.TheVariants.{Short, Foreign, OutOfRange, Cut}
+use Rattle.mot_journal.specs.Geometry.{number_at}
 use Rattle.mot_journal.proofs.Decoded.{columns_from, and-false}
 use Rattle.mot_numbers.specs.Fields.{number_in}
 use Rattle.mot_numbers.specs.Reading.{◌>>=◌}
@@ -61,35 +65,6 @@ geometry_by_places image =
     && nat_le (length_of g) (length image))))
     (columns_from (8 ∷ 1 ∷ 7 ∷ 2 ∷ 2 ∷ 2 ∷ 2 ∷ 4 ∷ []) 0 image)
 
--- the geometry of 64 bytes and what follows, by the numbers that were read of the 64
-pub geometry_from : (head rest : List ℕ) (g : Geometry) (len : ℕ) → length head ≡ 64
-    → 64 + length rest ≡ len
-    → g.objects ≡ number_at 16 2 head → g.segment ≡ number_at 18 2 head
-    → g.address ≡ number_at 20 2 head → g.packet ≡ number_at 22 2 head
-    → g.area ≡ number_at 24 4 head
-    → geometry_of (head ++ rest)
-    ≡ geometry_if g (bytes_eq (take 8 head) magic && is_valid g && nat_le (length_of g) len)
-geometry_from head rest g len whole long e1 e2 e3 e4 e5 =
-    let image : List ℕ = head ++ rest in
-    let n1 = number_front head rest 16 2 (omega (arith, whole)) in
-    let n2 = number_front head rest 18 2 (omega (arith, whole)) in
-    let n3 = number_front head rest 20 2 (omega (arith, whole)) in
-    let n4 = number_front head rest 22 2 (omega (arith, whole)) in
-    let n5 = number_front head rest 24 4 (omega (arith, whole)) in
-    let same = same-geometry g (number_at 16 2 image) (number_at 18 2 image) (number_at 20 2 image)
-    (number_at 22 2 image) (number_at 24 4 image)
-    (e1 ∙ sym n1) (e2 ∙ sym n2) (e3 ∙ sym n3) (e4 ∙ sym n4) (e5 ∙ sym n5) in
-    let size : length image ≡ len =
-    length-append head rest ∙ ap (λ k. k + length rest) whole ∙ long in
-    geometry_by_places image
-    ∙ ap (λ (x : Geometry). geometry_if x
-    (has_magic image && is_valid x && nat_le (length_of x) (length image))) same
-    ∙ ap (λ l. geometry_if g
-    (bytes_eq l magic && is_valid g && nat_le (length_of g) (length image)))
-    (take-append-le 8 head rest (omega (arith, whole)))
-    ∙ ap (λ k. geometry_if g (bytes_eq (take 8 head) magic && is_valid g && nat_le (length_of g) k))
-    size
-
 -- a disk of less than 64 bytes has none
 pub short_has_none : (image : List ℕ) → length image < 64 → geometry_of image ≡ None
 short_has_none image short =
@@ -120,6 +95,100 @@ second_false g false b c e = refl
 -- a failed third test leaves no geometry
 pub third_false : (g : Geometry) (a b c : Bool) → c ≡ false → geometry_if g (a && b && c) ≡ None
 third_false g a b c e = ap (λ x. geometry_if g x) (and-false (a && b) c e)
+
+-- a number of the head that is out of its range is a fault of the head
+pub range_of_head : (image : List ℕ) (g : Geometry) (fault : HeadFault) → has_magic image ≡ true
+    → head_numbers image ≡ Some g → HasRangeFault g fault → HasHeadFault image fault
+range_of_head image g (OutOfRange size number) m e is = (m, (g, e, is.0, is.1))
+range_of_head image g (Short len) m e is = absurd is
+range_of_head image g Foreign m e is = absurd is
+range_of_head image g (Cut len asked) m e is = absurd is
+
+-- the numbers that were read of a head of 64 bytes
+pub record AreRead (head : List ℕ) (g : Geometry) : Type 0 where
+  pub whole : length head ≡ 64
+  pub objects : g.objects ≡ number_at 16 2 head
+  pub segment : g.segment ≡ number_at 18 2 head
+  pub address : g.address ≡ number_at 20 2 head
+  pub packet : g.packet ≡ number_at 22 2 head
+  pub area : g.area ≡ number_at 24 4 head
+
+module _ (head rest : List ℕ) (g : Geometry) (len : ℕ) (read : AreRead head g)
+    (long : 64 + length rest ≡ len) where
+  -- the numbers of 64 bytes and what follows are those that were read of the 64
+  numbers_from : head_numbers (head ++ rest) ≡ Some g
+  numbers_from =
+      let image : List ℕ = head ++ rest in
+      let w = read.whole in
+      let n1 = number_front head rest 16 2 (omega (arith, w)) in
+      let n2 = number_front head rest 18 2 (omega (arith, w)) in
+      let n3 = number_front head rest 20 2 (omega (arith, w)) in
+      let n4 = number_front head rest 22 2 (omega (arith, w)) in
+      let n5 = number_front head rest 24 4 (omega (arith, w)) in
+      ap geometry_in (columns_from (8 ∷ 1 ∷ 7 ∷ 2 ∷ 2 ∷ 2 ∷ 2 ∷ 4 ∷ []) 0 image)
+      ∙ ap (λ x. geometry_if x true)
+      (same-geometry g (number_at 16 2 image) (number_at 18 2 image) (number_at 20 2 image)
+      (number_at 22 2 image) (number_at 24 4 image)
+      (read.objects ∙ sym n1) (read.segment ∙ sym n2) (read.address ∙ sym n3)
+      (read.packet ∙ sym n4) (read.area ∙ sym n5))
+
+  -- 64 bytes and what follows are as long as the disk
+  whole_length : len ≡ length (head ++ rest)
+  whole_length = sym (length-append head rest ∙ ap (λ k. k + length rest) read.whole ∙ long)
+
+  -- the magic stands in the 64 bytes
+  magic_from : has_magic (head ++ rest) ≡ bytes_eq (take 8 head) magic
+  magic_from =
+      let w = read.whole in
+      ap (λ l. bytes_eq l magic) (take-append-le 8 head rest (omega (arith, w)))
+
+  -- the geometry of 64 bytes and what follows, by the numbers that were read of the 64
+  geometry_from : geometry_of (head ++ rest)
+      ≡ geometry_if g (bytes_eq (take 8 head) magic && is_valid g && nat_le (length_of g) len)
+  unfolding geometry_of
+  geometry_from =
+      ap (λ o. ◌>>=◌ o (λ x. geometry_if x (has_magic (head ++ rest) && is_valid x
+      && nat_le (length_of x) (length (head ++ rest))))) numbers_from
+      ∙ ap (λ b. geometry_if g (b && is_valid g && nat_le (length_of g) (length (head ++ rest))))
+      magic_from
+      ∙ ap (λ k. geometry_if g (bytes_eq (take 8 head) magic && is_valid g
+      && nat_le (length_of g) k)) (sym whole_length)
+
+  -- no magic
+  pub foreign_told : bytes_eq (take 8 head) magic ≡ false → IsNoHead (head ++ rest) Foreign
+  foreign_told other = (
+    geometry_from
+        ∙ first_false g (bytes_eq (take 8 head) magic) (is_valid g) (nat_le (length_of g) len) other,
+    magic_from ∙ other,
+  )
+
+  -- the magic, and a number that is out of its range
+  pub range_told : (fault : HeadFault) → bytes_eq (take 8 head) magic ≡ true → is_valid g ≡ false
+      → HasRangeFault g fault → IsNoHead (head ++ rest) fault
+  range_told fault same bad is = (
+    geometry_from
+        ∙ second_false g (bytes_eq (take 8 head) magic) (is_valid g) (nat_le (length_of g) len) bad,
+    range_of_head (head ++ rest) g fault (magic_from ∙ same) numbers_from is,
+  )
+
+  -- the magic, and a disk that is shorter than its numbers ask
+  pub cut_told : (asked : ℕ) → bytes_eq (take 8 head) magic ≡ true → asked ≡ length_of g
+      → len < asked → IsNoHead (head ++ rest) (Cut len asked)
+  cut_told asked same is short =
+      let small : nat_le (length_of g) len ≡ false = false_from_ne_true (nat_le (length_of g) len)
+      (λ e. absurd (omega (arith, leb-true (length_of g) len e, is, short))) in (
+        geometry_from
+            ∙ third_false g (bytes_eq (take 8 head) magic) (is_valid g) (nat_le (length_of g) len)
+            small,
+        (magic_from ∙ same, (g, numbers_from, whole_length, is, short)),
+      )
+
+  -- the magic, numbers in their ranges, and a disk that is long enough
+  pub read_told : bytes_eq (take 8 head) magic ≡ true → is_valid g ≡ true → length_of g ≤ len
+      → Some g ≡ geometry_of (head ++ rest)
+  read_told same good fits =
+      sym (geometry_from ∙ all_three g (bytes_eq (take 8 head) magic) (is_valid g)
+      (nat_le (length_of g) len) same good (le-leb (length_of g) len fits))
 
 -- each image has one geometry that it is of, if three tests hold
 pub has_geometry_if : (image : List ℕ)

@@ -1,16 +1,27 @@
 -- What `load` makes of two reads: of the first 64 bytes of a disk, and of the half that they
 -- select.
-use Rattle.std.proofs.Common.{◌≡◌, ℕ, ◌+◌, ◌-◌, ◌≤◌, Bool, true, false, List, ◌++◌, length, take}
+use Rattle.std.proofs.Common.{◌≡◌, ℕ, ◌+◌, ◌-◌, ◌*◌, ◌≤◌, Bool, true, false, List, ◌++◌, length, take}
 use Rattle.std.proofs.Common.{drop, replicate, Option, Some, None, Result, Ok, Err, refl, sym, ◌∙◌}
 use Rattle.std.proofs.Common.{ap, subst, arith, take-append-drop}
-use Rattle.std.specs.Prelude.{if◌then◌else◌, nat_le, ◌==◌, slice_index, is_err, OnOk}
+use Rattle.std.specs.Prelude.{if◌then◌else◌, nat_le, ◌==◌, slice_index, is_err, IfSome, OnOk}
 use Rattle.std.proofs.lemmas.Bool.{leb-true}
 use Rattle.std.proofs.lemmas.List.{length-drop, length-append, length-replicate, get_or-take}
 use Rattle.std.proofs.Math.Seq.{take-append_seam}
 use Rattle.disk_model.specs.Disk.{State}
 use Rattle.mot_journal.specs.Geometry.{geometry_of, selected_half}
 use Rattle.mot_numbers.specs.Refusal.{◌>>=◌}
-use Rattle.mot_journal.specs.Image.{records_of, half_of, journal_in_half}
+use Rattle.mot_journal.specs.Image.{DiskRecords, records_of, half_of, journal_in_half}
+use Rattle.mot_journal.specs.Faults.{HasFieldFault}
+use Rattle.mot_journal.specs.Inner.Loading.{IsNoHead, IsSlotReason}
+use Rattle.mot_journal.specs.Reason.{IsReasonOf, refusal_of, slot_of}
+use Rattle.mot_journal.specs.Slot.{layout_of, slot_size}
+use Rattle.mot_journal.specs.declared.layout.Layout.{Layout}
+use Rattle.mot_journal.specs.declared.reason.FieldFault.{FieldFault}
+use Rattle.mot_journal.specs.declared.reason.Reason.TheVariants.{Head, Field, List as InList}
+use Rattle.mot_journal.specs.declared.reason.Reason.TheVariants.{Formatted, Small}
+use Rattle.mot_journal.specs.declared.reason.Fault.{Fault}
+use Rattle.mot_journal.specs.declared.reason.HeadFault.{HeadFault}
+use Rattle.mot_journal.specs.declared.reason.Reason.{Reason}
 use Rattle.mot_journal.specs.Image.{or_not_formatted}
 use Rattle.mot_journal.specs.Inner.Loading.{IsHalfRefusal}
 use Rattle.mot_journal.specs.Inner.Loading.IsHalfRefusal.{no_memory as half_memory}
@@ -52,6 +63,25 @@ geometry_told bytes head len o long fits is told =
     told (drop 64 bytes) (omega (arith, length-drop 64 bytes))
     ∙ ap (λ h. geometry_of (h ++ drop 64 bytes)) is ∙ ap geometry_of (take-append-drop 64 bytes)
 
+-- the first 64 bytes tell the fault of the whole
+pub fault_told : (bytes head : List ℕ) (len : ℕ) (fault : HeadFault) → length bytes ≡ len
+    → 64 ≤ len → head ≡ take 64 bytes
+    → ((rest : List ℕ) → 64 + length rest ≡ len → IsNoHead (head ++ rest) fault)
+    → IsNoHead bytes fault
+fault_told bytes head len fault long fits is told =
+    let whole : head ++ drop 64 bytes ≡ bytes =
+    ap (λ h. h ++ drop 64 bytes) is ∙ take-append-drop 64 bytes in
+    subst (λ image. IsNoHead image fault) whole
+    (told (drop 64 bytes) (omega (arith, length-drop 64 bytes)))
+
+-- records that are refused
+abbrev pub refused : Refusal → Result DiskRecords Refusal
+refused refusal = Err refusal
+
+-- the fault of a reason
+abbrev pub fault_of : Reason → Fault
+fault_of reason = record { refusal = refusal_of reason; reason = Some reason }
+
 -- no geometry: the disk is not formatted
 pub none_formatted : (bytes : List ℕ) → geometry_of bytes ≡ None
     → records_of bytes ≡ Err NotFormatted
@@ -60,21 +90,57 @@ none_formatted bytes e =
     ap (λ o. ◌>>=◌ (or_not_formatted o)
     (λ g. journal_in_half g (selected_half bytes) (half_of g bytes))) e
 
--- the half that is selected has what the disk has
-pub half_told : (bytes head half_bytes : List ℕ) (g : Geometry) (half : ℕ) → head ≡ take 64 bytes
-    → geometry_of bytes ≡ Some g
-    → half ≡ (if slice_index head 8 == 1 then 1 else 0)
-    → half_bytes ≡ take (half_size g) (drop (half_start g half) bytes)
-    → records_of bytes ≡ journal_in_half g half half_bytes
-unfolding records_of
-half_told bytes head half_bytes g half is told chosen read =
-    let eighth : slice_index head 8 ≡ slice_index bytes 8 =
-    ap (λ l. slice_index l 8) is ∙ get_or-take 64 bytes 8 0 (omega arith) in
-    let same : half ≡ selected_half bytes = chosen ∙ ap (λ b. if b == 1 then 1 else 0) eighth in
-    ap (λ o. ◌>>=◌ (or_not_formatted o)
-    (λ (x : Geometry). journal_in_half x (selected_half bytes) (half_of x bytes))) told
-    ∙ ap (λ h. journal_in_half g h (take (half_size g) (drop (half_start g h) bytes))) (sym same)
-    ∙ ap (λ l. journal_in_half g half l) (sym read)
+-- what was read of a disk: its first 64 bytes, and the half that they select
+pub record IsHalfRead (bytes head half_bytes : List ℕ) (g : Geometry) (half : ℕ) : Type 0 where
+  pub front : head ≡ take 64 bytes
+  pub told : geometry_of bytes ≡ Some g
+  pub chosen : half ≡ (if slice_index head 8 == 1 then 1 else 0)
+  pub read : half_bytes ≡ take (half_size g) (drop (half_start g half) bytes)
+
+module _ (bytes head half_bytes : List ℕ) (g : Geometry) (half : ℕ)
+    (is : IsHalfRead bytes head half_bytes g half) where
+  same_half : half ≡ selected_half bytes
+  same_half =
+      let eighth : slice_index head 8 ≡ slice_index bytes 8 =
+      ap (λ l. slice_index l 8) is.front ∙ get_or-take 64 bytes 8 0 (omega arith) in
+      is.chosen ∙ ap (λ b. if b == 1 then 1 else 0) eighth
+
+  -- the half that is selected has what the disk has
+  pub half_told : records_of bytes ≡ journal_in_half g half half_bytes
+  unfolding records_of
+  half_told =
+      ap (λ o. ◌>>=◌ (or_not_formatted o)
+      (λ (x : Geometry). journal_in_half x (selected_half bytes) (half_of x bytes))) is.told
+      ∙ ap (λ h. journal_in_half g h (take (half_size g) (drop (half_start g h) bytes)))
+      (sym same_half)
+      ∙ ap (λ l. journal_in_half g half l) (sym is.read)
+
+  -- a reason in a slot of the half is one of the disk
+  pub reason_told : (reason : Option Reason) → IfSome reason (IsSlotReason g half_bytes)
+      → IfSome reason (IsReasonOf bytes)
+  reason_told None so = so
+  reason_told (Some (Field number fault)) so =
+      let whole : half_bytes ≡ half_of g bytes =
+      is.read ∙ ap (λ h. take (half_size g) (drop (half_start g h) bytes)) same_half in
+      record {
+        geometry = g;
+        is = is.told;
+        has = subst (λ l. HasFieldFault g (layout_of l) (slot_of l number) fault) whole so;
+      }
+  reason_told (Some (Head fault)) so = absurd so
+  reason_told (Some (InList number fault)) so = absurd so
+  reason_told (Some Formatted) so = absurd so
+  reason_told (Some (Small has asked)) so = absurd so
+
+-- a fault of a slot that was read is one of the half's slot of that number
+pub field_told : (g : Geometry) (layout : Layout) (half slot : List ℕ) (number : ℕ)
+    (fault : FieldFault) → layout ≡ layout_of half
+    → slot ≡ take (slot_size layout) (drop (number * slot_size layout) half)
+    → HasFieldFault g layout slot fault
+    → HasFieldFault g (layout_of half) (slot_of half number) fault
+field_told g layout half slot number fault is at has =
+    subst (λ l. HasFieldFault g l (take (slot_size l) (drop (number * slot_size l) half)) fault) is
+    (subst (λ s. HasFieldFault g layout s fault) at has)
 
 -- what a geometry that the first 64 bytes tell has
 pub told_good : (head : List ℕ) (len : ℕ) (g : Geometry) → length head ≡ 64 → 64 ≤ len

@@ -1,7 +1,7 @@
--- What a crash leaves while a new disk is made.
-use Rattle.std.proofs.Common.{◌≡◌, ◌⊎◌, inl, inr, ⊎_elim, ℕ, zero, suc, ◌+◌, ◌-◌, ◌*◌, ◌≤◌, true}
-use Rattle.std.proofs.Common.{false, List, [], ◌∷◌, take, slice_range, refl, sym, ◌∙◌, ap, arith}
-use Rattle.std.specs.Prelude.{bytes_eq}
+-- What a crash leaves while a disk is made.
+use Rattle.std.proofs.Common.{◌≡◌, ◌⊎◌, inl, inr, ⊎_elim, ℕ, zero, suc, ◌+◌, ◌-◌, ◌*◌, ◌<◌, ◌≤◌, true}
+use Rattle.std.proofs.Common.{false, List, [], ◌∷◌, length, take, slice_range, refl, sym, ◌∙◌, ap, arith}
+use Rattle.std.specs.Prelude.{bytes_eq, IsOk}
 use Rattle.std.proofs.lemmas.Bool.{cases_Bool, and_from, lt-ltb}
 use Rattle.disk_model.specs.Disk.{State, AgreeOutside, IsHonestDisk, WritesWithin, Torn, Throughout}
 use Rattle.disk_model.proofs.Laws.{agree_trans, agree_more, at_end, joins, weakens}
@@ -10,10 +10,13 @@ use Rattle.mot_journal.specs.Geometry.{has_magic, magic}
 use Rattle.mot_journal.specs.Slot.{slot_count, slot_size, AreSound}
 use Rattle.mot_journal.specs.Inner.Format.{first_record, behind_magic, HasAllButMagic}
 use Rattle.mot_journal.specs.Inner.Steps.{ChangesWithin, HasSlots, Publishes, LeavesWritten}
-use Rattle.mot_journal.specs.Journal.{HasAreaOf, IsNewDisk, NoneOrFrom}
+use Rattle.mot_journal.specs.Image.{catalogue_of, area_of}
+use Rattle.mot_journal.specs.Journal.{HasAreaOf}
+use Rattle.mot_journal.specs.Made.{IsMade, NoneOrMade}
+use Rattle.mot_journal.specs.declared.record.Record.{Record}
 use Rattle.mot_journal.proofs.Laws.{drop_behind, part}
 use Rattle.mot_journal.proofs.Fill.{unchanged, one_more, slot_ends, range_whole}
-use Rattle.mot_journal.proofs.NewDisk.{is_new}
+use Rattle.mot_journal.proofs.NewDisk.{made_is}
 use Rattle.mot_numbers.specs.declared.geometry.Geometry.{Geometry}
 use Rattle.mot_numbers.specs.Geometry.{IsValid, length_of, half_size, half_start, area_start}
 
@@ -71,12 +74,12 @@ module _ {g : Geometry} {old wrote mid : State} (found : Found g old wrote mid) 
   all_filled {last} second = within_joins 8 (area_start g - 8) old mid last (half_start g 1)
       (half_size g) found.mid_sound first_filled second (omega arith) (omega arith)
 
-  -- the head and both halves written so are a new disk but for its magic
+  -- the head and both halves written so are a disk but for its magic
   pub is_made : {last : State} → ChangesWithin (half_start g 1) (half_size g) mid last
-      → (directory : ℕ) → slice_range wrote.bytes 8 (8 + 56) ≡ behind_magic g
-      → HasSlots g 0 Two (first_record directory ∷ []) (slot_count Two g) mid.bytes
-      → HasSlots g 1 Two [] (slot_count Two g) last.bytes → HasAllButMagic g directory last.bytes
-  is_made {last} second directory head slots other = record {
+      → (given : List Record) → slice_range wrote.bytes 8 (8 + 56) ≡ behind_magic g
+      → HasSlots g 0 Two given (slot_count Two g) mid.bytes
+      → HasSlots g 1 Two [] (slot_count Two g) last.bytes → HasAllButMagic g given last.bytes
+  is_made {last} second given head slots other = record {
     other = other;
     head = part (half_start g 1) (half_size g) mid.bytes last.bytes second.bytes 8 56
         (omega arith)
@@ -94,11 +97,11 @@ module _ {g : Geometry} {old wrote mid : State} (found : Found g old wrote mid) 
         );
   }
 
--- outside the magic a new disk stays one
-made_stays : (g : Geometry) (directory : ℕ) (b c : List ℕ) → AgreeOutside 0 8 b c
-    → HasAllButMagic g directory b
-    → HasAllButMagic g directory c
-made_stays g directory b c agree made = record {
+-- outside the magic a disk stays what it was made
+made_stays : (g : Geometry) (given : List Record) (b c : List ℕ) → AgreeOutside 0 8 b c
+    → HasAllButMagic g given b
+    → HasAllButMagic g given c
+made_stays g given b c agree made = record {
   head = ap (λ l. take 56 l) (drop_behind 0 8 b c agree 8 (omega arith)) ∙ made.head;
   slots = λ i lt.
       let was = made.slots i lt in (
@@ -117,50 +120,70 @@ made_stays g directory b c agree made = record {
     behind : (half i : ℕ) → 0 + 8 ≤ half_start g half + i * slot_size Two
     behind half i = omega arith
 
-module _ (g : Geometry) (directory : ℕ) (valid : IsValid g) (filled : State)
-    (sound1 : IsHonestDisk filled) (long : length_of g ≤ filled.len)
-    (made : HasAllButMagic g directory filled.bytes) where
+-- records that can be written into a half of a disk, and make no fault of the list
+pub record CanBeMade (g : Geometry) (given : List Record) : Type 0 where
+  pub some : 0 < length given
+  pub few : length given ≤ slot_count Two g
+  pub fold : IsOk (catalogue_of g.objects given)
+
+module _ (g : Geometry) (given : List Record) (can : CanBeMade g given) (start filled : State)
+    (changes : ChangesWithin 8 (area_start g - 8) start filled)
+    (valid : IsValid g) (sound1 : IsHonestDisk filled) (long : length_of g ≤ filled.len)
+    (made : HasAllButMagic g given filled.bytes) where
   new : (c : List ℕ) → AgreeOutside 0 8 filled.bytes c → has_magic c ≡ true
-      → IsNewDisk g directory c
+      → IsMade g given (area_of g start.bytes) c
   new c agree named =
       let whole = (sound1.images filled.bytes sound1.bytes).len_is in
-      is_new g directory valid c (omega (arith, agree.len_is, whole, long)) named
-      (made_stays g directory filled.bytes c agree made)
+      let is = made_is g given valid c (omega (arith, agree.len_is, whole, long)) named
+      (made_stays g given filled.bytes c agree made) can.some can.few can.fold in
+      record {
+        read = is.read;
+        clean = is.clean;
+        other = is.other;
+        area = drop_behind 0 8 filled.bytes c agree (area_start g) (omega arith)
+            ∙ drop_behind 8 (area_start g - 8) start.bytes filled.bytes changes.bytes
+            (area_start g) (omega arith);
+      }
 
-  none_or_new : (c : List ℕ) → AgreeOutside 0 8 filled.bytes c → NoneOrFrom g directory c
+  none_or_new : (c : List ℕ) → AgreeOutside 0 8 filled.bytes c
+      → NoneOrMade g given (area_of g start.bytes) c
   none_or_new c agree = elim (cases_Bool (has_magic c)) [
     | inl named ↦ inr (new c agree named)
     | inr none ↦ inl none
   ]
 
-  -- once the magic is written, each image is a new disk
+  -- once the magic is written, each image is the disk that is made
   pub published : (last : State) → LeavesWritten 0 magic filled last → (c : List ℕ)
-      → last.MayLeave c → IsNewDisk g directory c
+      → last.MayLeave c → IsMade g given (area_of g start.bytes) c
   published last has c left =
       let named : has_magic c ≡ true =
       ap (λ l. bytes_eq l magic) (sym (range_whole 0 8 c) ∙ (has c left).slot_is) in
       new c (has c left).agree named
 
-module _ (g : Geometry) (directory : ℕ) (start filled : State)
+module _ (g : Geometry) (given : List Record) (start filled : State)
     (no_magic : (image : List ℕ) → start.MayLeave image → has_magic image ≡ false)
     (changes : ChangesWithin 8 (area_start g - 8) start filled) where
-  -- while all but the magic is written, a crash leaves no magic, or a new disk
-  pub filling : Throughout start filled (NoneOrFrom g directory)
-  filling = weakens start filled (Torn 8 (area_start g - 8) start) (NoneOrFrom g directory)
+  -- while all but the magic is written, a crash leaves no magic, or the disk that is made
+  pub filling : Throughout start filled (NoneOrMade g given (area_of g start.bytes))
+  filling = weakens start filled (Torn 8 (area_start g - 8) start)
+      (NoneOrMade g given (area_of g start.bytes))
       changes.time (λ c torn.
       inl (ap (λ l. bytes_eq l magic) (part 8 (area_start g - 8) torn.0 c torn.2 0 8 (omega arith))
       ∙ no_magic torn.0 torn.1))
 
   -- so it does until the magic is written
-  pub publishing : IsValid g → IsHonestDisk filled → length_of g ≤ filled.len
-      → HasAllButMagic g directory filled.bytes → (last : State)
-      → Publishes 0 8 filled last → Throughout start last (NoneOrFrom g directory)
-  publishing valid sound1 long made last publishes =
-      joins start filled last (NoneOrFrom g directory)
+  pub publishing : CanBeMade g given → IsValid g → IsHonestDisk filled → length_of g ≤ filled.len
+      → HasAllButMagic g given filled.bytes → (last : State)
+      → Publishes 0 8 filled last
+      → Throughout start last (NoneOrMade g given (area_of g start.bytes))
+  publishing can valid sound1 long made last publishes =
+      joins start filled last (NoneOrMade g given (area_of g start.bytes))
       (λ c. filled.MayLeave c ⊎ AgreeOutside 0 8 filled.bytes c) filling publishes.time
       (λ c outcome.
-      ⊎_elim (λ left. at_end start filled (NoneOrFrom g directory) sound1 filling c left)
-      (λ agree. none_or_new g directory valid filled sound1 long made c agree) outcome)
+      ⊎_elim (λ left. at_end start filled (NoneOrMade g given (area_of g start.bytes)) sound1
+      filling c left)
+      (λ agree. none_or_new g given can start filled changes valid sound1 long made c agree)
+      outcome)
 
 module _ (g : Geometry) (start filled : State)
     (changes : ChangesWithin 8 (area_start g - 8) start filled) where

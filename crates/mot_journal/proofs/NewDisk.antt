@@ -1,4 +1,4 @@
--- A new disk stands for the new carousel.
+-- A disk that is made has its records, and a new disk stands for the new carousel.
 use Rattle.std.proofs.Common.{◌≡◌, ℕ, zero, suc, ◌+◌, ◌-◌, ◌*◌, ◌<◌, ◌≤◌, true, false, ◌&&◌, ◌==◌}
 use Rattle.std.proofs.Common.{List, [], ◌∷◌, ◌++◌, replicate, zero-mul, length, take, drop, get_or}
 use Rattle.std.proofs.Common.{Some, Ok, refl, sym, ◌∙◌, ap, subst, arith, if◌then◌else◌}
@@ -9,12 +9,14 @@ use Rattle.std.proofs.Math.Nat.{suc-mul}
 use Rattle.std.proofs.Math.Seq.{take-add}
 use Rattle.mot_journal.specs.declared.layout.Layout.TheVariants.{Two}
 use Rattle.mot_journal.specs.Geometry.{geometry_of, has_magic}
-use Rattle.mot_journal.specs.Image.{IsSecondHalfEmpty}
+use Rattle.mot_journal.specs.Image.{IsSecondHalfEmpty, area_of}
+use Rattle.mot_journal.specs.Made.{IsMade}
+use Rattle.mot_journal.specs.declared.record.Record.{Record}
 use Rattle.mot_journal.specs.Slot.{slot_count, slot_size}
 use Rattle.mot_journal.specs.Image.{catalogue_of, fold_from}
 use Rattle.mot_journal.specs.Catalogue.{Catalogue, new_catalogue}
 use Rattle.mot_journal.specs.Inner.Format.{first_record, behind_magic, HasAllButMagic}
-use Rattle.mot_journal.specs.Inner.Reading.{number_at}
+use Rattle.mot_journal.specs.Geometry.{number_at}
 use Rattle.mot_journal.specs.Inner.Steps.{HasSlots}
 use Rattle.mot_journal.specs.Journal.{IsNewDisk, JournalView, with_records}
 use Rattle.mot_journal.proofs.Laws.{stands_by_parts}
@@ -29,9 +31,9 @@ use Rattle.mot_numbers.specs.Geometry.{IsValid, length_of, half_size, half_start
 use Rattle.mot_numbers.specs.Geometry.{is_valid}
 use Rattle.mot_numbers.proofs.Laws.{is_valid_of}
 
--- the journal of a new disk
-abbrev pub new_view : Geometry → JournalView
-new_view g = record { geometry = g; half = 0; layout = Two; count = 1; spent = false }
+-- the journal of a disk that is made with so many records
+abbrev pub made_view : Geometry → ℕ → JournalView
+made_view g count = record { geometry = g; half = 0; layout = Two; count = count; spent = false }
 
 abbrev catalogue_from : ℕ → Catalogue
 catalogue_from directory = record new_catalogue { directory = directory; cursor = directory }
@@ -69,9 +71,10 @@ empty_half g c other =
     ∙ (other i lt).0) in
     ap (λ k. take k half) (size ∙ sym whole) ∙ zeros ∙ ap (λ k. replicate {A = ℕ} k 0) whole
 
-module _ (g : Geometry) (directory : ℕ) (valid : IsValid g) (c : List ℕ)
+module _ (g : Geometry) (given : List Record) (valid : IsValid g) (c : List ℕ)
     (long : length_of g ≤ length c) (named : has_magic c ≡ true)
-    (made : HasAllButMagic g directory c) where
+    (made : HasAllButMagic g given c) (some : 0 < length given)
+    (few : length given ≤ slot_count Two g) (fold : IsOk (catalogue_of g.objects given)) where
   -- a number of the head
   number_is : (at width : ℕ) → 8 ≤ at → at + width ≤ 64
       → number_at at width c ≡ number_in (take width (drop (at - 8) (behind_magic g)))
@@ -110,27 +113,41 @@ module _ (g : Geometry) (directory : ℕ) (valid : IsValid g) (c : List ℕ)
       sym (get_or-drop 8 c 0 0) ∙ sym (get_or-take 56 (drop 8 c) 0 0 (omega arith))
       ∙ ap (λ l. get_or l 0 0) made.head
 
-  few : 1 ≤ slot_count Two g
-  few = omega arith
-
-  parts : HasParts (new_view g) (first_record directory ∷ []) c
+  parts : HasParts (made_view g (length given)) given c
   parts = record {
     geometry = geometry_told;
     half = ap (λ b. if b == 1 then 1 else 0) selector;
-    layout = filled_layout g 0 Two (first_record directory ∷ []) (omega arith) c made.slots;
-    read = filled_reads g 0 Two (first_record directory ∷ []) few c made.slots;
-    gates = (filled_half g 0 Two (first_record directory ∷ []) few c made.slots).1;
-    fold = subst IsOk (sym (catalogue_new g.objects directory)) refl;
+    layout = filled_layout g 0 Two given some c made.slots;
+    read = filled_reads g 0 Two given few c made.slots;
+    gates = (filled_half g 0 Two given few c made.slots).1;
+    fold = fold;
   }
 
-  -- what was made, named with the magic and long enough, is a new disk
-  pub is_new : IsNewDisk g directory c
-  is_new =
-      let has = parts_have (new_view g) (first_record directory ∷ []) c parts in
+  -- what was made, named with the magic and long enough, has the records
+  pub made_is : IsMade g given (area_of g c) c
+  made_is =
+      let has = parts_have (made_view g (length given)) given c parts in
       record {
-        stands = stands_by_parts g (with_records (new_view g) (first_record directory ∷ []))
-            (catalogue_from directory) c refl has.read (catalogue_new g.objects directory);
+        read = has.read;
         clean = has.clean;
-        layout = (with_records (new_view g) (first_record directory ∷ []), has.read, refl);
         other = empty_half g c made.other;
+        area = refl;
       }
+
+-- what was made with the first record of a new disk is a new disk
+pub new_is : (g : Geometry) (directory : ℕ) (tail c : List ℕ)
+    → IsMade g (first_record directory ∷ []) tail c → IsNewDisk g directory c
+new_is g directory tail c made =
+    let j = with_records (made_view g 1) (first_record directory ∷ []) in
+    record {
+      stands = stands_by_parts g j (catalogue_from directory) c refl made.read
+          (catalogue_new g.objects directory);
+      clean = made.clean;
+      layout = (j, made.read, refl);
+      other = made.other;
+    }
+
+-- the record of a new disk makes no fault of the list
+pub first_folds : (limit directory : ℕ)
+    → IsOk (catalogue_of limit (first_record directory ∷ []))
+first_folds limit directory = subst IsOk (sym (catalogue_new limit directory)) refl

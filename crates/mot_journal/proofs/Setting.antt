@@ -1,17 +1,18 @@
 -- The action of a slot that sets an object, from its parts.
-use Rattle.std.proofs.Common.{◌≡◌, inl, inr, ℕ, ◌+◌, ◌-◌, ◌≤◌, ◌<◌, Bool, true, false, List, length}
+use Rattle.std.proofs.Common.{◌≡◌, ◌⊎◌, inl, inr, ℕ, ◌+◌, ◌-◌, ◌≤◌, ◌<◌, Bool, true, false, List, length}
 use Rattle.std.proofs.Common.{take, drop, Option, Some, None, sym, ◌∙◌, ap, arith}
 use Rattle.std.specs.Prelude.{if◌then◌else◌, nat_lt, nat_le}
 use Rattle.std.specs.Option.{option_map_or}
 use Rattle.std.proofs.Math.Seq.{take-length}
 use Rattle.std.proofs.lemmas.List.{drop-drop, length-drop, length-take}
-use Rattle.std.proofs.lemmas.Bool.{cases_Bool, le-leb, lt-ltb, leb-true}
+use Rattle.std.proofs.lemmas.Bool.{cases_Bool, cases_lt, le-leb, lt-ltb, leb-true}
 use Rattle.std.proofs.lemmas.Bool.{ltb-true, false_from_ne_true}
 use Rattle.mot_journal.specs.declared.layout.Layout.{Layout}
 use Rattle.mot_journal.specs.declared.layout.Layout.TheVariants.{One, Two}
 use Rattle.mot_journal.specs.declared.record.Action.TheVariants.{Set}
 use Rattle.mot_journal.specs.Slot.{short_text_in, is_sound_action, longest_name, slot_size}
-use Rattle.mot_journal.specs.Inner.Reading.{number_at, content_at, if_sound, set_in_slot, name_from}
+use Rattle.mot_journal.specs.Inner.Reading.{content_at, if_sound, set_in_slot, name_from}
+use Rattle.mot_journal.specs.Geometry.{number_at}
 use Rattle.mot_journal.specs.Inner.Reading.{mime_from}
 use Rattle.std.proofs.lemmas.Bool.{and_from, and_parts}
 use Rattle.mot_journal.proofs.Decoded.{text, act-of, kept, and-false}
@@ -54,7 +55,8 @@ mime_parts bytes mime e = elim (cases_Bool (option_map_or is_mime (short_text_in
       absurd (cc)
 ]
 
-no_mime_parts : (bytes : List ℕ) → mime_from bytes ≡ None
+-- bytes that are not read as a MIME type break its rule
+pub no_mime_parts : (bytes : List ℕ) → mime_from bytes ≡ None
     → option_map_or is_mime (short_text_in bytes) true ≡ false
 unfolding mime_from
 no_mime_parts bytes e = elim (cases_Bool (option_map_or is_mime (short_text_in bytes) true)) [
@@ -87,6 +89,28 @@ long_name layout slot n size fits long is =
     let p3 = and_parts _ _ p2.0 in
     let most : length (take n (drop 24 slot)) ≤ longest_name layout = leb-true _ _ p3.1 in
     let more = no_shorter layout slot n size fits long in omega arith
+
+-- two numbers that are not both small enough
+pub either_above : (most most2 n m : ℕ) → ((n ≤ most) × (m ≤ most2) → false ≡ true)
+    → (most < n) ⊎ (most2 < m)
+either_above most most2 n m both = elim (cases_lt most n) [
+  | inl lt ↦ inl lt
+  | inr le ↦ elim (cases_lt most2 m) [
+    | inl lt ↦ inr lt
+    | inr le2 ↦ let wrong = both (le, le2) in absurd (cc)
+  ]
+]
+
+-- a number that is not in its range
+pub is_outside : (least most n : ℕ) → ((least ≤ n) × (n ≤ most) → false ≡ true)
+    → (n < least) ⊎ (most < n)
+is_outside least most n inside = elim (cases_lt n least) [
+  | inl lt ↦ inl lt
+  | inr le ↦ elim (cases_lt most n) [
+    | inl lt ↦ inr lt
+    | inr le2 ↦ let wrong = inside (le, le2) in absurd (cc)
+  ]
+]
 
 module _ (g : Geometry) (layout : Layout) (slot : List ℕ) where
   -- what the fields of a slot have that sets an object

@@ -32,11 +32,19 @@ geometry_in _ = None
 abbrev pub has_magic : List ℕ → Bool
 has_magic image = bytes_eq (take 8 image) magic
 
+-- the number in so many bytes from a place on, the highest first
+abbrev pub number_at : ℕ → ℕ → List ℕ → ℕ
+number_at at width bytes = number_in (take width (drop at bytes))
+
+-- the numbers of a head, whether they are in their ranges or not
+abbrev pub head_numbers : List ℕ → Option Geometry
+head_numbers image = geometry_in (columns (8 ∷ 1 ∷ 7 ∷ 2 ∷ 2 ∷ 2 ∷ 2 ∷ 4 ∷ []) image)
+
 -- The geometry of an image; none where the magic is not there, a number is out of its range, or the
 -- image is shorter than its geometry asks.
 unfoldable pub geometry_of : List ℕ → Option Geometry
 geometry_of image = do
-  g ← geometry_in (columns (8 ∷ 1 ∷ 7 ∷ 2 ∷ 2 ∷ 2 ∷ 2 ∷ 4 ∷ []) image)
+  g ← head_numbers image
   if has_magic image && is_valid g && nat_le (length_of g) (length image) then Some g else None
 
 -- exactly 1 selects half 1, every other byte half 0

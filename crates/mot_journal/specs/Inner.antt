@@ -6,3 +6,4 @@ pub mod Places
 pub mod Reading
 pub mod Scan
 pub mod Steps
+pub mod Unread

@@ -1,8 +1,11 @@
 pub mod Catalogue
+pub mod Faults
 pub mod Gaps
 pub mod Geometry
 pub mod Image
 pub mod Inner
 pub mod Journal
+pub mod Made
 pub mod Making
+pub mod Reason
 pub mod Slot

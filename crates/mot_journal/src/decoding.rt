@@ -1,49 +1,69 @@
 //! The record of a slot, as it is read.
-ghost use Rattle.std.specs.Prelude.{◌≡◌, ◌+◌, ◌-◌, ◌^◌, ◌<◌, ◌≤◌, length, drop, Some, IfOk};
+ghost use Rattle.std.specs.Prelude.{◌≡◌, ◌+◌, ◌-◌, ◌^◌, ◌<◌, ◌≤◌, length, drop, Some, IfErr, IfOk};
+ghost use Rattle.mot_journal.specs.Faults.{IsOfKind};
+ghost use Rattle.mot_journal.specs.Geometry.{number_at};
 ghost use Rattle.mot_journal.specs.Slot.{slot_size, read_slot, longest_name};
-ghost use Rattle.mot_journal.specs.Inner.Reading.{number_at, sound_action_of, if_sound};
-ghost use Rattle.mot_journal.specs.Inner.Reading.{set_in_slot};
+ghost use Rattle.mot_journal.specs.Inner.Reading.{sound_action_of, if_sound, set_in_slot};
 ghost use Rattle.mot_journal.specs.Inner.Reading.{name_from, mime_from};
+ghost use Rattle.mot_journal.specs.Inner.Unread.{HasNumbers, HasTexts, BreaksSlot, IsUnset};
 ghost use Rattle.mot_objects.specs.declared.mime.TheConstants.{MAX_MIME};
 
-use crate::{Action, Geometry, Layout, Record};
+use crate::{Action, FieldFault, Geometry, Layout, Record};
 use byteorder::{BigEndian, ByteOrder};
 use mot_numbers::TransportId;
 use mot_objects::{BodyLength, Content, MAX_MIME, Mime, Name, Period};
 use std::alloc::{AllocError, Global};
 
-/// The record of an open slot; `None` if a field has a fault.
-pub fn read_record(
+/// Why an open slot is not read.
+#[derive(Clone, Copy)]
+pub enum SlotFault {
+    /// A growth of memory was refused.
+    OutOfMemory,
+    /// This field breaks the format.
+    Field(FieldFault),
+}
+
+impl From<AllocError> for SlotFault {
+    ghost use Rattle.std.specs.Prelude.{◌≡◌};
+    ghost use Rattle.mot_journal.specs.declared.decoding.SlotFault.TheVariants.{OutOfMemory};
+
+    ghost from_gives = { λ _ fault. fault ≡ OutOfMemory };
+
+    fn from(_: AllocError) -> Self {
+        SlotFault::OutOfMemory
+    }
+}
+
+/// The record of an open slot, or its first field with a fault.
+pub(crate) fn read_record(
     alloc: Global,
     geometry: &Geometry,
     layout: Layout,
     slot: &[u8],
-) -> Result<Option<Record>, AllocError>
+) -> Result<Record, SlotFault>
     requires { length slot.now ≡ slot_size layout }
-    ensures { IfOk result (λ entry. entry ≡ read_slot geometry.now layout slot.now) }
+    ensures read { IfOk result (λ entry. read_slot geometry.now layout slot.now ≡ Some entry) }
+    ensures fault { IfErr result
+        (BreaksSlot (read_slot geometry.now layout slot.now) geometry.now layout slot.now) }
 {
     let Some(directory) = TransportId::new(number(slot, 5, 2) as u16) else {
-        return Ok(None);
+        return Err(SlotFault::Field(FieldFault::Directory));
     };
     let Some(cursor) = TransportId::new(number(slot, 7, 2) as u16) else {
-        return Ok(None);
+        return Err(SlotFault::Field(FieldFault::Last));
     };
-    let Ok(period) = Period::new(number(slot, 2, 3)) else {
-        return Ok(None);
-    };
-    let Some(action) = read_action(alloc, geometry, layout, slot)? else {
-        return Ok(None);
-    };
-    Ok(Some(Record {
+    let period = Period::new(number(slot, 2, 3)).unwrap();
+    let action = read_action(alloc, geometry, layout, slot)?;
+    Ok(Record {
         period,
         directory,
         cursor,
         action,
-    }))
+    })
 }
 
 /// The number in so many bytes from a place on, the highest first.
-pub fn number(bytes: &[u8], at: usize, width: usize) -> u32
+pub(crate) fn number(bytes: &[u8], at: usize, width: usize) -> u32
     requires within { at + width ≤ length bytes.now }
     requires some { 1 ≤ width }
     requires narrow { width ≤ 4 }
@@ -53,71 +73,144 @@ pub fn number(bytes: &[u8], at: usize, width: usize) -> u32
     BigEndian::read_uint(&bytes[at..at + width], width) as u32
 }
 
-/// The action of a slot; `None` if a field of it has a fault.
+/// The action of a slot, or its first field with a fault.
 fn read_action(
     alloc: Global,
     geometry: &Geometry,
     layout: Layout,
     slot: &[u8],
-) -> Result<Option<Action>, AllocError>
+) -> Result<Action, SlotFault>
     requires { length slot.now ≡ slot_size layout }
-    ensures { IfOk result (λ action. action ≡ sound_action_of geometry.now layout slot.now) }
+    ensures read { IfOk result
+        (λ action. sound_action_of geometry.now layout slot.now ≡ Some action) }
+    ensures fault { IfErr result
+        (BreaksSlot (sound_action_of geometry.now layout slot.now) geometry.now layout slot.now) }
 {
-    match number(slot, 1, 1).saturating_sub(u32::from(layout.kind_base())) {
-        1 => Ok(Some(Action::Nothing)),
+    let kind = number(slot, 1, 1) as u8;
+    match kind.saturating_sub(layout.kind_base()) {
+        1 => Ok(Action::Nothing),
         2 => read_set(alloc, geometry, layout, slot),
         3 => match TransportId::new(number(slot, 9, 2) as u16) {
-            Some(tid) => Ok(Some(Action::Remove { tid })),
-            None => Ok(None),
+            Some(tid) => Ok(Action::Remove { tid }),
+            None => Err(SlotFault::Field(FieldFault::Object)),
         },
-        _ => Ok(None),
+        _ => Err(SlotFault::Field(FieldFault::Kind { layout, kind })),
     }
 }
 
-/// The action of a slot that sets an object; `None` if a field of it has a fault.
+/// The action of a slot that sets an object, or its first field with a fault.
 fn read_set(
     alloc: Global,
     geometry: &Geometry,
     layout: Layout,
     slot: &[u8],
-) -> Result<Option<Action>, AllocError>
-    requires { length slot.now ≡ slot_size layout }
-    ensures { IfOk result (λ action. action ≡ if_sound geometry.now layout (set_in_slot slot.now)) }
+) -> Result<Action, SlotFault>
+    requires long { length slot.now ≡ slot_size layout }
+    requires sets { IsOfKind layout 2 slot.now }
+    ensures read { IfOk result
+        (λ action. if_sound geometry.now layout (set_in_slot slot.now) ≡ Some action) }
+    ensures fault { IfErr result (BreaksSlot (if_sound geometry.now layout (set_in_slot slot.now))
+        geometry.now layout slot.now) }
+{
+    let numbers = match read_numbers(geometry, layout, slot) {
+        Ok(numbers) => numbers,
+        Err(fault) => return Err(SlotFault::Field(fault)),
+    };
+    let texts = read_texts(alloc, geometry, layout, slot)?;
+    Ok(Action::Set {
+        tid: numbers.tid,
+        version: numbers.version,
+        content: numbers.content,
+        start: numbers.start,
+        length: numbers.length,
+        name: texts.name,
+        mime: texts.mime,
+    })
+}
+
+/// The numbers of a slot that sets an object.
+#[derive(Clone, Copy)]
+pub struct Numbers {
+    tid: TransportId,
+    version: u8,
+    content: Content,
+    start: u32,
+    length: BodyLength,
+}
+
+/// The numbers of a slot that sets an object, or the first with a fault.
+fn read_numbers(geometry: &Geometry, layout: Layout, slot: &[u8]) -> Result<Numbers, FieldFault>
+    requires long { length slot.now ≡ slot_size layout }
+    requires sets { IsOfKind layout 2 slot.now }
+    ensures read { IfOk result (HasNumbers geometry.now slot.now) }
+    ensures fault { IfErr result (IsUnset geometry.now layout slot.now) }
 {
     let Some(tid) = TransportId::new(number(slot, 9, 2) as u16) else {
-        return Ok(None);
+        return Err(FieldFault::Object);
     };
     let version = number(slot, 11, 1) as u8;
-    let Ok(content) = Content::new(number(slot, 12, 1) as u8, number(slot, 13, 2) as u16) else {
-        return Ok(None);
+    let content_type = number(slot, 12, 1) as u8;
+    let subtype = number(slot, 13, 2) as u16;
+    let Ok(content) = Content::new(content_type, subtype) else {
+        return Err(FieldFault::Content {
+            content_type,
+            subtype,
+        });
     };
     let start = number(slot, 15, 4);
-    let Some(length) = BodyLength::new(number(slot, 19, 4)) else {
-        return Ok(None);
+    let size = number(slot, 19, 4);
+    let Some(length) = BodyLength::new(size) else {
+        return Err(FieldFault::Length { length: size });
     };
-    if u64::from(start) + u64::from(length.get()) > u64::from(geometry.area) {
-        return Ok(None);
+    let end = u64::from(start) + u64::from(size);
+    let area = geometry.area;
+    if end > u64::from(area) {
+        return Err(FieldFault::Extent { end, area });
     }
-    let name_length = number(slot, 23, 1) as usize;
-    if name_length > layout.longest_name() {
-        return Ok(None);
-    }
-    let end = 24 + name_length;
-    let Some(name) = read_name(alloc, layout, &slot[24..end])? else {
-        return Ok(None);
-    };
-    let Some(mime) = read_mime(alloc, &slot[end..])? else {
-        return Ok(None);
-    };
-    Ok(Some(Action::Set {
+    Ok(Numbers {
         tid,
         version,
         content,
         start,
         length,
-        name,
-        mime,
-    }))
+    })
+}
+
+/// The texts of a slot that sets an object.
+#[derive(Drop)]
+pub struct Texts {
+    name: Name,
+    mime: Option<Mime>,
+}
+
+/// The texts of a slot that sets an object, or the first with a fault.
+fn read_texts(
+    alloc: Global,
+    geometry: &Geometry,
+    layout: Layout,
+    slot: &[u8],
+) -> Result<Texts, SlotFault>
+    requires long { length slot.now ≡ slot_size layout }
+    requires sets { IsOfKind layout 2 slot.now }
+    ensures read { IfOk result (HasTexts layout slot.now) }
+    ensures fault { IfErr result (BreaksSlot (if_sound geometry.now layout (set_in_slot slot.now))
+        geometry.now layout slot.now) }
+{
+    let length = number(slot, 23, 1) as u8;
+    let size = usize::from(length);
+    if size > layout.longest_name() {
+        return Err(SlotFault::Field(FieldFault::Name { length }));
+    }
+    let end = 24 + size;
+    let Some(name) = read_name(alloc, layout, &slot[24..end])? else {
+        return Err(SlotFault::Field(FieldFault::Name { length }));
+    };
+    let rest = &slot[end..];
+    let Some(mime) = read_mime(alloc, rest)? else {
+        let length = number(rest, 0, 1) as u8;
+        return Err(SlotFault::Field(FieldFault::Mime { length }));
+    };
+    Ok(Texts { name, mime })
 }
 
 /// These bytes as a name; `None` if they break its rule.

@@ -1,13 +1,14 @@
 //! Making a new disk.
-ghost use Rattle.std.specs.Prelude.{◌≡◌, ◌+◌, ◌-◌, ◌*◌, ◌≤◌, ℕ, List, false, OnOk, IfOk};
+ghost use Rattle.std.specs.Prelude.{◌≡◌, ◌+◌, ◌-◌, ◌*◌, ◌≤◌, ◌<◌, ℕ, List, length, false, OnOk, IfOk};
 ghost use Rattle.arrayvec.specs.ArrayVec.{array_vec_len};
 ghost use Rattle.disk_model.specs.Disk.{Keeps, OnlySyncs};
 ghost use Rattle.disk_model.specs.Failures.{HasCause};
 ghost use Rattle.disk_model.specs.Disk.{Throughout, Costs, IsFirm};
 ghost use Rattle.mot_journal.specs.declared.layout.Layout.TheVariants.{Two};
 ghost use Rattle.mot_journal.specs.Geometry.{has_magic};
-ghost use Rattle.mot_journal.specs.Slot.{slot_count};
+ghost use Rattle.mot_journal.specs.Slot.{slot_count, AreSound};
 ghost use Rattle.mot_journal.specs.Journal.{HasAreaOf, IsNewDisk, NoneOrFrom};
+ghost use Rattle.mot_journal.specs.Made.{MakesWith};
 ghost use Rattle.mot_journal.specs.Making.{MakesDisk};
 ghost use Rattle.mot_journal.specs.Inner.Steps.{ChangesWithin, HasCauseOf};
 ghost use Rattle.mot_journal.specs.Inner.Format.{HasAllButMagic, behind_magic};
@@ -60,7 +61,7 @@ pub fn format_from<D: Disk>(
 }
 
 /// Syncs, and answers whether the disk has the magic.
-fn reads_magic<D: Disk>(disk: &mut D) -> Result<bool, DiskFault>
+pub fn reads_magic<D: Disk>(disk: &mut D) -> Result<bool, DiskFault>
     requires { 8 ≤ (D.state disk.old).len }
     ensures only_syncs { OnlySyncs (D.state disk.old) (D.state disk.new) }
     ensures cause { HasCause (D.state disk.old).failures (D.state disk.new).failures result }
@@ -75,7 +76,7 @@ fn reads_magic<D: Disk>(disk: &mut D) -> Result<bool, DiskFault>
     Ok(head == MAGIC)
 }
 
-/// Writes all but the magic, and then the magic between two syncs.
+/// Makes a disk with the record of a new one.
 fn make<D: Disk>(disk: &mut D, geometry: &Geometry, directory: TransportId) -> Result<(), DiskFault>
     requires valid { IsValid geometry.now }
     requires long_enough { length_of geometry.now ≤ (D.state disk.old).len }
@@ -91,14 +92,47 @@ fn make<D: Disk>(disk: &mut D, geometry: &Geometry, directory: TransportId) -> R
     ensures area { (D.state disk.old).IsHonest → Throughout (D.state disk.old) (D.state disk.new)
         (HasAreaOf geometry.now (D.state disk.old)) }
 {
-    fill(disk, geometry, directory)?;
+    let first = Record {
+        period: Period::ZERO,
+        directory,
+        cursor: directory,
+        action: Action::Nothing,
+    };
+    make_disk(disk, geometry, &[first])
+}
+
+/// Makes a disk of layout 2 with these records over what stands in its data area: all but the
+/// magic, and then the magic between two syncs. It takes no memory, and does not look whether the
+/// disk has the magic.
+pub fn make_disk<D: Disk>(
+    disk: &mut D,
+    geometry: &Geometry,
+    given: &[Record],
+) -> Result<(), DiskFault>
+    requires valid { IsValid geometry.now }
+    requires long_enough { length_of geometry.now ≤ (D.state disk.old).len }
+    requires some { 0 < length given.now }
+    requires few { length given.now ≤ slot_count Two geometry.now }
+    requires sound { AreSound geometry.now Two given.now }
+    ensures keeps { Keeps (D.state disk.old) (D.state disk.new) }
+    ensures cause { HasCause (D.state disk.old).failures (D.state disk.new).failures result }
+    ensures cost { Costs (2 * slot_count Two geometry.now + 4)
+        (D.state disk.old) (D.state disk.new) result }
+
+    // At each moment a crash leaves no magic, or the disk that is made, over the data area that was
+    // read before.
+    ensures makes { (D.state disk.old).IsHonest
+        → MakesWith geometry.now given.now (D.state disk.old) (D.state disk.new) result }
+{
+    fill(disk, geometry, given)?;
     publish(disk, 0, &MAGIC)
 }
 
 /// Writes all from the byte after the magic up to the data area.
-fn fill<D: Disk>(disk: &mut D, geometry: &Geometry, directory: TransportId) -> Result<(), DiskFault>
+fn fill<D: Disk>(disk: &mut D, geometry: &Geometry, given: &[Record]) -> Result<(), DiskFault>
     requires valid { IsValid geometry.now }
     requires long_enough { length_of geometry.now ≤ (D.state disk.old).len }
+    requires sound { AreSound geometry.now Two given.now }
     ensures keeps { Keeps (D.state disk.old) (D.state disk.new) }
     ensures cause { HasCauseOf (D.state disk.old) (D.state disk.new) result }
     ensures cost { Costs (2 * slot_count Two geometry.now + 1)
@@ -106,16 +140,10 @@ fn fill<D: Disk>(disk: &mut D, geometry: &Geometry, directory: TransportId) -> R
     ensures range { (D.state disk.old).IsHonest → ChangesWithin 8 (area_start geometry.now - 8)
         (D.state disk.old) (D.state disk.new) }
     ensures made { (D.state disk.old).IsHonest
-        → OnOk result (HasAllButMagic geometry.now directory (D.state disk.new).bytes) }
+        → OnOk result (HasAllButMagic geometry.now given.now (D.state disk.new).bytes) }
 {
     disk.write(8, &head_behind_magic(geometry))?;
-    let first = Record {
-        period: Period::ZERO,
-        directory,
-        cursor: directory,
-        action: Action::Nothing,
-    };
-    fill_half(disk, geometry, 0, Layout::Two, &[first])?;
+    fill_half(disk, geometry, 0, Layout::Two, given)?;
     fill_half(disk, geometry, 1, Layout::Two, &[])
 }
 

@@ -1,7 +1,7 @@
 //! The journal of a disk that was loaded.
 ghost use Rattle.std.specs.Prelude.{◌≡◌, ◌≤◌, ◌<◌, ◌+◌, ◌^◌, ◌++◌, List, [], ◌∷◌, length, true};
 ghost use Rattle.std.specs.Prelude.{Ok, OnOk, OnErr, MatchResult};
-ghost use Rattle.std.specs.Prelude.{◌↔◌, IfOk, IfErr, IsErr, IsTrue, IsFalse, All};
+ghost use Rattle.std.specs.Prelude.{◌↔◌, IfOk, IfErr, IfSome, IsErr, IsTrue, IsFalse, All};
 ghost use Rattle.disk_model.specs.Disk.{Keeps, Costs, OnlyReads};
 ghost use Rattle.disk_model.specs.Failures.{HasCause, Rises};
 ghost use Rattle.disk_model.specs.Disk.{Throughout};
@@ -12,6 +12,7 @@ ghost use Rattle.mot_journal.specs.Journal.{JournalView, with_records, IsLoadRef
 ghost use Rattle.mot_journal.specs.Inner.Places.{start_of_slot};
 ghost use Rattle.mot_journal.specs.Journal.{HoldsRecords, FoldOf, WithoutOrWith, OnlyReadArea};
 ghost use Rattle.mot_journal.specs.Journal.{StandsWhere, RewritesTo};
+ghost use Rattle.mot_journal.specs.Reason.{HasReason, IsReasonOf};
 ghost use Rattle.mot_journal.specs.Slot.{AreSound};
 ghost use Rattle.mot_journal.specs.declared.layout.Layout.TheVariants.{One, Two};
 ghost use Rattle.mot_journal.specs.declared.record.Record.{Record};
@@ -25,7 +26,7 @@ use crate::gates::are_gates_clean;
 use crate::loading::{geometry_of_head, layout_of_half, records_of_half};
 use crate::places::{HEAD_SIZE, half_size, half_start};
 use crate::writing::{fill_half, place_of_slot, publish, write_slot};
-use crate::{Geometry, Layout, Record};
+use crate::{Fault, Geometry, HeadFault, Layout, Reason, Record};
 use disk_model::Disk;
 use mot_numbers::Refusal;
 use std::alloc::Global;
@@ -87,23 +88,58 @@ pub fn load<D: Disk>(alloc: Global, disk: &mut D) -> Result<Loaded, Refusal>
     ensures refused { IfErr result
         (λ refusal. IsLoadRefusal (D.state disk.old) (D.state disk.new) refusal) }
 {
+    match load_with_reason(alloc, disk) {
+        Ok(loaded) => Ok(loaded),
+        Err(fault) => Err(fault.refusal),
+    }
+}
+
+/// The same, with the reason if the bytes of the disk are refused.
+pub fn load_with_reason<D: Disk>(alloc: Global, disk: &mut D) -> Result<Loaded, Fault>
+    ensures only_reads { OnlyReads (D.state disk.old) (D.state disk.new) }
+
+    // A disk fault is answered exactly if the disk has failed.
+    ensures calm { MatchResult result
+        (λ loaded. (D.state disk.new).failures ≡ (D.state disk.old).failures)
+        (λ fault. IsCalm fault.refusal (D.state disk.old).failures
+        (D.state disk.new).failures) }
+    ensures cost { Costs 2 (D.state disk.old) (D.state disk.new) result }
+    ensures loaded { (D.state disk.new).IsHonest → IfOk result (λ l.
+        records_of (D.state disk.old).bytes ≡ Ok (with_records l.journal l.records.items)) }
+    ensures count { IfOk result (λ l. l.journal.count ≡ length l.records.items) }
+    ensures few { IfOk result (λ l.
+        length l.records.items ≤ slot_count l.journal.layout l.journal.geometry) }
+    ensures going { IfOk result (λ l. IsFalse l.journal.spent) }
+    ensures long_enough { IfOk result (λ l. length_of l.journal.geometry ≤ (D.state disk.old).len) }
+    ensures valid { IfOk result (λ l. is_valid l.journal.geometry ≡ true) }
+    ensures sound { IfOk result
+        (λ l. All (λ r. is_sound l.journal.geometry l.journal.layout r ≡ true) l.records.items) }
+    ensures refused { IfErr result
+        (λ fault. IsLoadRefusal (D.state disk.old) (D.state disk.new) fault.refusal) }
+    ensures reason { IfErr result (λ fault. HasReason fault.refusal fault.reason) }
+
+    // The reason is so of the disk's bytes.
+    ensures so { (D.state disk.new).IsHonest → IfErr result
+        (λ fault. IfSome fault.reason (IsReasonOf (D.state disk.old).bytes)) }
+{
     let len = disk.len();
     if len < HEAD_SIZE as u64 {
-        return Err(Refusal::NotFormatted);
+        return Err(Fault::of(Reason::Head(HeadFault::Short { len })));
     }
     let mut head = [0; HEAD_SIZE];
     if disk.read(0, &mut head).is_err() {
-        return Err(Refusal::DeviceFault);
+        return Err(Fault::plain(Refusal::DeviceFault));
     }
-    let Some(geometry) = geometry_of_head(&head, len) else {
-        return Err(Refusal::NotFormatted);
+    let geometry = match geometry_of_head(&head, len) {
+        Ok(geometry) => geometry,
+        Err(fault) => return Err(Fault::of(Reason::Head(fault))),
     };
     let half: u8 = if head[8] == 1 { 1 } else { 0 };
     let Ok(mut bytes) = vec![in alloc; 0; half_size(&geometry)] else {
-        return Err(Refusal::OutOfMemory);
+        return Err(Fault::plain(Refusal::OutOfMemory));
     };
     if disk.read(half_start(&geometry, half), &mut bytes).is_err() {
-        return Err(Refusal::DeviceFault);
+        return Err(Fault::plain(Refusal::DeviceFault));
     }
     let layout = layout_of_half(&bytes);
     match records_of_half(alloc, &geometry, layout, &bytes) {
@@ -120,7 +156,7 @@ pub fn load<D: Disk>(alloc: Global, disk: &mut D) -> Result<Loaded, Refusal>
                 records,
             })
         }
-        Err(refusal) => Err(refusal),
+        Err(fault) => Err(fault),
     }
 }
 

@@ -10,14 +10,15 @@ mod journal;
 mod layout;
 mod loading;
 mod places;
+mod reason;
 mod record;
 mod writing;
 
-pub use decoding::read_record;
 pub use encoding::slot_bytes;
-pub use formatting::{format, format_from};
-pub use journal::{Journal, Loaded, load};
+pub use formatting::{format, format_from, make_disk, reads_magic};
+pub use journal::{Journal, Loaded, load, load_with_reason};
 pub use layout::Layout;
 pub use mot_numbers::Geometry;
 pub use places::area_start;
+pub use reason::{Fault, FieldFault, HeadFault, ListFault, Reason, Size};
 pub use record::{Action, Record};

@@ -1,24 +1,30 @@
 //! The records of a half, as they are read.
 ghost use Rattle.std.specs.Prelude.{◌≡◌, ◌<◌, ◌≤◌, ◌+◌, ◌*◌, ◌++◌, ℕ, List, length, take, drop};
-ghost use Rattle.std.specs.Prelude.{true, IfOk, IfErr, All};
+ghost use Rattle.std.specs.Prelude.{true, false, Some, IfOk, IfErr, IfSome, All};
 ghost use Rattle.mot_journal.specs.Geometry.{geometry_of};
 ghost use Rattle.mot_journal.specs.Slot.{is_sound, slot_size, slot_count, layout_of};
-ghost use Rattle.mot_journal.specs.Inner.Loading.{HalfHas, IsHalfRefusal};
+ghost use Rattle.mot_journal.specs.Inner.Loading.{HalfHas, IsHalfRefusal, IsNoHead};
+ghost use Rattle.mot_journal.specs.Inner.Loading.{HasRangeFault, IsSlotReason};
+ghost use Rattle.mot_journal.specs.Reason.{HasReason};
+ghost use Rattle.mot_journal.specs.declared.reason.HeadFault.TheVariants.{OutOfRange};
 ghost use Rattle.mot_numbers.specs.Geometry.{half_size};
 ghost use Rattle.mot_numbers.specs.declared.geometry.TheConstants.{MAX_OBJECTS};
 ghost use Rattle.mot_numbers.specs.Geometry.{is_valid as valid};
 
-use crate::decoding::{number, read_record};
+use crate::decoding::{SlotFault, number, read_record};
 use crate::encoding::OPEN;
 use crate::formatting::MAGIC;
-use crate::{Geometry, Layout, Record};
-use mot_numbers::Refusal;
+use crate::{Fault, Geometry, HeadFault, Layout, Reason, Record, Size};
+use mot_numbers::{MAX_ADDRESS, MAX_OBJECTS, MAX_SEGMENT, MIN_SEGMENT, Refusal};
 use std::alloc::Global;
 
-/// The geometry that the first 64 bytes of a disk of this length give.
-pub(crate) fn geometry_of_head(head: &[u8], len: u64) -> Option<Geometry>
+/// The geometry that the first 64 bytes of a disk of this length give, or why they give none.
+pub(crate) fn geometry_of_head(head: &[u8], len: u64) -> Result<Geometry, HeadFault>
     requires { length head.now ≡ 64 }
-    ensures { (rest : List ℕ) → 64 + length rest ≡ len → result ≡ geometry_of (head.now ++ rest) }
+    ensures read { IfOk result (λ geometry. (rest : List ℕ) → 64 + length rest ≡ len
+        → Some geometry ≡ geometry_of (head.now ++ rest)) }
+    ensures fault { IfErr result (λ fault. (rest : List ℕ) → 64 + length rest ≡ len
+        → IsNoHead (head.now ++ rest) fault) }
 {
     let geometry = Geometry {
         objects: number(head, 16, 2) as u16,
@@ -28,15 +34,50 @@ pub(crate) fn geometry_of_head(head: &[u8], len: u64) -> Option<Geometry>
         area: number(head, 24, 4),
     };
     if head[..8] != MAGIC[..] {
-        return None;
+        return Err(HeadFault::Foreign);
     }
     if !is_valid(&geometry) {
-        return None;
+        return Err(out_of_range(&geometry));
     }
-    if geometry.length() > len {
-        return None;
+    let asked = geometry.length();
+    if asked > len {
+        return Err(HeadFault::Cut { len, asked });
     }
-    Some(geometry)
+    Ok(geometry)
+}
+
+/// The first number of a geometry that is out of its range.
+fn out_of_range(geometry: &Geometry) -> HeadFault
+    requires { valid geometry.now ≡ false }
+    ensures { HasRangeFault geometry.now result }
+{
+    let Geometry {
+        objects,
+        segment,
+        address,
+        packet,
+        area,
+    } = *geometry;
+    if objects < 1 || objects > MAX_OBJECTS {
+        return beyond(Size::Objects, u32::from(objects));
+    }
+    if segment < MIN_SEGMENT || segment > MAX_SEGMENT {
+        return beyond(Size::Segment, u32::from(segment));
+    }
+    if address < 1 || address > MAX_ADDRESS {
+        return beyond(Size::Address, u32::from(address));
+    }
+    if !matches!(packet, 24 | 48 | 72 | 96) {
+        return beyond(Size::Packet, u32::from(packet));
+    }
+    beyond(Size::Data, area)
+}
+
+/// That this number of a geometry is out of its range.
+fn beyond(size: Size, number: u32) -> HeadFault
+    ensures { result ≡ OutOfRange size number }
+{
+    HeadFault::OutOfRange { size, number }
 }
 
 /// Whether each number of a geometry is in its range.
@@ -72,13 +113,13 @@ fn slot_at<'a>(geometry: &Geometry, layout: Layout, half: &'a [u8], place: usize
     }
 }
 
-/// The records of a half up to its first closed gate.
+/// The records of a half up to its first closed gate, or its first slot that breaks the format.
 pub(crate) fn records_of_half(
     alloc: Global,
     geometry: &Geometry,
     layout: Layout,
     half: &[u8],
-) -> Result<Vec<Record>, Refusal>
+) -> Result<Vec<Record>, Fault>
     requires few { geometry.now.objects ≤ MAX_OBJECTS }
     requires whole { length half.now ≡ half_size geometry.now }
     requires layout { layout ≡ layout_of half.now }
@@ -87,7 +128,9 @@ pub(crate) fn records_of_half(
         (λ records. All (λ r. is_sound geometry.now layout r ≡ true) records.items) }
     ensures few { IfOk result
         (λ records. length records.items ≤ slot_count layout geometry.now) }
-    ensures refused { IfErr result (λ refusal. IsHalfRefusal geometry.now half.now refusal) }
+    ensures refused { IfErr result (λ fault. IsHalfRefusal geometry.now half.now fault.refusal) }
+    ensures reason { IfErr result (λ fault. HasReason fault.refusal fault.reason) }
+    ensures so { IfErr result (λ fault. IfSome fault.reason (IsSlotReason geometry.now half.now)) }
 {
     let count = layout.slot_count(geometry);
     let mut records = Vec::with_capacity(alloc, count)?;
@@ -97,9 +140,12 @@ pub(crate) fn records_of_half(
             return Ok(records);
         }
         match read_record(alloc, geometry, layout, slot) {
-            Ok(Some(entry)) => records.push_reserved(entry),
-            Ok(None) => return Err(Refusal::Damaged(place as u16)),
-            Err(_) => return Err(Refusal::OutOfMemory),
+            Ok(entry) => records.push_reserved(entry),
+            Err(SlotFault::Field(fault)) => {
+                let slot = place as u16;
+                return Err(Fault::of(Reason::Field { slot, fault }));
+            }
+            Err(SlotFault::OutOfMemory) => return Err(Fault::plain(Refusal::OutOfMemory)),
         }
     }
     Ok(records)

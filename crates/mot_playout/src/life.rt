@@ -131,7 +131,11 @@ pub fn format_and_open<D: Disk>(
 {
     let mut disk = disk;
     if let Err(refusal) = format_from(&mut disk, geometry, directory) {
-        return Err(Refused { refusal, disk });
+        return Err(Refused {
+            refusal,
+            reason: None,
+            disk,
+        });
     }
     let server = Server::open(alloc, disk)?;
     Ok(server)

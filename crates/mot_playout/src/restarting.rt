@@ -77,6 +77,7 @@ pub fn restart<D: Disk>(alloc: Global, disk: D) -> Result<Restarted<D>, Refused<
         Ok(packets) => Ok(Restarted { server, packets }),
         Err(refusal) => Err(Refused {
             refusal,
+            reason: None,
             disk: server.into_disk(),
         }),
     }

@@ -1,6 +1,6 @@
 //! The server: a repository, and a player of what it keeps.
 ghost use Rattle.std.specs.Prelude.{◌≡◌, ◌<◌, ◌≤◌, ◌==◌, ◌↔◌, ℕ, List, true, false, not};
-ghost use Rattle.std.specs.Prelude.{Ok, OnOk, OnErr};
+ghost use Rattle.std.specs.Prelude.{Ok, OnOk, OnErr, IfSome};
 ghost use Rattle.std.specs.Prelude.{◌+◌, ◌^◌, ◌⊎◌, vec_len, IfOk, IfErr};
 ghost use Rattle.std.specs.Prelude.{IsFalse, IsTrue, MatchResult};
 ghost use Rattle.disk_model.specs.Disk.{Keeps, Costs, OnlyReads, OnlySyncs};
@@ -58,6 +58,7 @@ impl<D: Disk> Server<D> {
     ghost use Rattle.mot_numbers.specs.Geometry.{is_valid};
     ghost use Rattle.mot_journal.specs.Image.{stands_for, IsClean, gate_reads};
     ghost use Rattle.mot_journal.specs.Journal.{StandsWhere};
+    ghost use Rattle.mot_journal.specs.Reason.{HasReason, IsReasonOf};
     ghost use Rattle.mot_journal.specs.declared.layout.Layout.TheVariants.{One, Two};
     ghost use Rattle.mot_player.specs.AnyBodies.{IsStepOfSome, PlaysOn, PlaysToTheEnd};
     ghost use Rattle.mot_player.specs.Laws.{IsAtTurnsBeginning, IsPlace, IsStep, bytes_left};
@@ -110,6 +111,11 @@ impl<D: Disk> Server<D> {
             (turn_of_carousel s.carousel s.geometry.segment)) }
         ensures refused { IfErr result
             (λ e. IsOpeningRefusal (D.state disk) (D.state e.disk) e.refusal) }
+
+        // What the bytes are refused for is told, and so of them.
+        ensures reason { IfErr result (λ e. HasReason e.refusal e.reason) }
+        ensures so { IfErr result (λ e. (D.state e.disk).IsHonest
+            → IfSome e.reason (IsReasonOf (D.state disk).bytes)) }
     {
         let repository = Repository::open(alloc, disk)?;
         match player_of(alloc, &repository) {
@@ -119,6 +125,7 @@ impl<D: Disk> Server<D> {
             }),
             Err(refusal) => Err(Refused {
                 refusal,
+                reason: None,
                 disk: repository.into_disk(),
             }),
         }

@@ -18,6 +18,8 @@ use Rattle.mot_repository.specs.Gap.{is_free, is_beside}
 use Rattle.mot_repository.specs.Inner.Extents.{objects_in}
 use Rattle.mot_repository.specs.Inner.Fold.{HaveLengths, are_extents_apart, are_consistent}
 use Rattle.mot_repository.specs.Inner.Fold.{if_consistent, if_done}
+use Rattle.mot_journal.specs.Faults.{HasListFault, tids_of}
+use Rattle.mot_journal.specs.declared.reason.ListFault.TheVariants.{DirectoryId}
 use Rattle.mot_repository.proofs.Folding.{IsWithoutOne, is_gone, apart_without_one, numbered}
 use Rattle.mot_repository.proofs.Folding.{step_from}
 use Rattle.mot_repository.proofs.Folding.IsWithoutOne.{gone, later}
@@ -287,3 +289,16 @@ module _ (limit : ℕ) (c : Catalogue) (r : Record) (os : List Object) (es : Lis
   breaks e =
       ap (λ o. o >>= λ k. cond (is_consistent (numbered r k)) (Some (numbered r k)) None) kept.is
       ∙ ap (λ t. cond t (Some (numbered r (objects_in os es))) None) (consistent-where ∙ ap not e)
+
+  -- one has: that is the fault
+  pub has_directory : (id : ℕ) → id ≡ r.directory → has-directory ≡ true
+      → HasListFault limit c r (DirectoryId id)
+  has_directory id same e = (
+    same,
+    (
+      objects_in os es,
+      kept.is,
+      ap (contains (tids_of (objects_in os es))) same
+          ∙ ap (λ l. contains l r.directory) (ids_in os es l) ∙ used_by r.directory os ∙ e,
+    ),
+  )

@@ -42,7 +42,7 @@ part_of_part xs at size from n within =
     ∙ ap (take k) (drop-drop from at xs) ∙ ap (λ m. take m (drop (at + from) xs)) count
 
 -- a part of the data area
-area-part : (g : Geometry) (image : List ℕ) (from n : ℕ)
+pub area-part : (g : Geometry) (image : List ℕ) (from n : ℕ)
     → slice_range (area_of g image) from (from + n)
     ≡ slice_range image (area_start g + from) (area_start g + from + n)
 area-part g image from n =

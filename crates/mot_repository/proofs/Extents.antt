@@ -7,11 +7,12 @@ use Rattle.std.proofs.lemmas.List.{length-map}
 use Rattle.std.proofs.lemmas.Slice.Eq.{bytes_eq-Decides}
 use Rattle.std.specs.List.{position_from, position_or_len}
 use Rattle.std.specs.Option.{option_map_or}
-use Rattle.std.specs.Prelude.{bytes_eq, not, nat_lt, position, remove}
+use Rattle.std.specs.Prelude.{bytes_eq, not, nat_lt, position, remove, ◌==◌}
+use Rattle.std.proofs.lemmas.Bool.Decides.{nat_tests}
 use Rattle.mot_journal.specs.declared.record.Record.{Record}
 use Rattle.mot_journal.specs.declared.record.Action.{Action}
-use Rattle.mot_journal.specs.declared.record.Action.TheVariants.{Set}
-use Rattle.mot_journal.specs.Catalogue.{Catalogue}
+use Rattle.mot_journal.specs.declared.record.Action.TheVariants.{Set, Nothing}
+use Rattle.mot_journal.specs.Catalogue.{Catalogue, Placed}
 use Rattle.mot_objects.specs.Stands.{index_of}
 use Rattle.mot_objects.specs.declared.object.Object.{Object}
 use Rattle.mot_objects.specs.declared.command.Command.{Command}
@@ -19,7 +20,7 @@ use Rattle.mot_objects.specs.declared.command.Command.TheVariants.{Put, Replace,
 use Rattle.mot_repository.specs.Inner.Extents.{objects_in}
 use Rattle.mot_repository.specs.Inner.Following.{extent_of, extents_with, extents_without}
 use Rattle.mot_repository.specs.Inner.Following.{placed_extents_after}
-use Rattle.mot_repository.specs.Inner.Laws.{records_of_objects}
+use Rattle.mot_repository.specs.Inner.Laws.{records_of_objects, records_of_catalogue}
 use Rattle.mot_repository.specs.Outcome.{extents_after}
 use Rattle.mot_repository.specs.Inner.Prepared.{kept_object_named}
 use Rattle.mot_carousel.proofs.Laws.{head, tail}
@@ -250,3 +251,32 @@ records_of_objects-next c (p ∷ os) (x ∷ es) zero o e b lt at from =
 records_of_objects-next c (p ∷ os) (x ∷ es) (suc k) o e b lt at from =
     ap (λ l. record_with c (Set p.tid p.version p.content x.0 x.1 p.name p.mime) ∷ l)
     (records_of_objects-next c os es k o e (tail b) (omega arith) at from)
+
+-- a catalogue of these
+abbrev catalogue-of : ℕ → ℕ → ℕ → List Placed → Catalogue
+catalogue-of period directory cursor objects =
+    record { period = period; directory = directory; cursor = cursor; objects = objects }
+
+-- after no record comes one of kind nothing
+pub records-none : (period directory cursor : ℕ) (ps : List Placed) (rs : List Record)
+    → rs ≡ records_of_objects (catalogue-of period directory cursor ps) ps → length rs ≡ 0
+    → rs ++ record_with (catalogue-of period directory cursor ps) Nothing ∷ []
+    ≡ records_of_catalogue (catalogue-of period directory cursor ps)
+records-none period directory cursor [] rs e size =
+    ap (λ l. l ++ record_with (catalogue-of period directory cursor []) Nothing ∷ []) e
+records-none period directory cursor (p ∷ ps) rs e size =
+    let more = ap length e in absurd (omega (arith, more, size))
+
+-- and after some comes no other
+pub records-some : (period directory cursor : ℕ) (ps : List Placed) (rs : List Record)
+    → rs ≡ records_of_objects (catalogue-of period directory cursor ps) ps → (length rs ≡ 0 → ⊥)
+    → rs ≡ records_of_catalogue (catalogue-of period directory cursor ps)
+records-some period directory cursor [] rs e some = absurd (some (ap length e))
+records-some period directory cursor (p ∷ ps) rs e some = e
+
+-- what a test for zero means
+pub is_zero : (b : Bool) (n : ℕ) → b ≡ (n == 0) → b ≡ true → n ≡ 0
+is_zero b n e is = grind (arith, nat_tests)
+
+pub isnt_zero : (b : Bool) (n : ℕ) → b ≡ (n == 0) → b ≡ false → n ≡ 0 → ⊥
+isnt_zero b n e isnt nil = grind (arith, nat_tests)

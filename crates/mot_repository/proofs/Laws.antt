@@ -13,6 +13,8 @@ pub use Rattle.mot_repository.proofs.Places.{stands_where}
 pub use Rattle.mot_repository.proofs.Outcomes.{IsAccepted, accepted_parts, accepted_of, refused_so}
 -- what is kept in memory agrees with something
 pub use Rattle.mot_repository.proofs.Outcomes.{some_standing}
+-- a disk with the records of a copy and the bodies in a row stands for the copy
+pub use Rattle.mot_repository.proofs.Copied.{copy_stands}
 -- what an image of bytes stands for keeps the rules of objects
 pub use Rattle.mot_repository.proofs.Rules.{rules_kept}
 

@@ -19,8 +19,9 @@ use Rattle.mot_repository.specs.Inner.Laws.{records_of_catalogue}
 use Rattle.mot_repository.specs.Inner.Whole.{IsSoundPlaced, IsWhole}
 use Rattle.mot_repository.proofs.Soundness.{is_rewriting}
 
-longer-name : (name : List ℕ) → is_name 100 name ≡ true → is_name 255 name ≡ true
-longer-name name is =
+-- a name of layout 1 is one of layout 2
+pub longer_name : (name : List ℕ) → is_name 100 name ≡ true → is_name 255 name ≡ true
+longer_name name is =
     let n = length name in
     let text = list_all (λ b. nat_lt 32 b && not (b == 127)) name in
     let h = and_parts (is_within 1 100 n && is_utf8 name) text is in
@@ -37,7 +38,7 @@ placed-in-two g p is =
     let mime = option_map_or is_mime o.mime true in
     let h = and_parts (numbers && is_name 100 o.name) mime is.0 in
     let k = and_parts numbers (is_name 100 o.name) h.0 in
-    (and_from _ _ (and_from _ _ k.0 (longer-name o.name k.1)) h.1, is.1)
+    (and_from _ _ (and_from _ _ k.0 (longer_name o.name k.1)) h.1, is.1)
 
 all-in-two : (g : Geometry) (objects : List Placed) → AllByRecursion (IsSoundPlaced g One) objects
     → AllByRecursion (IsSoundPlaced g Two) objects

@@ -6,6 +6,8 @@ pub mod ByStart
 pub mod Committing
 pub mod Extents
 pub mod FirstFit
+mod CopyRows
+mod Copied
 mod FoldRows
 pub mod FoldSteps
 mod Folding
@@ -14,7 +16,8 @@ pub mod Gaps
 pub mod Laws
 mod Layouts
 pub mod LongestGap
-pub mod Listing
+pub mod ListFaults
+mod Listing
 mod Moved
 pub mod OpenDisk
 mod OutcomeRows

@@ -1,7 +1,7 @@
 -- What was loaded and folded is in order, and why a disk is not opened.
 use Rattle.std.proofs.Common.{◌≡◌, inl, inr, ⊎_elim, ℕ, ◌+◌, ◌≤◌, true, false, List, [], ◌∷◌, map}
 use Rattle.std.proofs.Common.{Ok, Err, All, refl, sym, ap, ◌∙◌, subst, arith}
-use Rattle.std.specs.Prelude.{IsFalse, Result, IsErr, OnOk, is_err}
+use Rattle.std.specs.Prelude.{IsFalse, Result, IsErr, IfSome, OnOk, Option, Some, None, is_err}
 use Rattle.std.proofs.Math.Nat.{eq-or-lt_of_le}
 use Rattle.std.specs.List.{AllByRecursion}
 use Rattle.disk_model.specs.Disk.{State, IsStill, IsUnchanged, IsFirm, IsHonestDisk}
@@ -16,6 +16,11 @@ use Rattle.mot_numbers.specs.Refusal.{◌>>=◌}
 use Rattle.mot_journal.specs.Catalogue.{Placed, carousel_in, extents_of}
 use Rattle.mot_journal.specs.Image.{DiskRecords, records_of, stands_for, area_of, rest_of}
 use Rattle.mot_journal.specs.Journal.{JournalView, with_records, IsLoadRefusal}
+use Rattle.mot_journal.specs.Reason.{BreaksList, IsReasonOf}
+use Rattle.mot_journal.specs.declared.reason.Reason.{Reason}
+use Rattle.mot_journal.specs.declared.reason.Reason.TheVariants.{Head, Field, List as InList}
+use Rattle.mot_journal.specs.declared.reason.Reason.TheVariants.{Formatted, Small}
+use Rattle.mot_repository.specs.Inner.Faults.{IsFoldReason}
 use Rattle.mot_numbers.specs.Geometry.{length_of}
 use Rattle.mot_numbers.specs.declared.geometry.Geometry.{Geometry}
 use Rattle.mot_numbers.specs.declared.refusal.Refusal.{Refusal}
@@ -90,6 +95,27 @@ pub fold_refused : (old new : State) (j : JournalView) (records : List Record) (
 fold_refused old new j records refusal read (inl is) = no_memory is
 fold_refused old new j records refusal read (inr is) =
     damaged is.0 is.1 (λ honest. no-catalogue old.bytes j records refusal (read honest) is.2)
+
+-- a reason of the fold of the records that a disk has is one of the disk
+pub fold_reason : (bytes : List ℕ) (j : JournalView) (records : List Record) (limit : ℕ)
+    (reason : Option Reason) → records_of bytes ≡ Ok (with_records j records)
+    → limit ≡ j.geometry.objects → IfSome reason (IsFoldReason limit records)
+    → IfSome reason (IsReasonOf bytes)
+fold_reason bytes j records limit None read same so = so
+fold_reason bytes j records limit (Some (InList number fault)) read same so = (
+  with_records j records,
+  read,
+  subst (λ n. BreaksList n records number fault) same so,
+)
+fold_reason bytes j records limit (Some (Head fault)) read same so = absurd so
+fold_reason bytes j records limit (Some (Field number fault)) read same so = absurd so
+fold_reason bytes j records limit (Some Formatted) read same so = absurd so
+fold_reason bytes j records limit (Some (Small has asked)) read same so = absurd so
+
+-- a reason is one of what was read before, too
+pub reason_later : (reason : Option Reason) (mid old : List ℕ) → mid ≡ old
+    → IfSome reason (IsReasonOf mid) → IfSome reason (IsReasonOf old)
+reason_later reason mid old same so = subst (λ b. IfSome reason (IsReasonOf b)) same so
 
 -- ---- in order
 

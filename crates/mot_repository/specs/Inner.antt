@@ -1,6 +1,7 @@
 -- What only private contracts and proofs need.
 pub mod Bounds
 pub mod Extents
+pub mod Faults
 pub mod Fold
 pub mod Following
 pub mod InOrder

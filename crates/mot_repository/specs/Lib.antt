@@ -1,4 +1,5 @@
 pub mod Answers
+pub mod Copy
 pub mod Cost
 pub mod Extents
 pub mod Gap

@@ -3,6 +3,7 @@
 
 mod by_start;
 mod commit;
+mod copying;
 mod gap;
 mod inventory;
 mod opening;

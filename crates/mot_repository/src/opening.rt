@@ -1,6 +1,8 @@
 //! A disk opened: its records folded into a carousel, whose bodies stay where they lie.
-ghost use Rattle.std.specs.Prelude.{◌≡◌, ◌≤◌, ◌+◌, false, IfOk, IfErr, IsFalse, MatchResult};
+ghost use Rattle.std.specs.Prelude.{◌≡◌, ◌≤◌, ◌+◌, false, IfOk, IfErr, IfSome, IsFalse};
+ghost use Rattle.std.specs.Prelude.{MatchResult};
 ghost use Rattle.disk_model.specs.Disk.{Costs, OnlyReads, OnlySyncs};
+ghost use Rattle.mot_journal.specs.Reason.{HasReason, IsReasonOf};
 ghost use Rattle.mot_numbers.specs.Refusal.{IsCalm};
 ghost use Rattle.mot_numbers.specs.declared.refusal.Refusal.TheVariants.{DeviceFault};
 ghost use Rattle.mot_repository.specs.Inner.InOrder.{IsInOrder};
@@ -15,7 +17,7 @@ use crate::Repository;
 use crate::inventory::Inventory;
 use disk_model::Disk;
 use fold::inventory_of;
-use mot_journal::{Journal, load};
+use mot_journal::{Fault, Journal, Reason, load_with_reason};
 use mot_numbers::Refusal;
 use std::alloc::Global;
 
@@ -24,6 +26,8 @@ use std::alloc::Global;
 pub struct Refused<D: Disk> {
     /// `OutOfMemory`, `DeviceFault`, `NotFormatted` or `Damaged`.
     pub refusal: Refusal,
+    /// The reason of the last two, which the bytes of the disk show.
+    pub reason: Option<Reason>,
     /// The disk, as it stands.
     pub disk: D,
 }
@@ -49,6 +53,11 @@ impl<D: Disk> Repository<D> {
         ensures refused { IfErr result
             (λ e. IsOpeningRefusal (D.state disk) (D.state e.disk) e.refusal) }
 
+        // What the bytes are refused for is told, and so of them.
+        ensures reason { IfErr result (λ e. HasReason e.refusal e.reason) }
+        ensures so { IfErr result (λ e. (D.state e.disk).IsHonest
+            → IfSome e.reason (IsReasonOf (D.state disk).bytes)) }
+
         // A disk fault is answered exactly if the disk has failed.
         ensures calm { MatchResult result
             (λ r. (D.state r.disk).failures ≡ (D.state disk).failures)
@@ -64,18 +73,23 @@ impl<D: Disk> Repository<D> {
         if disk.sync().is_err() {
             return Err(Refused {
                 refusal: Refusal::DeviceFault,
+                reason: None,
                 disk,
             });
         }
         match load_inventory(alloc, &mut disk) {
             Ok((journal, inventory)) => Ok(Repository::of(disk, journal, inventory)),
-            Err(refusal) => Err(Refused { refusal, disk }),
+            Err(fault) => Err(Refused {
+                refusal: fault.refusal,
+                reason: fault.reason,
+                disk,
+            }),
         }
     }
 }
 
 /// The journal of a disk, and the carousel that its records stand for. It only reads.
-fn load_inventory<D: Disk>(alloc: Global, disk: &mut D) -> Result<(Journal, Inventory), Refusal>
+fn load_inventory<D: Disk>(alloc: Global, disk: &mut D) -> Result<(Journal, Inventory), Fault>
     ensures only_reads { OnlyReads (D.state disk.old) (D.state disk.new) }
     ensures going { IfOk result (λ l. IsFalse l.0.spent) }
     ensures in_order { IfOk result (λ l. IsInOrder
@@ -83,14 +97,17 @@ fn load_inventory<D: Disk>(alloc: Global, disk: &mut D) -> Result<(Journal, Inve
     ensures loaded { (D.state disk.new).IsHonest → IfOk result
         (λ l. IsLoaded (D.state disk.old).bytes l.0 l.1.carousel l.1.extents.items) }
     ensures refused { IfErr result
-        (λ refusal. IsOpeningRefusal (D.state disk.old) (D.state disk.new) refusal) }
+        (λ fault. IsOpeningRefusal (D.state disk.old) (D.state disk.new) fault.refusal) }
+    ensures reason { IfErr result (λ fault. HasReason fault.refusal fault.reason) }
+    ensures so { (D.state disk.new).IsHonest → IfErr result
+        (λ fault. IfSome fault.reason (IsReasonOf (D.state disk.old).bytes)) }
     ensures calm { MatchResult result
         (λ l. (D.state disk.new).failures ≡ (D.state disk.old).failures)
-        (λ refusal. IsCalm refusal (D.state disk.old).failures
+        (λ fault. IsCalm fault.refusal (D.state disk.old).failures
         (D.state disk.new).failures) }
     ensures cost { Costs 2 (D.state disk.old) (D.state disk.new) result }
 {
-    let loaded = load(alloc, disk)?;
+    let loaded = load_with_reason(alloc, disk)?;
     let geometry = loaded.journal.geometry();
     let inventory = inventory_of(alloc, &geometry, loaded.records)?;
     Ok((loaded.journal, inventory))

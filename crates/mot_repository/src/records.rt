@@ -107,7 +107,11 @@ fn know_fields(made: &Record)
 }
 
 /// What sets the object, whose body of this length begins at `start`.
-fn set_action(object: &Object, start: u32, length: BodyLength) -> Result<Action, AllocError>
+pub(crate) fn set_action(
+    object: &Object,
+    start: u32,
+    length: BodyLength,
+) -> Result<Action, AllocError>
     ensures { let o = object.now in IfOk result (λ action.
         action ≡ Set o.tid o.version o.content start length o.name o.mime) }
 {

@@ -26,8 +26,8 @@ first_record directory =
 abbrev pub behind_magic : Geometry → List ℕ
 behind_magic g = drop 8 (head_bytes g 0)
 
--- all of a new disk but its magic
-pub record HasAllButMagic (g : Geometry) (directory : ℕ) (bytes : List ℕ) : Type 0 where
+-- all of a disk with these records but its magic
+pub record HasAllButMagic (g : Geometry) (given : List Record) (bytes : List ℕ) : Type 0 where
   pub head : take 56 (drop 8 bytes) ≡ behind_magic g
-  pub slots : HasSlots g 0 Two (first_record directory ∷ []) (slot_count Two g) bytes
+  pub slots : HasSlots g 0 Two given (slot_count Two g) bytes
   pub other : HasSlots g 1 Two [] (slot_count Two g) bytes

@@ -6,16 +6,12 @@ use Rattle.mot_journal.specs.declared.layout.Layout.{Layout}
 use Rattle.mot_journal.specs.declared.record.Action.{Action}
 use Rattle.mot_journal.specs.declared.record.Action.TheVariants.{Set}
 use Rattle.mot_journal.specs.Slot.{kind_base, action_in, short_text_in, is_sound_action}
-use Rattle.mot_numbers.specs.Fields.{number_in}
+use Rattle.mot_journal.specs.Geometry.{number_at}
 use Rattle.mot_numbers.specs.Reading.{◌>>=◌}
 use Rattle.mot_numbers.specs.declared.geometry.Geometry.{Geometry}
 use Rattle.mot_objects.specs.Content.{ContentNumbers}
 use Rattle.mot_objects.specs.Mime.{is_mime}
 use Rattle.mot_objects.specs.Name.{is_name}
-
--- the number in so many bytes from a place on
-abbrev pub number_at : ℕ → ℕ → List ℕ → ℕ
-number_at at width bytes = number_in (take width (drop at bytes))
 
 abbrev pub content_at : List ℕ → ContentNumbers
 content_at slot = record { content_type = number_at 12 1 slot; subtype = number_at 13 2 slot }

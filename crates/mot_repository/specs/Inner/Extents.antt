@@ -45,3 +45,7 @@ names_kept carousel = map (λ (o : Object). o.name) carousel.objects.items
 -- the same extents in some order: whatever numbers they have, these add up to the same
 abbrev pub AreReordered : List (ℕ × ℕ) → List (ℕ × ℕ) → Type 0
 AreReordered xs ys = (f : ℕ × ℕ → ℕ) → sum_by f ys ≡ sum_by f xs
+
+-- how many bytes the bodies of these objects have
+abbrev pub bytes_of_bodies : List Object → ℕ
+bytes_of_bodies objects = sum_by (λ (o : Object). o.length) objects

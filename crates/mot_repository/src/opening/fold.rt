@@ -1,11 +1,14 @@
 //! The records of a journal, folded into the carousel that is kept in memory.
 ghost use Rattle.mot_numbers.specs.declared.geometry.TheConstants.{MAX_OBJECTS};
 ghost use Rattle.std.specs.Prelude.{◌≡◌, ◌≤◌, ◌<◌, map, length, vec_len, vec_capacity};
-ghost use Rattle.std.specs.Prelude.{All, Ok, Some, None, IfOk, IfErr, IfSome, MatchOption};
-ghost use Rattle.std.specs.Prelude.{true, nat_eq, position, remove, [], IsTrue};
+ghost use Rattle.std.specs.Prelude.{All, Ok, Some, None, IfOk, IfErr, IfSome, MatchResult, OnOk};
+ghost use Rattle.std.specs.Prelude.{is_ok, true, nat_eq, position, remove, []};
 ghost use Rattle.std.specs.List.{list_any};
 ghost use Rattle.mot_journal.specs.Catalogue.{new_catalogue, catalogue_after};
+ghost use Rattle.mot_journal.specs.Faults.{HasActionFault, HasListFault};
 ghost use Rattle.mot_journal.specs.Image.{catalogue_of};
+ghost use Rattle.mot_journal.specs.Reason.{HasReason};
+ghost use Rattle.mot_journal.specs.declared.reason.ListFault.TheVariants.{Missing};
 ghost use Rattle.mot_journal.specs.Catalogue.{objects_after, placed_without, is_consistent};
 ghost use Rattle.mot_objects.specs.Ids.{is_distinct};
 ghost use Rattle.mot_objects.specs.Stands.{index_of};
@@ -17,14 +20,15 @@ ghost use Rattle.mot_repository.specs.Inner.Bounds.{AreWithin};
 ghost use Rattle.mot_repository.specs.Inner.Fold.{HaveLengths, are_extents_apart, are_consistent};
 ghost use Rattle.mot_repository.specs.Inner.Fold.{if_consistent, if_done, objects_set};
 ghost use Rattle.mot_repository.specs.Inner.Fold.{IsFoldRefusal, HasShortId, HasShortIds};
+ghost use Rattle.mot_repository.specs.Inner.Faults.{HasSettingFault, IsClash, IsFoldReason};
 ghost use Rattle.mot_repository.specs.declared.opening.bounds.Bounds.{Bounds};
 
 use super::bounds::Bounds;
 use crate::by_start::sorted_by_start;
 use crate::gap::is_clear;
 use crate::inventory::Inventory;
-use mot_journal::{Action, Record};
-use mot_numbers::{Geometry, Refusal, TransportId};
+use mot_journal::{Action, Fault, ListFault, Reason, Record};
+use mot_numbers::{Geometry, TransportId};
 use mot_objects::{Carousel, Name, Object, Period};
 use std::alloc::{AllocError, Global};
 
@@ -37,19 +41,22 @@ struct Folded {
 }
 
 /// The carousel that these records of a disk of this geometry stand for; `Damaged` with the number
-/// of the first that makes a fault of the list, and `OutOfMemory`.
+/// of the first that makes a fault of the list, and that fault; and `OutOfMemory`.
 pub(crate) fn inventory_of(
     alloc: Global,
     geometry: &Geometry,
     records: Vec<Record>,
-) -> Result<Inventory, Refusal>
+) -> Result<Inventory, Fault>
     requires few { geometry.now.objects ≤ MAX_OBJECTS }
     requires numbered { vec_len records ≤ 65536 }
     ensures folded { IfOk result (λ i. catalogue_of geometry.now.objects records.items
         ≡ Ok (catalogue_with i.carousel i.extents.items)) }
     ensures short { IfOk result (λ _. All HasShortIds records.items) }
     ensures refused { IfErr result
-        (λ refusal. IsFoldRefusal geometry.now.objects records.items refusal) }
+        (λ fault. IsFoldRefusal geometry.now.objects records.items fault.refusal) }
+    ensures reason { IfErr result (λ fault. HasReason fault.refusal fault.reason) }
+    ensures so { IfErr result (λ fault. IfSome fault.reason
+        (IsFoldReason geometry.now.objects records.items)) }
 {
     let folded = fold_records(alloc, geometry, records)?;
     let by_start = sorted_by_start(alloc, &folded.extents)?;
@@ -62,14 +69,17 @@ pub(crate) fn inventory_of(
 }
 
 /// The records, one after the other. It is not sorted yet where their bodies lie.
-fn fold_records(alloc: Global, geometry: &Geometry, records: Vec<Record>) -> Result<Folded, Refusal>
+fn fold_records(alloc: Global, geometry: &Geometry, records: Vec<Record>) -> Result<Folded, Fault>
     requires few { geometry.now.objects ≤ MAX_OBJECTS }
     requires numbered { vec_len records ≤ 65536 }
     ensures folded { IfOk result (λ f. catalogue_of geometry.now.objects records.items
         ≡ Ok (catalogue_with f.carousel f.extents.items)) }
     ensures short { IfOk result (λ _. All HasShortIds records.items) }
     ensures refused { IfErr result
-        (λ refusal. IsFoldRefusal geometry.now.objects records.items refusal) }
+        (λ fault. IsFoldRefusal geometry.now.objects records.items fault.refusal) }
+    ensures reason { IfErr result (λ fault. HasReason fault.refusal fault.reason) }
+    ensures so { IfErr result (λ fault. IfSome fault.reason
+        (IsFoldReason geometry.now.objects records.items)) }
 {
     let limit = geometry.objects;
     let mut folded = nothing_folded(alloc, limit)?;
@@ -78,8 +88,11 @@ fn fold_records(alloc: Global, geometry: &Geometry, records: Vec<Record>) -> Res
     for entry in records {
         know_ids(&entry);
         match folded_after(folded, &mut bounds, limit, entry) {
-            Some(next) => folded = next,
-            None => return Err(Refusal::Damaged(slot as u16)),
+            Ok(next) => folded = next,
+            Err(fault) => {
+                let slot = slot as u16;
+                return Err(Fault::of(Reason::List { slot, fault }));
+            }
         }
         slot += 1;
     }
@@ -130,9 +143,14 @@ fn nothing_folded(alloc: Global, limit: u16) -> Result<Folded, AllocError>
     })
 }
 
-/// What is folded with one record more; `None` for a fault of the list. It is consistent before, so
-/// only what the record brings is compared with what stands.
-fn folded_after(folded: Folded, bounds: &mut Bounds, limit: u16, entry: Record) -> Option<Folded>
+/// What is folded with one record more, or the fault of the list that it makes. It is consistent
+/// before, so only what the record brings is compared with what stands.
+fn folded_after(
+    folded: Folded,
+    bounds: &mut Bounds,
+    limit: u16,
+    entry: Record,
+) -> Result<Folded, ListFault>
     requires bounded { AreWithin bounds.old folded.carousel.objects.items
         folded.extents.items }
     requires few { limit ≤ MAX_OBJECTS }
@@ -142,11 +160,14 @@ fn folded_after(folded: Folded, bounds: &mut Bounds, limit: u16, entry: Record) 
         (catalogue_with folded.carousel folded.extents.items) ≡ true }
     ensures after { let after = catalogue_after limit
         (catalogue_with folded.carousel folded.extents.items) entry in
-        MatchOption result (after ≡ None)
-        (λ next. after ≡ Some (catalogue_with next.carousel next.extents.items)) }
-    ensures room { IfSome result (λ next. limit ≤ vec_capacity next.carousel.objects) }
-    ensures room_of_extents { IfSome result (λ next. limit ≤ vec_capacity next.extents) }
-    ensures bounded { IfSome result (λ next. AreWithin bounds.new next.carousel.objects.items
+        MatchResult result
+        (λ next. after ≡ Some (catalogue_with next.carousel next.extents.items))
+        (λ fault. after ≡ None) }
+    ensures fault { IfErr result (HasListFault limit
+        (catalogue_with folded.carousel folded.extents.items) entry) }
+    ensures room { IfOk result (λ next. limit ≤ vec_capacity next.carousel.objects) }
+    ensures room_of_extents { IfOk result (λ next. limit ≤ vec_capacity next.extents) }
+    ensures bounded { IfOk result (λ next. AreWithin bounds.new next.carousel.objects.items
         next.extents.items) }
 {
     let Folded {
@@ -165,13 +186,13 @@ fn folded_after(folded: Folded, bounds: &mut Bounds, limit: u16, entry: Record) 
         cursor,
         action,
     } = entry;
-    if !apply(&mut objects, &mut extents, bounds, limit, action) {
-        return None;
-    }
+    apply(&mut objects, &mut extents, bounds, limit, action)?;
     if is_id_used(&objects, bounds.greatest_id, directory) {
-        return None;
+        return Err(ListFault::DirectoryId {
+            id: directory.get(),
+        });
     }
-    Some(Folded {
+    Ok(Folded {
         carousel: Carousel {
             period,
             directory,
@@ -182,15 +203,15 @@ fn folded_after(folded: Folded, bounds: &mut Bounds, limit: u16, entry: Record) 
     })
 }
 
-/// Does an action to the objects and their extents. It is false if there are too many for a new
-/// one, if no object has the id that is to go, or if another has its id or meets its body.
+/// Does an action to the objects and their extents. It makes a fault if there are too many for a
+/// new one, if no object has the id that is to go, or if another has its id or meets its body.
 fn apply(
     objects: &mut Vec<Object>,
     extents: &mut Vec<(u32, u32)>,
     bounds: &mut Bounds,
     limit: u16,
     action: Action,
-) -> bool
+) -> Result<(), ListFault>
     requires bounded { AreWithin bounds.old objects.old.items extents.old.items }
     requires few { limit ≤ MAX_OBJECTS }
     requires paired { HaveLengths objects.old.items extents.old.items }
@@ -198,17 +219,19 @@ fn apply(
     requires room { limit ≤ vec_capacity objects.old }
     requires room_of_extents { limit ≤ vec_capacity extents.old }
     requires consistent { are_consistent (objects_in objects.old.items extents.old.items) ≡ true }
-    ensures applied { if_done result (objects_in objects.new.items extents.new.items)
+    ensures applied { if_done (is_ok result) (objects_in objects.new.items extents.new.items)
         ≡ if_consistent
         (objects_after limit (objects_in objects.old.items extents.old.items) action) }
+    ensures fault { IfErr result (HasActionFault limit
+        (objects_in objects.old.items extents.old.items) action) }
     ensures paired { HaveLengths objects.new.items extents.new.items }
     ensures listed { vec_len objects.new ≤ MAX_OBJECTS }
     ensures room { vec_capacity objects.new ≡ vec_capacity objects.old }
     ensures room_of_extents { vec_capacity extents.new ≡ vec_capacity extents.old }
-    ensures bounded { IsTrue result → AreWithin bounds.new objects.new.items extents.new.items }
+    ensures bounded { OnOk result (AreWithin bounds.new objects.new.items extents.new.items) }
 {
     match action {
-        Action::Nothing => true,
+        Action::Nothing => Ok(()),
         Action::Set {
             tid,
             version,
@@ -232,8 +255,8 @@ fn apply(
     }
 }
 
-/// Puts an object in the place of the one of its name, or after the others. It is false if there
-/// are as many as may be, or if another has its id or a body that meets its own.
+/// Puts an object in the place of the one of its name, or after the others. It makes a fault if
+/// there are as many as may be, or if another has its id or a body that meets its own.
 fn set_object(
     objects: &mut Vec<Object>,
     extents: &mut Vec<(u32, u32)>,
@@ -241,7 +264,7 @@ fn set_object(
     limit: u16,
     object: Object,
     start: u32,
-) -> bool
+) -> Result<(), ListFault>
     requires bounded { AreWithin bounds.old objects.old.items extents.old.items }
     requires few { limit ≤ MAX_OBJECTS }
     requires paired { HaveLengths objects.old.items extents.old.items }
@@ -249,55 +272,62 @@ fn set_object(
     requires room { limit ≤ vec_capacity objects.old }
     requires room_of_extents { limit ≤ vec_capacity extents.old }
     requires consistent { are_consistent (objects_in objects.old.items extents.old.items) ≡ true }
-    ensures done { if_done result (objects_in objects.new.items extents.new.items)
+    ensures done { if_done (is_ok result) (objects_in objects.new.items extents.new.items)
         ≡ if_consistent (objects_set limit (record { object = object; start = start })
+        (objects_in objects.old.items extents.old.items)) }
+    ensures fault { IfErr result (HasSettingFault limit
+        (record { object = object; start = start })
         (objects_in objects.old.items extents.old.items)) }
     ensures paired { HaveLengths objects.new.items extents.new.items }
     ensures listed { vec_len objects.new ≤ MAX_OBJECTS }
     ensures room { vec_capacity objects.new ≡ vec_capacity objects.old }
     ensures room_of_extents { vec_capacity extents.new ≡ vec_capacity extents.old }
-    ensures bounded { IsTrue result → AreWithin bounds.new objects.new.items extents.new.items }
+    ensures bounded { OnOk result (AreWithin bounds.new objects.new.items extents.new.items) }
 {
     let extent = (start, object.length.get());
+    let id = object.tid.get();
     if let Some(place) = place_of_name(objects, bounds, &object.name) {
         objects[place] = object;
         extents[place] = extent;
-        return stands_apart(objects, extents, bounds, place);
+        return stands_apart(objects, extents, bounds, place, id);
     }
     let place = objects.len();
     if place >= usize::from(limit) {
-        return false;
+        return Err(ListFault::TooMany { limit });
     }
     objects.push_reserved(object);
     extents.push_reserved(extent);
-    stands_apart(objects, extents, bounds, place)
+    stands_apart(objects, extents, bounds, place, id)
 }
 
-/// Whether the object at this place has an id of its own and a body that meets no other. The others
-/// are consistent, and then all are; the bounds are of the others before, and then of all.
+/// Whether the object at this place, of this id, has an id of its own and a body that meets no
+/// other. The others are consistent, and then all are; the bounds are of the others before, and then
+/// of all.
 fn stands_apart(
     objects: &[Object],
     extents: &[(u32, u32)],
     bounds: &mut Bounds,
     place: usize,
-) -> bool
+    id: u16,
+) -> Result<(), ListFault>
     requires bounded { AreWithin bounds.old (remove objects.now place)
         (remove extents.now place) }
     requires within { place < length objects.now }
     requires paired { HaveLengths objects.now extents.now }
     requires others { are_consistent
         (objects_in (remove objects.now place) (remove extents.now place)) ≡ true }
-    ensures consistent { result ≡ are_consistent (objects_in objects.now extents.now) }
-    ensures bounded { IsTrue result → AreWithin bounds.new objects.now extents.now }
+    ensures consistent { is_ok result ≡ are_consistent (objects_in objects.now extents.now) }
+    ensures bounded { OnOk result (AreWithin bounds.new objects.now extents.now) }
+    ensures fault { IfErr result (IsClash id objects.now extents.now) }
 {
     if !are_ids_distinct(objects, place, bounds.greatest_id) {
-        return false;
+        return Err(ListFault::SameId { id });
     }
     if !are_apart(extents, place, bounds.greatest_end) {
-        return false;
+        return Err(ListFault::Meets { id });
     }
     bounds.widen(&objects[place], extents[place]);
-    true
+    Ok(())
 }
 
 /// Whether all ids differ, if all but the one at this place do and are not above `greatest`.
@@ -333,11 +363,16 @@ fn are_apart(extents: &[(u32, u32)], place: usize, greatest: u64) -> bool
     is_clear(&extents[..place], start, size) && is_clear(&extents[place + 1..], start, size)
 }
 
-/// Removes the object of this id; false if there is no such object.
-fn remove_object(objects: &mut Vec<Object>, extents: &mut Vec<(u32, u32)>, tid: TransportId) -> bool
+/// Removes the object of this id; that there is none is a fault.
+fn remove_object(
+    objects: &mut Vec<Object>,
+    extents: &mut Vec<(u32, u32)>,
+    tid: TransportId,
+) -> Result<(), ListFault>
     requires paired { HaveLengths objects.old.items extents.old.items }
     requires listed { vec_len objects.old ≤ MAX_OBJECTS }
-    ensures done { if_done result (objects_in objects.new.items extents.new.items)
+    ensures fault { IfErr result (λ fault. fault ≡ Missing tid) }
+    ensures done { if_done (is_ok result) (objects_in objects.new.items extents.new.items)
         ≡ placed_without tid (objects_in objects.old.items extents.old.items) }
     ensures paired { HaveLengths objects.new.items extents.new.items }
     ensures listed { vec_len objects.new ≤ MAX_OBJECTS }
@@ -347,11 +382,11 @@ fn remove_object(objects: &mut Vec<Object>, extents: &mut Vec<(u32, u32)>, tid: 
         → AreWithin bounds objects.new.items extents.new.items }
 {
     let Some(place) = place_of_id(objects, tid) else {
-        return false;
+        return Err(ListFault::Missing { id: tid.get() });
     };
     objects.remove(place);
     extents.remove(place);
-    true
+    Ok(())
 }
 
 /// Where the object of this name stands.

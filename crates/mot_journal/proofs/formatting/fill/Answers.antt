@@ -2,7 +2,7 @@ use Rattle.std.proofs.Common.{◌≡◌, ◌∙◌, ◌+◌, ◌*◌, ◌≤◌,
 use Rattle.std.proofs.lemmas.Result.{IfOk-from_err, on_ok_weaker}
 use Rattle.disk_model.proofs.Laws.{keeps_all_on}
 use Rattle.mot_journal.proofs.Calls.{as_run, calm, calm_of, fails_of, caused_of}
-use Rattle.mot_journal.proofs.Making.{Found, head_filled, first_sound, first_filled}
+use Rattle.mot_journal.proofs.Making.{Found, head_filled, first_filled}
 use Rattle.mot_journal.proofs.Making.{all_filled, is_made}
 use Rattle.mot_journal.proofs.formatting.fill.Given as given
 use Rattle.mot_journal.proofs.formatting.fill.Goals as goal
@@ -57,7 +57,7 @@ returns-clause-made g c = λ honest.
     let head = rw (c.deref.ensures.0, c.head_behind_magic.ensures.len) at
     (c.in_ok-write.ensures.bytes honest) in
     on_ok_weaker c.fill_half-2.result (λ other.
-    is_made before (c.fill_half-2.ensures.range before.still_honest) c.args.directory
+    is_made before (c.fill_half-2.ensures.range before.still_honest) c.args.given.now
     (head ∙ c.head_behind_magic.ensures.value)
     (c.in_ok-fill_half.ensures.slots (c.write.ensures.keeps.honest honest)) other)
     (c.fill_half-2.ensures.slots before.still_honest)
@@ -144,8 +144,7 @@ fill_half-requires-clause-long_enough g c =
     c.requires.long_enough
 
 pub fill_half-requires-clause-sound : goal.fill_half-requires-clause-sound
-fill_half-requires-clause-sound g c =
-    first_sound c.args.geometry.now c.args.directory (omega arith)
+fill_half-requires-clause-sound g c = c.requires.sound
 
 pub fill_half-requires-2-clause-long_enough : goal.fill_half-requires-2-clause-long_enough
 fill_half-requires-2-clause-long_enough g c =

@@ -1,4 +1,4 @@
-use Rattle.std.proofs.Common.{◌≡◌, ◌+◌, ◌≤◌, ℕ, true, List, sym, ap, ◌∙◌, arith, get_or, rules}
+use Rattle.std.proofs.Common.{◌+◌, ℕ, List, sym, ap, ◌∙◌, arith, get_or, rules}
 use Rattle.std.proofs.lemmas.Bool.{le-leb, or_left, or_right}
 use Rattle.std.proofs.lemmas.List.{take_all}
 use Rattle.mot_repository.proofs.Sweep.{are_apart, apart-free, apart-next, met-next}

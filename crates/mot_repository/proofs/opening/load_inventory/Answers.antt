@@ -3,24 +3,25 @@ use Rattle.std.proofs.lemmas.Result.{err_from_is_err_and}
 use Rattle.mot_journal.specs.Image.{catalogue_of}
 use Rattle.mot_numbers.specs.declared.geometry.Geometry.{Geometry}
 use Rattle.mot_repository.proofs.OpenDisk.{load_refused, fold_refused, is_in_order}
-use Rattle.mot_repository.proofs.OpenDisk.{fold_refused_same}
+use Rattle.mot_repository.proofs.OpenDisk.{fold_refused_same, fold_reason}
 use Rattle.mot_repository.proofs.opening.load_inventory.Goals as goal
 
 pub returns-in_err-loaded-clause-refused : goal.returns-in_err-loaded-clause-refused
 returns-in_err-loaded-clause-refused g c =
     let p = err_from_is_err_and c.from_residual.result c.from_residual.ensures.1 in
-    rw (p.1, p.2) (load_refused (g.D.Disk.state c.args.disk.now) (g.D.Disk.state c.load.new.disk)
-    c.in_err-loaded.field-0.0 c.in_err-loaded.ensures.refused)
+    rw (p.1, p.2) (load_refused (g.D.Disk.state c.args.disk.now) (g.D.Disk.state c.load_with_reason.new.disk)
+    c.in_err-loaded.field-0.0.refusal c.in_err-loaded.ensures.refused)
 
 pub returns-in_err-inventory-clause-refused : goal.returns-in_err-inventory-clause-refused
 returns-in_err-inventory-clause-refused g c =
     let p = err_from_is_err_and c.from_residual-in_err-inventory.result
     c.from_residual-in_err-inventory.ensures.1 in
-    rw (p.1, p.2) (fold_refused (g.D.Disk.state c.args.disk.now) (g.D.Disk.state c.load.new.disk)
-    c.in_ok-loaded.loaded.journal c.in_ok-loaded.loaded.records.items c.in_err-inventory.field-0.0
+    rw (p.1, p.2) (fold_refused (g.D.Disk.state c.args.disk.now) (g.D.Disk.state c.load_with_reason.new.disk)
+    c.in_ok-loaded.loaded.journal c.in_ok-loaded.loaded.records.items c.in_err-inventory.field-0.0.refusal
     c.in_ok-loaded.ensures.loaded
     (fold_refused_same c.geometry-geometry.result c.in_ok-loaded.loaded.journal.geometry
-    c.in_ok-loaded.loaded.records.items c.in_err-inventory.field-0.0 c.geometry-geometry.ensures
+    c.in_ok-loaded.loaded.records.items c.in_err-inventory.field-0.0.refusal
+    c.geometry-geometry.ensures
     c.in_err-inventory.ensures.refused))
 
 pub returns-clause-in_order : goal.returns-clause-in_order
@@ -35,7 +36,7 @@ returns-clause-in_order g c =
     c.in_ok-inventory.inventory.paired c.in_ok-loaded.ensures.going
 
 pub returns-in_err-loaded-clause-only_reads : goal.returns-in_err-loaded-clause-only_reads
-returns-in_err-loaded-clause-only_reads g c = c.load.ensures.only_reads
+returns-in_err-loaded-clause-only_reads g c = c.load_with_reason.ensures.only_reads
 
 pub returns-in_err-loaded-clause-going : goal.returns-in_err-loaded-clause-going
 returns-in_err-loaded-clause-going g c =
@@ -55,7 +56,7 @@ returns-in_err-loaded-clause-loaded g c =
 pub returns-in_err-loaded-clause-cost : goal.returns-in_err-loaded-clause-cost
 returns-in_err-loaded-clause-cost g c =
     let p = err_from_is_err_and c.from_residual.result c.from_residual.ensures.1 in
-    rw p.1 (record { at_most = c.load.ensures.cost.at_most; exact = tt })
+    rw p.1 (record { at_most = c.load_with_reason.ensures.cost.at_most; exact = tt })
 
 pub returns-in_err-loaded-clause-calm : goal.returns-in_err-loaded-clause-calm
 returns-in_err-loaded-clause-calm g c =
@@ -63,7 +64,7 @@ returns-in_err-loaded-clause-calm g c =
     rw (p.1, p.2) c.in_err-loaded.ensures.calm
 
 pub returns-in_err-inventory-clause-only_reads : goal.returns-in_err-inventory-clause-only_reads
-returns-in_err-inventory-clause-only_reads g c = c.load.ensures.only_reads
+returns-in_err-inventory-clause-only_reads g c = c.load_with_reason.ensures.only_reads
 
 pub returns-in_err-inventory-clause-going : goal.returns-in_err-inventory-clause-going
 returns-in_err-inventory-clause-going g c =
@@ -87,7 +88,7 @@ pub returns-in_err-inventory-clause-cost : goal.returns-in_err-inventory-clause-
 returns-in_err-inventory-clause-cost g c =
     let p = err_from_is_err_and c.from_residual-in_err-inventory.result
     c.from_residual-in_err-inventory.ensures.1 in
-    rw p.1 (record { at_most = c.load.ensures.cost.at_most; exact = tt })
+    rw p.1 (record { at_most = c.load_with_reason.ensures.cost.at_most; exact = tt })
 
 pub returns-in_err-inventory-clause-calm : goal.returns-in_err-inventory-clause-calm
 returns-in_err-inventory-clause-calm g c =
@@ -96,7 +97,7 @@ returns-in_err-inventory-clause-calm g c =
     rw p.1 (inr c.in_ok-loaded.ensures.calm)
 
 pub returns-clause-only_reads : goal.returns-clause-only_reads
-returns-clause-only_reads g c = c.load.ensures.only_reads
+returns-clause-only_reads g c = c.load_with_reason.ensures.only_reads
 
 pub returns-clause-going : goal.returns-clause-going
 returns-clause-going g c = c.in_ok-loaded.ensures.going
@@ -108,3 +109,30 @@ pub returns-clause-cost : goal.returns-clause-cost
 returns-clause-cost g c =
     let cost = c.in_ok-loaded.ensures.cost in
     record { at_most = cost.at_most; exact = cost.exact }
+
+pub returns-in_err-loaded-clause-reason : goal.returns-in_err-loaded-clause-reason
+returns-in_err-loaded-clause-reason g c =
+    let p = err_from_is_err_and c.from_residual.result c.from_residual.ensures.1 in
+    rw (p.1, p.2) c.in_err-loaded.ensures.reason
+
+pub returns-in_err-loaded-clause-so : goal.returns-in_err-loaded-clause-so
+returns-in_err-loaded-clause-so g c =
+    let p = err_from_is_err_and c.from_residual.result c.from_residual.ensures.1 in
+    rw (p.1, p.2) c.in_err-loaded.ensures.so
+
+pub returns-in_err-inventory-clause-reason : goal.returns-in_err-inventory-clause-reason
+returns-in_err-inventory-clause-reason g c =
+    let p = err_from_is_err_and c.from_residual-in_err-inventory.result
+    c.from_residual-in_err-inventory.ensures.1 in
+    rw (p.1, p.2) c.in_err-inventory.ensures.reason
+
+pub returns-in_err-inventory-clause-so : goal.returns-in_err-inventory-clause-so
+returns-in_err-inventory-clause-so g c =
+    let p = err_from_is_err_and c.from_residual-in_err-inventory.result
+    c.from_residual-in_err-inventory.ensures.1 in
+    rw (p.1, p.2) (λ honest. fold_reason (g.D.Disk.state c.args.disk.now).bytes
+    c.in_ok-loaded.loaded.journal c.in_ok-loaded.loaded.records.items
+    c.geometry-geometry.result.objects c.in_err-inventory.field-0.0.reason
+    (c.in_ok-loaded.ensures.loaded honest)
+    (ap (λ (x : Geometry). x.objects) c.geometry-geometry.ensures)
+    c.in_err-inventory.ensures.so)

@@ -1,4 +1,4 @@
-use Rattle.std.proofs.Common.{◌≡◌, ◌≤◌, length, drop, vec_capacity, All, true}
+use Rattle.std.proofs.Common.{◌≡◌, ◌≤◌, length, take, drop, vec_capacity, All, Ok, true}
 use Rattle.mot_journal.specs.Image.{catalogue_of, fold_from}
 use Rattle.mot_journal.specs.Catalogue.{is_consistent}
 use Rattle.mot_repository.specs.Inner.Extents.{catalogue_with}
@@ -15,6 +15,8 @@ invariant-loop-entry l = record {
   consistent : is_consistent (catalogue_with l.folded.carousel l.folded.extents.items) ≡ true;
   bounded : AreWithin l.bounds l.folded.carousel.objects.items l.folded.extents.items;
   short : All HasShortIds l.yielded;
+  so_far : catalogue_of l.limit (take l.slot l.fn.records.items)
+      ≡ Ok (catalogue_with l.folded.carousel l.folded.extents.items);
   folds : catalogue_of l.limit l.fn.records.items
       ≡ fold_from l.limit l.slot (catalogue_with l.folded.carousel l.folded.extents.items)
       (drop l.slot l.fn.records.items);

@@ -1,5 +1,7 @@
-use Rattle.std.proofs.Common.{◌≡◌, ◌<◌, ℕ, List, [], ◌∷◌, ◌++◌, length, set, Some, true, false}
+use Rattle.std.proofs.Common.{◌≡◌, ◌<◌, ℕ, List, [], ◌∷◌, ◌++◌, length, set, Some, true}
 use Rattle.std.proofs.Common.{refl, sym, subst, ap, ◌∙◌, arith, remove}
+use Rattle.std.proofs.lemmas.Result.{IfErr-weaker, on_ok_weaker}
+use Rattle.std.specs.Prelude.{is_ok}
 use Rattle.mot_objects.specs.declared.object.Object.{Object}
 use Rattle.mot_objects.specs.Stands.{index_of}
 use Rattle.mot_repository.specs.Inner.Extents.{objects_in}
@@ -7,6 +9,7 @@ use Rattle.mot_repository.specs.Inner.Fold.{HaveLengths, are_consistent, if_cons
 use Rattle.mot_repository.specs.declared.opening.bounds.Bounds.{Bounds}
 use Rattle.mot_repository.specs.Inner.Bounds.{AreWithin, AreNamesFlagged}
 use Rattle.mot_repository.proofs.Apart.{consistent_but_set, consistent_but_last, done_where}
+use Rattle.mot_repository.proofs.ListFaults.{clash_is_fault}
 use Rattle.mot_repository.proofs.Bounds.{within_but_set, within_but_last}
 use Rattle.mot_repository.proofs.Listing.{set_there, set_behind, set_nowhere, lengths_set}
 use Rattle.mot_repository.proofs.Listing.{same_count, lengths_behind}
@@ -32,9 +35,6 @@ same-bounds b os ps es fs i j d e same h = rw (d, e, same) h
 same-within : (b : Bounds) (os ps : List Object) (es fs : List (ℕ × ℕ)) → os ≡ ps → es ≡ fs
     → AreWithin b os es → AreWithin b ps fs
 same-within b os ps es fs d e h = rw (← d, ← e) h
-
-not_both : false ≡ true → ⊥
-not_both e = cc
 
 pub stands_apart-requires-clause-paired : goal.stands_apart-requires-clause-paired
 stands_apart-requires-clause-paired c =
@@ -68,7 +68,7 @@ returns-in-Some-clause-done c =
     let at : index_of c.args.object.name os ≡ Some i =
     ap (index_of c.args.object.name) (sym c.deref.ensures.value) ∙ sym c.place_of_name.ensures.place
     ∙ c.in-Some.is in
-    done_where c.stands_apart.result
+    done_where (is_ok c.stands_apart.result)
     (objects_in (set os i c.args.object) (set es i (c.args.start, c.get.result)))
     (c.stands_apart.ensures.consistent ∙ ap are_consistent
     (same-objects c.deref-in-Some.result.now (set os i c.args.object)
@@ -103,7 +103,7 @@ returns-clause-done c =
     let o : Object = c.args.object in
     let next : List Object = c.push_reserved.new.self.items in
     let beside : List (ℕ × ℕ) = c.push_reserved-2.new.self.items in
-    done_where c.stands_apart-2.result (objects_in next beside)
+    done_where (is_ok c.stands_apart-2.result) (objects_in next beside)
     (c.stands_apart-2.ensures.consistent
     ∙ ap are_consistent (same-objects c.deref-2.result.now next c.deref-3.result.now beside
     c.deref-2.ensures.value c.deref-3.ensures.value))
@@ -180,14 +180,72 @@ pub returns-in-Some-clause-room_of_extents : goal.returns-in-Some-clause-room_of
 returns-in-Some-clause-room_of_extents c = refl
 
 pub returns-in-Some-clause-bounded : goal.returns-in-Some-clause-bounded
-returns-in-Some-clause-bounded c = λ apart.
+returns-in-Some-clause-bounded c =
     let os : List Object = c.args.objects.now.items in
     let es : List (ℕ × ℕ) = c.args.extents.now.items in
     let i : ℕ = c.in-Some.place in
-    same-within c.stands_apart.new.bounds c.deref-in-Some.result.now (set os i c.args.object)
+    on_ok_weaker c.stands_apart.result
+    (same-within c.stands_apart.new.bounds c.deref-in-Some.result.now (set os i c.args.object)
     c.deref-in-Some-2.result.now (set es i (c.args.start, c.get.result))
-    c.deref-in-Some.ensures.value c.deref-in-Some-2.ensures.value
-    (c.stands_apart.ensures.bounded apart)
+    c.deref-in-Some.ensures.value c.deref-in-Some-2.ensures.value)
+    c.stands_apart.ensures.bounded
+
+pub returns-in-Some-clause-fault : goal.returns-in-Some-clause-fault
+returns-in-Some-clause-fault c =
+    let os : List Object = c.args.objects.now.items in
+    let es : List (ℕ × ℕ) = c.args.extents.now.items in
+    let o : Object = c.args.object in
+    let i : ℕ = c.in-Some.place in
+    let now : List Object = c.deref-in-Some.result.now in
+    let beside : List (ℕ × ℕ) = c.deref-in-Some-2.result.now in
+    let extent : beside ≡ set es i (c.args.start, o.length) =
+    c.deref-in-Some-2.ensures.value ∙ ap (λ n. set es i (c.args.start, n)) c.get.ensures.value in
+    let at : index_of o.name os ≡ Some i =
+    ap (index_of o.name) (sym c.deref.ensures.value) ∙ sym c.place_of_name.ensures.place
+    ∙ c.in-Some.is in
+    IfErr-weaker c.stands_apart.result _ _
+    (λ f is. clash_is_fault c.args.limit (record { object = o; start = c.args.start })
+    (objects_in os es) now beside
+    (same-lengths now (set os i o) beside (set es i (c.args.start, o.length))
+    c.deref-in-Some.ensures.value extent (lengths_set os es i o c.args.start c.requires.paired))
+    c.get-id.result f c.get-id.ensures.value
+    (sym (set_there os es c.requires.paired c.args.limit c.args.start o i at)
+    ∙ ap Some (same-objects (set os i o) now (set es i (c.args.start, o.length)) beside
+    (sym c.deref-in-Some.ensures.value) (sym extent))) is)
+    c.stands_apart.ensures.fault
+
+pub returns-then-place-from-clause-fault : goal.returns-then-place-from-clause-fault
+returns-then-place-from-clause-fault c = (
+  refl,
+  sym (set_nowhere c.args.objects.now.items c.args.extents.now.items c.requires.paired
+      c.args.limit c.args.start c.args.object
+      (ap (index_of c.args.object.name) (sym c.deref.ensures.value)
+      ∙ sym c.place_of_name.ensures.place ∙ c.in_default.is) (omega arith)),
+)
+
+pub returns-clause-fault : goal.returns-clause-fault
+returns-clause-fault c =
+    let os : List Object = c.args.objects.now.items in
+    let es : List (ℕ × ℕ) = c.args.extents.now.items in
+    let o : Object = c.args.object in
+    let now : List Object = c.deref-2.result.now in
+    let beside : List (ℕ × ℕ) = c.deref-3.result.now in
+    let objects : now ≡ os ++ o ∷ [] = c.deref-2.ensures.value ∙ c.push_reserved.ensures.items in
+    let extents : beside ≡ es ++ (c.args.start, o.length) ∷ [] =
+    c.deref-3.ensures.value ∙ c.push_reserved-2.ensures.items
+    ∙ ap (λ n. es ++ (c.args.start, n) ∷ []) c.get.ensures.value in
+    IfErr-weaker c.stands_apart-2.result _ _
+    (λ f is. clash_is_fault c.args.limit (record { object = o; start = c.args.start })
+    (objects_in os es) now beside
+    (same-lengths now (os ++ o ∷ []) beside (es ++ (c.args.start, o.length) ∷ [])
+    objects extents (lengths_behind os es o c.args.start c.requires.paired))
+    c.get-id.result f c.get-id.ensures.value
+    (sym (set_behind os es c.requires.paired c.args.limit c.args.start o
+    (ap (index_of o.name) (sym c.deref.ensures.value) ∙ sym c.place_of_name.ensures.place
+    ∙ c.in_default.is) (omega arith))
+    ∙ ap Some (same-objects (os ++ o ∷ []) now (es ++ (c.args.start, o.length) ∷ []) beside
+    (sym objects) (sym extents))) is)
+    c.stands_apart-2.ensures.fault
 
 pub from-requires : goal.from-requires
 from-requires c = tt
@@ -206,7 +264,7 @@ pub returns-then-place-from-clause-room_of_extents :
 returns-then-place-from-clause-room_of_extents c = refl
 
 pub returns-then-place-from-clause-bounded : goal.returns-then-place-from-clause-bounded
-returns-then-place-from-clause-bounded c = λ is. absurd (not_both is)
+returns-then-place-from-clause-bounded c = tt
 
 pub push_reserved-requires : goal.push_reserved-requires
 push_reserved-requires c =
@@ -285,7 +343,8 @@ pub returns-clause-room_of_extents : goal.returns-clause-room_of_extents
 returns-clause-room_of_extents c = c.push_reserved-2.ensures.capacity
 
 pub returns-clause-bounded : goal.returns-clause-bounded
-returns-clause-bounded c = λ apart.
-    same-within c.stands_apart-2.new.bounds c.deref-2.result.now c.push_reserved.new.self.items
+returns-clause-bounded c =
+    on_ok_weaker c.stands_apart-2.result
+    (same-within c.stands_apart-2.new.bounds c.deref-2.result.now c.push_reserved.new.self.items
     c.deref-3.result.now c.push_reserved-2.new.self.items c.deref-2.ensures.value
-    c.deref-3.ensures.value (c.stands_apart-2.ensures.bounded apart)
+    c.deref-3.ensures.value) c.stands_apart-2.ensures.bounded

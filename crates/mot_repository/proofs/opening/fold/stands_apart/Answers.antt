@@ -52,7 +52,7 @@ bounds-extents-place c =
     omega (arith, count, within)
 
 pub returns-clause-bounded : goal.returns-clause-bounded
-returns-clause-bounded c _ =
+returns-clause-bounded c =
     let os : List Object = c.args.objects.now in
     let es : List (ℕ × ℕ) = c.args.extents.now in
     let i : ℕ = c.args.place in

@@ -8,6 +8,7 @@ use Rattle.mot_repository.specs.Inner.InOrder.{view_with}
 use Rattle.mot_repository.specs.Repository.{RepositoryView}
 use Rattle.mot_repository.proofs.Answering.{calm_where_ok}
 use Rattle.mot_repository.proofs.OpenDisk.{is_opened, refused_later, where_ok, syncs_on}
+use Rattle.mot_repository.proofs.OpenDisk.{reason_later}
 use Rattle.mot_repository.proofs.OpenDisk.{three_calls, at_most_three, one_of_three}
 use Rattle.mot_repository.proofs.repository.Repository.open.Goals as goal
 
@@ -31,7 +32,7 @@ returns-in-Ok-clause-opened g c = λ honest.
 pub returns-in-Err-clause-refused : goal.returns-in-Err-clause-refused
 returns-in-Err-clause-refused g c =
     refused_later (g.D.Disk.state c.args.disk) (g.D.Disk.state c.sync.new.self)
-    (g.D.Disk.state c.load_inventory.new.disk) c.sync.result c.in-Err.refusal
+    (g.D.Disk.state c.load_inventory.new.disk) c.sync.result c.in-Err.fault.refusal
     c.sync.ensures.cause
     (sym c.is_err.ensures.value ∙ c.if-is_err.false)
     (λ honest. (c.sync.ensures.still
@@ -113,3 +114,11 @@ returns-in-Err-clause-calm g c =
 pub returns-in-Err-clause-cost : goal.returns-in-Err-clause-cost
 returns-in-Err-clause-cost g c =
     at_most_three _ _ _ c.sync.ensures.called c.in-Err.ensures.cost.at_most
+
+pub returns-in-Err-clause-so : goal.returns-in-Err-clause-so
+returns-in-Err-clause-so g c = λ honest.
+    let mid = c.load_inventory.ensures.only_reads.keeps.was_honest honest in
+    reason_later c.in-Err.fault.reason (g.D.Disk.state c.sync.new.self).bytes
+    (g.D.Disk.state c.args.disk).bytes
+    (c.sync.ensures.still (c.sync.ensures.keeps.frame.was_honest mid)).bytes
+    (c.in-Err.ensures.so honest)

@@ -1,0 +1,286 @@
+//! Why a disk is not opened, or not formatted: what its bytes say.
+use crate::Layout;
+use crate::places::HEAD_SIZE;
+use mot_numbers::{
+    Geometry, MAX_ADDRESS, MAX_DATA_AREA, MAX_OBJECTS, MAX_SEGMENT, MIN_SEGMENT, Refusal,
+};
+use mot_objects::{MAX_BODY, MAX_SUBTYPE, MAX_TYPE};
+use std::alloc::AllocError;
+use std::fmt::{self, Display, Formatter};
+
+/// Why a disk is not opened, or not formatted.
+#[derive(Clone, Copy)]
+pub enum Reason {
+    /// Its first bytes are not those of a disk: `NotFormatted`.
+    Head(HeadFault),
+    /// A field of this slot breaks the format: `Damaged`.
+    Field { slot: u16, fault: FieldFault },
+    /// The record of this slot makes a fault of the list: `Damaged`.
+    List { slot: u16, fault: ListFault },
+    /// It is to be formatted, and has the magic: `AlreadyFormatted`.
+    Formatted,
+    /// It is to be formatted, and has fewer bytes than the geometry asks for: `DiskTooSmall`.
+    Small { len: u64, asked: u64 },
+}
+
+/// Why the first bytes of a disk give no geometry.
+#[derive(Clone, Copy)]
+pub enum HeadFault {
+    /// It has fewer bytes than a head.
+    Short { len: u64 },
+    /// It does not begin with the magic.
+    Foreign,
+    /// This number is out of its range.
+    OutOfRange { size: Size, number: u32 },
+    /// It has fewer bytes than its geometry asks for.
+    Cut { len: u64, asked: u64 },
+}
+
+/// A number of the geometry.
+#[derive(Clone, Copy)]
+pub enum Size {
+    Objects,
+    Segment,
+    Address,
+    Packet,
+    Data,
+}
+
+/// What is wrong with a slot's fields.
+#[derive(Clone, Copy)]
+pub enum FieldFault {
+    /// The directory has no transport id.
+    Directory,
+    /// No transport id was taken last.
+    Last,
+    /// The layout has no such kind of record.
+    Kind { layout: Layout, kind: u8 },
+    /// The object has no transport id.
+    Object,
+    /// A type or subtype out of its range.
+    Content { content_type: u8, subtype: u16 },
+    /// A body of no bytes, or of too many.
+    Length { length: u32 },
+    /// The body ends after the data area.
+    Extent { end: u64, area: u32 },
+    /// The name of so many bytes breaks its rule.
+    Name { length: u8 },
+    /// The MIME type of so many bytes breaks its rule.
+    Mime { length: u8 },
+}
+
+/// What is wrong with a record, after those before it.
+#[derive(Clone, Copy)]
+pub enum ListFault {
+    /// It removes an object that is not there.
+    Missing { id: u16 },
+    /// It sets one object more than the disk is for.
+    TooMany { limit: u16 },
+    /// Its object has the transport id of another one.
+    SameId { id: u16 },
+    /// The directory has the transport id of an object.
+    DirectoryId { id: u16 },
+    /// The body of its object, of this transport id, meets that of another one.
+    Meets { id: u16 },
+}
+
+/// A refusal of a disk, and why, if the bytes of the disk are the reason.
+#[derive(Clone, Copy)]
+pub struct Fault {
+    /// `OutOfMemory`, `DeviceFault`, `NotFormatted` or `Damaged`.
+    pub refusal: Refusal,
+    /// The reason of the last two.
+    pub reason: Option<Reason>,
+}
+
+impl Fault {
+    ghost use Rattle.std.specs.Prelude.{◌≡◌, Some, None};
+    ghost use Rattle.mot_journal.specs.Reason.{refusal_of};
+
+    /// That of a disk whose bytes are the reason.
+    pub fn of(reason: Reason) -> Fault
+        ensures { result ≡ record { refusal = refusal_of reason; reason = Some reason } }
+    {
+        Fault {
+            refusal: reason.refusal(),
+            reason: Some(reason),
+        }
+    }
+
+    /// That of memory that was refused, or of a disk that failed: its bytes are not the reason.
+    pub fn plain(refusal: Refusal) -> Fault
+        ensures { result ≡ record { refusal = refusal; reason = None } }
+    {
+        Fault {
+            refusal,
+            reason: None,
+        }
+    }
+}
+
+impl From<AllocError> for Fault {
+    ghost use Rattle.std.specs.Prelude.{◌≡◌, None};
+    ghost use Rattle.mot_numbers.specs.declared.refusal.Refusal.TheVariants.{OutOfMemory};
+    ghost use Rattle.mot_journal.specs.declared.reason.Fault.{Fault};
+
+    ghost from_gives = { λ _ (fault : Fault).
+        fault ≡ record { refusal = OutOfMemory; reason = None } };
+
+    fn from(_: AllocError) -> Self {
+        Fault::plain(Refusal::OutOfMemory)
+    }
+}
+
+impl Reason {
+    ghost use Rattle.std.specs.Prelude.{◌≡◌, ◌<◌, IfSome, IsSome};
+    ghost use Rattle.mot_numbers.specs.Geometry.{length_of};
+    ghost use Rattle.mot_numbers.specs.declared.refusal.Refusal.TheVariants.{AlreadyFormatted};
+    ghost use Rattle.mot_numbers.specs.declared.refusal.Refusal.TheVariants.{DiskTooSmall};
+    ghost use Rattle.mot_journal.specs.Reason.{refusal_of, IsFormattingReason};
+
+    /// The refusal that it is the reason of.
+    pub fn refusal(self) -> Refusal
+        ensures { result ≡ refusal_of self }
+    {
+        match self {
+            Reason::Head(_) => Refusal::NotFormatted,
+            Reason::Field { slot, .. } | Reason::List { slot, .. } => Refusal::Damaged(slot),
+            Reason::Formatted => Refusal::AlreadyFormatted,
+            Reason::Small { .. } => Refusal::DiskTooSmall,
+        }
+    }
+
+    /// Why formatting a disk of so many bytes with this geometry was refused.
+    pub fn of_formatting(refusal: Refusal, len: u64, geometry: &Geometry) -> Option<Reason>
+        ensures so { IfSome result (λ reason. (refusal ≡ refusal_of reason)
+            × IsFormattingReason len geometry.now reason) }
+
+        // It is found.
+        ensures formatted { refusal ≡ AlreadyFormatted → IsSome result }
+        ensures small { refusal ≡ DiskTooSmall → len < length_of geometry.now → IsSome result }
+    {
+        let asked = geometry.length();
+        match refusal {
+            Refusal::AlreadyFormatted => Some(Reason::Formatted),
+            Refusal::DiskTooSmall if len < asked => Some(Reason::Small { len, asked }),
+            _ => None,
+        }
+    }
+}
+
+impl Display for Reason {
+    fn fmt<W: fmt::Write>(&self, f: &mut Formatter<W>) -> fmt::Result {
+        match *self {
+            Reason::Head(fault) => fault.fmt(f),
+            Reason::Field { slot, fault } => write!(f, "slot {slot}: {fault}"),
+            Reason::List { slot, fault } => write!(f, "slot {slot}: {fault}"),
+            Reason::Formatted => f.write_str("it is a motcar disk already"),
+            Reason::Small { len, asked } => {
+                write!(f, "{len} bytes, and the geometry asks for {asked}")
+            }
+        }
+    }
+}
+
+impl Display for HeadFault {
+    fn fmt<W: fmt::Write>(&self, f: &mut Formatter<W>) -> fmt::Result {
+        match *self {
+            HeadFault::Short { len } => write!(
+                f,
+                "no motcar disk: {len} bytes, and the head alone has {HEAD_SIZE}"
+            ),
+            HeadFault::Foreign => f.write_str("no motcar disk: it does not begin with MOTCAR01"),
+            HeadFault::OutOfRange { size, number } => {
+                write!(f, "its head has {} {number}: {size}", size.name())
+            }
+            HeadFault::Cut { len, asked } => write!(f, "cut short: {len} of {asked} bytes"),
+        }
+    }
+}
+
+impl Size {
+    /// Its name, as that of its option.
+    fn name(self) -> &'static str {
+        match self {
+            Size::Objects => "objects",
+            Size::Segment => "segment",
+            Size::Address => "address",
+            Size::Packet => "packet",
+            Size::Data => "data",
+        }
+    }
+}
+
+/// It prints as its range.
+impl Display for Size {
+    fn fmt<W: fmt::Write>(&self, f: &mut Formatter<W>) -> fmt::Result {
+        let (least, most) = match *self {
+            Size::Objects => (1, u32::from(MAX_OBJECTS)),
+            Size::Segment => (u32::from(MIN_SEGMENT), u32::from(MAX_SEGMENT)),
+            Size::Address => (1, u32::from(MAX_ADDRESS)),
+            Size::Packet => return f.write_str("24, 48, 72 or 96"),
+            Size::Data => (1, MAX_DATA_AREA),
+        };
+        write!(f, "{least} to {most}")
+    }
+}
+
+impl Display for FieldFault {
+    fn fmt<W: fmt::Write>(&self, f: &mut Formatter<W>) -> fmt::Result {
+        match *self {
+            FieldFault::Directory => f.write_str("the directory has transport id 0"),
+            FieldFault::Last => f.write_str("the transport id that was taken last is 0"),
+            FieldFault::Kind { layout, kind } => write!(f, "kind {kind}: {}", kinds_of(layout)),
+            FieldFault::Object => f.write_str("the object has transport id 0"),
+            FieldFault::Content {
+                content_type,
+                subtype,
+            } => write!(
+                f,
+                "content type {content_type}, subtype {subtype}: at most {MAX_TYPE} and {MAX_SUBTYPE}"
+            ),
+            FieldFault::Length { length } => {
+                write!(f, "a body of {length} bytes: 1 to {MAX_BODY}")
+            }
+            FieldFault::Extent { end, area } => {
+                write!(f, "its body ends at {end}, the data area at {area}")
+            }
+            FieldFault::Name { length } => write_broken(f, "name", length),
+            FieldFault::Mime { length } => write_broken(f, "MIME type", length),
+        }
+    }
+}
+
+/// Writes that a text of so many bytes breaks its rule.
+fn write_broken<W: fmt::Write>(f: &mut Formatter<W>, text: &str, length: u8) -> fmt::Result {
+    write!(f, "its {text} of {length} bytes breaks the rule of {text}s")
+}
+
+/// The kinds of records that a layout has, in words.
+fn kinds_of(layout: Layout) -> &'static str {
+    match layout {
+        Layout::One => "layout 1 has 1 to 3",
+        Layout::Two => "layout 2 has 17 to 19",
+    }
+}
+
+impl Display for ListFault {
+    fn fmt<W: fmt::Write>(&self, f: &mut Formatter<W>) -> fmt::Result {
+        let (before, number, after) = match *self {
+            ListFault::Missing { id } => ("it removes transport id ", id, ", which no object has"),
+            ListFault::TooMany { limit } => ("it sets one object more than ", limit, ""),
+            ListFault::SameId { id } => ("transport id ", id, " is that of another object, too"),
+            ListFault::DirectoryId { id } => {
+                ("the directory's transport id ", id, " is that of an object")
+            }
+            ListFault::Meets { id } => {
+                (
+                    "the body of transport id ",
+                    id,
+                    " meets that of another object",
+                )
+            }
+        };
+        write!(f, "{before}{number}{after}")
+    }
+}

@@ -1,3 +1,0 @@
-mod Halves
-mod Lists
-mod Openings

@@ -1,2 +1,0 @@
--- What only private contracts and proofs need.
-pub mod Meeting

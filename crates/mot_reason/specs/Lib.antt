@@ -1,5 +1,0 @@
-pub mod Bytes
-pub mod Fields
-pub mod Inner
-pub mod List
-pub mod Reason

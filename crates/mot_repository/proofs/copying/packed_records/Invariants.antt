@@ -1,0 +1,15 @@
+use Rattle.std.proofs.Common.{◌≡◌, ◌+◌, take, length, vec_len, vec_capacity}
+use Rattle.mot_repository.specs.Copy.{packed_catalogue, packed_objects}
+use Rattle.mot_repository.specs.Inner.Extents.{bytes_of_bodies}
+use Rattle.mot_repository.specs.Inner.Laws.{records_of_objects}
+use Rattle.mot_repository.proofs.copying.packed_records.Given as goal
+
+abbrev pub invariant-loop-object : goal.invariant-loop-object
+invariant-loop-object l = record {
+  items : l.records.items
+      ≡ records_of_objects (packed_catalogue l.carousel (l.directory, l.cursor))
+      (packed_objects 0 (take l.object-index l.carousel.objects.items));
+  start : l.start ≡ bytes_of_bodies (take l.object-index l.carousel.objects.items);
+  count : vec_len l.records ≡ l.object-index;
+  room : vec_capacity l.records ≡ length l.carousel.objects.items + 1;
+}
