@@ -91,6 +91,8 @@ figure_rows f =
     (length f.objects.now)
     ∷ row (codes "motcar_directory_id") (codes "gauge") (codes "Transport id of the directory.")
     f.directory
+    ∷ row (codes "motcar_directory_checksum") (codes "gauge")
+    (codes "Checksum of the bytes of the directory.") f.checksum
     ∷ row (codes "motcar_turn_packets") (codes "gauge") (codes "Packets of a turn.") f.turn_packets
     ∷ row (codes "motcar_turn_bytes") (codes "gauge") (codes "Bytes of the packets of a turn.")
     f.turn_bytes

@@ -29,6 +29,8 @@ pub struct Figures<'a> {
     pub objects: &'a [Object],
     /// The transport id of the directory.
     pub directory: u64,
+    /// The checksum of the directory's bytes; 0 if it is not known.
+    pub checksum: u64,
     /// How many packets a turn has.
     pub turn_packets: u64,
     /// How many bytes these have.
@@ -91,6 +93,12 @@ const DIRECTORY: Family = Family {
     name: "motcar_directory_id",
     kind: "gauge",
     help: "Transport id of the directory.",
+};
+
+const CHECKSUM: Family = Family {
+    name: "motcar_directory_checksum",
+    kind: "gauge",
+    help: "Checksum of the bytes of the directory.",
 };
 
 const TURN_PACKETS: Family = Family {
@@ -194,6 +202,7 @@ fn add_figures(text: &mut Vec<u8>, disk: &str, figures: &Figures<'_>) -> Result<
     let rows = [
         Row(OBJECTS, figures.objects.len() as u64),
         Row(DIRECTORY, figures.directory),
+        Row(CHECKSUM, figures.checksum),
         Row(TURN_PACKETS, figures.turn_packets),
         Row(TURN_BYTES, figures.turn_bytes),
         Row(FREE, figures.free),

@@ -2,8 +2,9 @@
 ghost use Rattle.std.specs.Prelude.{◌≡◌, Err};
 
 use disk_model::Disk;
+use mot_journal::Reason;
 use mot_numbers::Refusal;
-use mot_reason::{Explained, Reason};
+use mot_playout::Refused;
 
 /// What a command on a disk came to, and the disk as it stands then.
 #[derive(Drop)]
@@ -18,7 +19,7 @@ pub struct Ended<D: Disk, T> {
 
 impl<D: Disk, T> Ended<D, T> {
     /// The end of a command on a disk that was not opened.
-    pub fn unopened(refused: Explained<D>) -> Self
+    pub fn unopened(refused: Refused<D>) -> Self
         ensures { result ≡ record {
           disk = refused.disk;
           result = Err refused.refusal;

@@ -17,7 +17,6 @@ use crate::Ended;
 use disk_model::Disk;
 use mot_lines::{period_text, put_text};
 use mot_numbers::Refusal;
-use mot_reason::open_repository;
 use mot_repository::Repository;
 use mot_session::write_whole;
 use std::alloc::Global;
@@ -33,7 +32,7 @@ pub fn export_disk<D: Disk, W: Write>(alloc: Global, disk: D, writer: &mut W) ->
     ensures { Exports (fault_of result.result) (W.contents writer.old) (W.contents writer.new)
         (D.state disk) (D.state result.disk) }
 {
-    let mut repository = match open_repository(alloc, disk) {
+    let mut repository = match Repository::open(alloc, disk) {
         Ok(repository) => repository,
         Err(refused) => return Ended::unopened(refused),
     };

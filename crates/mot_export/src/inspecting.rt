@@ -29,7 +29,6 @@ use mot_numbers::{Geometry, Refusal};
 use mot_objects::Object;
 use mot_player::Played;
 use mot_playout::Server;
-use mot_reason::open_server;
 use mot_session::write_whole;
 use std::alloc::Global;
 use std::io::Write;
@@ -56,7 +55,7 @@ pub fn inspect_disk<D: Disk, W: Write>(
     // The lengths that are told of the disk's own packets are those of the turn that is played.
     ensures lengths { TurnsHaveTheirLengths }
 {
-    let mut server = match open_server(alloc, disk) {
+    let mut server = match Server::open(alloc, disk) {
         Ok(server) => server,
         Err(refused) => return Ended::unopened(refused),
     };

@@ -1,9 +1,8 @@
-//! How many packets a turn has, and how many bytes these.
+//! How many packets a turn has, and how many bytes these; and the checksum of its directory.
 ghost use Rattle.std.specs.Prelude.{◌≡◌, ◌+◌, ◌≤◌, IfErr, IfOk, List, ℕ};
 ghost use Rattle.std.specs.List.{fold};
-ghost use Rattle.mot_export.specs.Filling.{lengths_of_turn};
 ghost use Rattle.mot_export.specs.Inner.Lengths.{entity_lengths, group_lengths};
-ghost use Rattle.mot_export.specs.TurnSize.{no_packets, size_of, with_counted};
+ghost use Rattle.mot_export.specs.TurnSize.{begun, size_of_turn, with_counted};
 ghost use Rattle.mot_numbers.specs.PacketLength.{room_of};
 ghost use Rattle.mot_numbers.specs.declared.refusal.Refusal.TheVariants.{OutOfMemory};
 ghost use Rattle.mot_objects.specs.Stands.{AreBodiesOf, carousel_of};
@@ -11,6 +10,7 @@ ghost use Rattle.mot_objects.specs.declared.body.TheConstants.{MAX_BODY};
 ghost use Rattle.mot_player.specs.Turn.{turn_of_carousel};
 
 use crate::filling::{GROUP_FRAME, packet_for};
+use mot_base::crc16;
 use mot_directory::directory_bytes;
 use mot_groups::segment_count;
 use mot_numbers::{PacketLength, Refusal, SegmentSize};
@@ -18,23 +18,33 @@ use mot_objects::Carousel;
 use mot_packets::packet_count;
 use std::alloc::Global;
 
-/// How many packets a turn has, and how many bytes these.
+/// How many packets a turn has, and how many bytes these; and the checksum of its directory.
 #[derive(Clone, Copy)]
 pub struct TurnSize {
     /// The packets.
     pub packets: u64,
     /// Their bytes.
     pub bytes: u64,
+    /// The checksum word of the directory's bytes, before they are cut into segments.
+    pub checksum: u16,
 }
 
 impl TurnSize {
-    /// No packet.
+    /// No packet, and no directory.
     pub fn none() -> TurnSize
-        ensures { result ≡ no_packets }
+        ensures { result ≡ begun 0 }
+    {
+        TurnSize::begun(0)
+    }
+
+    /// No packet so far, of a turn whose directory has this checksum.
+    fn begun(checksum: u16) -> TurnSize
+        ensures { result ≡ begun checksum }
     {
         TurnSize {
             packets: 0,
             bytes: 0,
+            checksum,
         }
     }
 
@@ -75,8 +85,10 @@ impl TurnSize {
     }
 }
 
-/// What a turn of this carousel takes, from its beginning on, with the directory once. It takes
-/// memory for the directory's bytes, and gives it back. The only refusal is `OutOfMemory`.
+/// What a turn of this carousel takes, from its beginning on, with the directory once; and the
+/// checksum of the directory, which two carousels share only by chance if any of their objects
+/// differs in its name, type, length, transport id or version. It takes memory for the directory's
+/// bytes, and gives it back. The only refusal is `OutOfMemory`.
 pub fn turn_size(
     alloc: Global,
     carousel: &Carousel,
@@ -84,13 +96,13 @@ pub fn turn_size(
     full_length: PacketLength,
 ) -> Result<TurnSize, Refusal>
     ensures counted { (bodies : List (List ℕ)) → AreBodiesOf carousel.now bodies
-        → IfOk result (λ size. size ≡ size_of (lengths_of_turn (room_of full_length) segment_size
-        (turn_of_carousel (carousel_of carousel.now bodies) segment_size))) }
+        → IfOk result (λ size. size ≡ size_of_turn (room_of full_length) segment_size
+        (turn_of_carousel (carousel_of carousel.now bodies) segment_size)) }
     ensures refused { IfErr result (λ r. r ≡ OutOfMemory) }
 {
-    let directory = directory_bytes(alloc, carousel, segment_size)?.len();
-    let mut turn = TurnSize::none();
-    turn.count_entity(full_length, segment_size, directory);
+    let directory = directory_bytes(alloc, carousel, segment_size)?;
+    let mut turn = TurnSize::begun(crc16(&directory));
+    turn.count_entity(full_length, segment_size, directory.len());
     for object in &carousel.objects {
         turn.count_entity(full_length, segment_size, object.length.get() as usize);
     }

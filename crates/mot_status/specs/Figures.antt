@@ -19,6 +19,7 @@ pub record AreFigures (path : List ℕ) (view : RepositoryView) (size : TurnSize
   pub version : f.version.now ≡ VERSION.now
   pub objects : f.objects.now ≡ view.carousel.objects.items
   pub directory : f.directory ≡ view.carousel.directory
+  pub checksum : f.checksum ≡ size.checksum
   pub turn_packets : f.turn_packets ≡ size.packets
   pub turn_bytes : f.turn_bytes ≡ size.bytes
   pub free : f.free ≡ view.journal.geometry.area - bytes_of view.carousel.objects.items

@@ -29,7 +29,7 @@ use Rattle.mot_update.specs.declared.moment.Moment.TheVariants.{BetweenTurns}
 -- what a turn takes: nothing, if that is not known
 abbrev pub turn_of : Option Measured → TurnSize
 turn_of (Some measured) = measured.turn
-turn_of None = record { packets = 0; bytes = 0 }
+turn_of None = record { packets = 0; bytes = 0; checksum = 0 }
 
 -- how many packets that are, if it is known
 abbrev pub turn_packets : Option Measured → Option ℕ

@@ -11,9 +11,8 @@ use mot_playout::Server;
 /// The version of the program, which `motcar --version` prints, too.
 pub(crate) const VERSION: &str = "0.2.0";
 
-/// What is known of the carousel of a server, whose disk has this path and whose turn takes
-/// so much,
-/// after a last change at this second.
+/// What is known of the carousel of a server, whose disk has this path and whose turn takes so
+/// much, after a last change at this second.
 pub(crate) fn figures_of<'a, D: Disk>(
     disk: &'a str,
     server: &'a Server<D>,
@@ -31,6 +30,7 @@ pub(crate) fn figures_of<'a, D: Disk>(
         version: VERSION,
         objects,
         directory: u64::from(carousel.directory.get()),
+        checksum: u64::from(turn.checksum),
         turn_packets: turn.packets,
         turn_bytes: turn.bytes,
         free: data.saturating_sub(bytes_of(objects)),

@@ -1,10 +1,11 @@
 use Rattle.std.proofs.Common.{◌≡◌, ◌≤◌, ◌∙◌, ◌∷◌, ℕ, zero, suc, List, [], ap, arith, length, refl, subst, take}
-use Rattle.mot_directory.specs.Directory.{bytes_of_directory}
-use Rattle.mot_directory.specs.Entries.{directory_of}
+use Rattle.mot_base.specs.Checksum.{crc_of}
+use Rattle.mot_export.specs.Filling.{lengths_of_turn}
 use Rattle.mot_numbers.specs.PacketLength.{room_of}
 use Rattle.mot_objects.specs.Stands.{carousel_of}
 use Rattle.mot_objects.specs.declared.object.Object.{Object}
 use Rattle.mot_export.specs.TurnSize.{size_of}
+use Rattle.mot_player.specs.Turn.{turn_of_carousel}
 use Rattle.mot_export.specs.Inner.Lengths.{turn_lengths}
 use Rattle.mot_export.proofs.Filled.{carousel-lengths, sizes}
 use Rattle.mot_export.proofs.turn.turn_size.Goals as goal
@@ -21,14 +22,15 @@ returns-clause-counted c = λ bodies are.
     let size : ℕ = c.args.segment_size in
     let k = c.args.carousel.now in
     let room = room_of c.args.full_length in
-    let directory = c.len-directory.result in
-    let directory_is : directory
-    ≡ length (bytes_of_directory (directory_of (carousel_of k bodies) size)) =
-    c.len-directory.ensures ∙ c.in_ok-directory_bytes.field-0.ok.0
-    ∙ ap length (c.in_ok-directory_bytes.ensures.written bodies are) in
+    let bytes = c.in_ok-directory.directory.items in
+    let turn = turn_of_carousel (carousel_of k bodies) size in
+    let written : bytes ≡ turn.directory = c.in_ok-directory.ensures.written bodies are in
     let all = subst (λ (os : List Object). length os ≤ c.loop-object.object-index)
     c.deref-object-items.ensures.value c.loop-object-test.false in
     c.loop-object.invariant.counted
-    ∙ ap (λ (os : List Object). size_of (turn_lengths room size (directory ∷ sizes os)))
+    ∙ ap (λ (os : List Object). size_of (crc_of bytes)
+    (turn_lengths room size (length bytes ∷ sizes os)))
     (all_taken c.loop-object.object-index k.objects.items all)
-    ∙ ap size_of (carousel-lengths room size directory k bodies are directory_is)
+    ∙ ap (size_of (crc_of bytes))
+    (carousel-lengths room size (length bytes) k bodies are (ap length written))
+    ∙ ap (λ (l : List ℕ). size_of (crc_of l) (lengths_of_turn room size turn)) written

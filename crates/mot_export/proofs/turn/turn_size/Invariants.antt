@@ -1,5 +1,5 @@
-use Rattle.std.proofs.Common.{◌≡◌, ◌∷◌, map, take}
-use Rattle.std.specs.List.{fold}
+use Rattle.std.proofs.Common.{◌≡◌, ◌∷◌, length, map, take}
+use Rattle.mot_base.specs.Checksum.{crc_of}
 use Rattle.mot_numbers.specs.PacketLength.{room_of}
 use Rattle.mot_objects.specs.declared.object.Object.{Object}
 use Rattle.mot_export.specs.TurnSize.{size_of}
@@ -9,6 +9,7 @@ use Rattle.mot_export.proofs.turn.turn_size.Given as goal
 -- the size of the directory and of the bodies so far
 abbrev pub invariant-loop-object : goal.invariant-loop-object
 invariant-loop-object l = record {
-  counted : l.turn ≡ size_of (turn_lengths (room_of l.full_length) l.segment_size
-      (l.directory ∷ map (λ (o : Object). o.length) (take l.object-index l.carousel.objects.items)));
+  counted : l.turn ≡ size_of (crc_of l.directory.items) (turn_lengths (room_of l.full_length)
+      l.segment_size (length l.directory.items
+      ∷ map (λ (o : Object). o.length) (take l.object-index l.carousel.objects.items)));
 }

@@ -3,7 +3,7 @@ use Rattle.std.specs.List.{fold}
 use Rattle.mot_numbers.specs.PacketLength.{room_of}
 use Rattle.mot_export.specs.TurnSize.{with_counted}
 use Rattle.mot_export.specs.Inner.Lengths.{packet_lengths}
-use Rattle.mot_export.proofs.Filled.{packet-more, packets-all}
+use Rattle.mot_export.proofs.Filled.{packet-more}
 use Rattle.mot_export.proofs.turn.TurnSize.count_group.Goals as goal
 
 pub loop-preserved : goal.loop-preserved
