@@ -67,8 +67,8 @@ pub data OpensOutput (path : List ℕ) (result : Result Handle PacketsFault) (ol
       ++ told_terminal handle is_terminal ∷ []
       → OpensOutput path result old new
 
--- A pipe or a device is opened for reading and writing, if it is no terminal. The lock of a pipe is
--- taken.
+-- A pipe or a device is opened for reading and writing, if it is no terminal. Of a block device
+-- nothing is taken, and nothing is written to it. The lock of a pipe is taken.
 pub data OpensStream (path : List ℕ) (result : Result Handle PacketsFault) (old new : List Call) :
     Type 0 where
   unopened : (fault : Fault) → result ≡ Err (told_as fault)
@@ -79,22 +79,32 @@ pub data OpensStream (path : List ℕ) (result : Result Handle PacketsFault) (ol
   unseen : (handle : Handle) (fault : Fault) → result ≡ Err (told_as fault)
       → new ≡ old ++ opened path How.Stream (Ok handle) ∷ [] ++ told_terminal handle false ∷ []
       ++ looked_at handle (Err fault) ∷ [] → OpensStream path result old new
-  device : (handle : Handle) (found : Seen) → found.kind ≢ Pipe → result ≡ Ok handle
+  block : (handle : Handle) (found : Seen) → found.block ≢ None
+      → result ≡ Err PacketsFault.BlockDevice
       → new ≡ old ++ opened path How.Stream (Ok handle) ∷ [] ++ told_terminal handle false ∷ []
       ++ looked_at handle (Ok found) ∷ [] → OpensStream path result old new
-  pipe : (handle : Handle) (found : Seen) (answer : Result (Unit {0}) Fault) → found.kind ≡ Pipe
-      → result ≡ held_by handle answer
+  device : (handle : Handle) (found : Seen) → found.block ≡ None → found.kind ≢ Pipe
+      → result ≡ Ok handle
+      → new ≡ old ++ opened path How.Stream (Ok handle) ∷ [] ++ told_terminal handle false ∷ []
+      ++ looked_at handle (Ok found) ∷ [] → OpensStream path result old new
+  pipe : (handle : Handle) (found : Seen) (answer : Result (Unit {0}) Fault) → found.block ≡ None
+      → found.kind ≡ Pipe → result ≡ held_by handle answer
       → new ≡ old ++ opened path How.Stream (Ok handle) ∷ [] ++ told_terminal handle false ∷ []
       ++ looked_at handle (Ok found) ∷ [] ++ locked handle answer ∷ []
       → OpensStream path result old new
 
--- what stands at a path, by its kind
-abbrev pub place_of : Kind → Place
-place_of Kind.File = Place.File
-place_of Kind.Folder = Place.Stream
-place_of Kind.Link = Place.Stream
-place_of Kind.Pipe = Place.Stream
-place_of Kind.Special = Place.Stream
+-- what stands at a path, by the number of its block device and its kind: no block device takes
+-- packets
+abbrev pub place_for : Option ℕ → Kind → Result Place PacketsFault
+place_for (Some number) kind = Err PacketsFault.BlockDevice
+place_for None Kind.File = Ok Place.File
+place_for None Kind.Folder = Ok Place.Stream
+place_for None Kind.Link = Ok Place.Stream
+place_for None Kind.Pipe = Ok Place.Stream
+place_for None Kind.Special = Ok Place.Stream
+
+abbrev pub place_of : Seen → Result Place PacketsFault
+place_of found = place_for found.block found.kind
 
 -- nothing stands at a path that has a name; any other fault is handed on
 abbrev pub place_without : (path : List ℕ) → Fault → Result Place PacketsFault
@@ -103,7 +113,8 @@ place_without (first ∷ rest) (Absent error) = Ok Place.Nothing
 place_without (first ∷ rest) Busy = Err PacketsFault.InUse
 place_without (first ∷ rest) (System error) = Err (PacketsFault.System error)
 
--- What stands at the path, or where a link there leads. The disk and its files are refused.
+-- What stands at the path, or where a link there leads. The disk and its files are refused, and so
+-- is a block device: it is not opened.
 pub data IsPlace (path disk : List ℕ) (result : Result Place PacketsFault) (old new : List Call) :
     Type 0 where
   of_disk : result ≡ Err PacketsFault.IsOfDisk → IsOfDisk path disk true old new
@@ -112,8 +123,7 @@ pub data IsPlace (path disk : List ℕ) (result : Result Place PacketsFault) (ol
       → IsOfDisk path disk false old inner → new ≡ inner ++ followed path (Err fault) ∷ []
       → IsPlace path disk result old new
   seen : (found : Seen) (answer : Result Seen Fault) (inner : List Call)
-      → result ≡ (if is_answer_of found answer then Err PacketsFault.IsDisk
-      else Ok (place_of found.kind))
+      → result ≡ (if is_answer_of found answer then Err PacketsFault.IsDisk else place_of found)
       → IsOfDisk path disk false old inner
       → new ≡ inner ++ followed path (Ok found) ∷ [] ++ followed disk answer ∷ []
       → IsPlace path disk result old new
@@ -125,7 +135,8 @@ pub record BeginsBeside (path disk : List ℕ) (handle : Handle) (place : NewPla
   pub its_beside : string_bytes place.beside ≡ path ++ codes ".new"
   pub begun : Begins (string_bytes place.beside) disk (Ok handle) old new
 
--- What was opened to take packets. What is neither a pipe nor a device is not opened itself.
+-- What was opened to take packets. What is neither a pipe nor a character device is not opened
+-- itself.
 pub data OpensInto (path disk : List ℕ) (handle : Handle) (old new : List Call) :
     (destination : Destination) → Type 0 where
   output : OpensOutput path (Ok handle) old new

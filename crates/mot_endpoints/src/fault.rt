@@ -23,6 +23,8 @@ pub enum PacketsFault {
     IsOfDisk,
     /// It is a link, or no regular file.
     NoFile,
+    /// The file beside it, which is written first, is a link, or no regular file.
+    NoNewFile,
     /// A write took less than a packet.
     Cut,
     /// No turn is asked for, and the file would be empty.
@@ -33,6 +35,8 @@ pub enum PacketsFault {
     EndlessFile,
     /// It is a terminal.
     Terminal,
+    /// It is a block device.
+    BlockDevice,
 }
 
 /// What is wrong with a file that adds suffixes.
@@ -65,11 +69,36 @@ pub enum LinesFault {
     HasTypes,
 }
 
+/// What is wrong with the file that a copy of the disk is made of, or with its sizes.
+#[derive(Clone, Copy)]
+pub enum NewDiskFault {
+    /// It was not opened or made, or the system refused a call on it.
+    Disk(OpenFault),
+    /// It is a device in use.
+    Device(DeviceUse),
+    /// The disk has more objects than that.
+    Objects {
+        /// So many.
+        count: usize,
+        /// The most that the copy can have.
+        most: u16,
+    },
+    /// The bodies need more bytes than that.
+    Bodies {
+        /// So many.
+        length: u64,
+        /// Those of the copy's data area.
+        room: u32,
+    },
+}
+
 /// Why a task could not be done: it is printed, and nothing is decided by it.
 #[derive(Clone, Copy)]
 pub enum Cause {
     /// The disk was not opened.
     Disk(OpenFault),
+    /// The copy of the disk can't be made.
+    NewDisk(NewDiskFault),
     /// The disk is a device in use.
     Device(DeviceUse),
     /// The file that adds suffixes was not read, or a line of it is wrong.
@@ -125,6 +154,16 @@ impl From<DeviceUse> for Cause {
     }
 }
 
+impl From<DeviceUse> for NewDiskFault {
+    /// One that can't be looked at is told as one that is not opened.
+    fn from(found: DeviceUse) -> NewDiskFault {
+        match found {
+            DeviceUse::Unseen(error) => NewDiskFault::Disk(OpenFault::System(error)),
+            _ => NewDiskFault::Device(found),
+        }
+    }
+}
+
 impl From<PacketsFault> for Cause {
     ghost use Rattle.mot_endpoints.specs.declared.fault.Cause.TheVariants.{Packets};
 
@@ -139,11 +178,33 @@ impl Display for Cause {
     fn fmt<W: fmt::Write>(&self, f: &mut Formatter<W>) -> fmt::Result {
         match self {
             Cause::Disk(fault) => fault.fmt(f),
+            Cause::NewDisk(fault) => fault.fmt(f),
             Cause::Device(found) => found.fmt(f),
             Cause::Types(fault) => fault.fmt(f),
             Cause::Folder(error) => OpenFault::System(*error).fmt(f),
             Cause::Lines(fault) => fault.fmt(f),
             Cause::Packets(fault) | Cause::NewFile(fault) => fault.fmt(f),
+        }
+    }
+}
+
+impl Display for NewDiskFault {
+    fn fmt<W: fmt::Write>(&self, f: &mut Formatter<W>) -> fmt::Result {
+        match self {
+            NewDiskFault::Disk(fault) => fault.fmt(f),
+            NewDiskFault::Device(found) => found.fmt(f),
+            NewDiskFault::Objects { count, most } => {
+                write!(
+                    f,
+                    "the disk has {count} objects, and the copy would take {most}"
+                )
+            }
+            NewDiskFault::Bodies { length, room } => {
+                write!(
+                    f,
+                    "the bodies need {length} bytes, and the copy would have {room}"
+                )
+            }
         }
     }
 }
@@ -156,11 +217,15 @@ impl Display for PacketsFault {
             PacketsFault::IsDisk => f.pad("the disk itself"),
             PacketsFault::IsOfDisk => f.pad("the name of a file of the disk"),
             PacketsFault::NoFile => f.pad("a link, or not a regular file"),
+            PacketsFault::NoNewFile => {
+                f.pad("the .new file beside it is a link, or not a regular file")
+            }
             PacketsFault::Cut => f.pad("a packet was cut"),
             PacketsFault::NoTurns => f.pad("no turns to write"),
             PacketsFault::NoPipe => f.pad("no pipe is there; a file is written with --turns"),
             PacketsFault::EndlessFile => f.pad("a regular file, which is written with --turns"),
             PacketsFault::Terminal => f.pad("a terminal"),
+            PacketsFault::BlockDevice => f.pad("a block device, which takes no packets"),
         }
     }
 }

@@ -13,7 +13,7 @@ mod taken;
 mod types;
 
 pub use beside::SUFFIX;
-pub use fault::{Cause, LinesFault, PacketsFault, TypesFault, Unbegun};
+pub use fault::{Cause, LinesFault, NewDiskFault, PacketsFault, TypesFault, Unbegun};
 pub use host::Host;
 pub use lines::{Others, line_folder};
 pub use new_file::NewPlace;

@@ -29,7 +29,8 @@ pub const OUTPUT: &str = "-";
 pub enum Target {
     /// Standard output.
     Output,
-    /// A named pipe or a device: what is there and is no regular file.
+    /// A named pipe or a character device: what is there and is neither a regular file nor a block
+    /// device.
     Stream,
     /// A regular file, or nothing yet: it is written whole or not at all, in so many turns.
     File,
@@ -38,7 +39,7 @@ pub enum Target {
 /// What is at a path.
 #[derive(Clone, Copy)]
 enum Place {
-    /// What is no regular file.
+    /// What is neither a regular file nor a block device.
     Stream,
     /// A regular file.
     File,
@@ -51,7 +52,7 @@ enum Place {
 pub enum Destination<'a> {
     /// Standard output.
     Output,
-    /// A named pipe or a device.
+    /// A named pipe or a character device.
     Stream,
     /// A new file, by its paths.
     File(NewPlace<'a>),
@@ -181,8 +182,8 @@ fn put_in_place<S: System>(
 /// Opens what the path names, to write packets to it. A pipe or a device is opened for reading and
 /// writing: so a pipe's opening waits for no reader, and its reader may go and come back. The pipe
 /// is locked, so that no other program of ours writes to it. A file is written only if some turns
-/// are asked for: so a pipe that is not there is refused. The disk itself is refused, and so is a
-/// terminal.
+/// are asked for: so a pipe that is not there is refused. The disk itself is refused, and so are a
+/// terminal and every block device: no multiplexer reads one, and it may hold a file system.
 pub(crate) fn open_packets<'a, S: System + Drop>(
     system: S,
     alloc: Global,
@@ -251,7 +252,8 @@ fn open_output<S: System>(system: &mut S, path: &str) -> Result<Handle, PacketsF
     Ok(handle)
 }
 
-/// Opens a pipe or a device for reading and writing. A pipe is locked.
+/// Opens a pipe or a character device for reading and writing. A pipe is locked. What was opened is
+/// looked at before anything is written: another device may have come to the path.
 fn open_stream<S: System>(system: &mut S, path: &str) -> Result<Handle, PacketsFault>
     ensures { OpensStream path.now result (S.calls system.old) (S.calls system.new) }
 {
@@ -266,6 +268,9 @@ fn open_stream<S: System>(system: &mut S, path: &str) -> Result<Handle, PacketsF
         Ok(found) => found,
         Err(fault) => return Err(PacketsFault::from(fault)),
     };
+    if found.block.is_some() {
+        return Err(PacketsFault::BlockDevice);
+    }
     if !is_pipe(&found) {
         return Ok(handle);
     }
@@ -283,7 +288,7 @@ fn is_pipe(found: &Seen) -> bool
 }
 
 /// What is at the path, to which a link may lead. The disk itself is refused, and so are a name of a
-/// file of it and a path without a name.
+/// file of it, a path without a name, and a block device, which is not opened.
 fn place_at<S: System>(system: &mut S, path: &str, disk: &str) -> Result<Place, PacketsFault>
     ensures { IsPlace path.now disk.now result (S.calls system.old) (S.calls system.new) }
 {
@@ -297,7 +302,7 @@ fn place_at<S: System>(system: &mut S, path: &str, disk: &str) -> Result<Place, 
     if leads_to(system, disk, &found) {
         return Err(PacketsFault::IsDisk);
     }
-    Ok(place_of(&found))
+    place_of(&found)
 }
 
 /// Nothing is at a path that has a name, if the system says so; any other fault is handed on.
@@ -314,13 +319,14 @@ fn place_without(path: &str, fault: Fault) -> Result<Place, PacketsFault>
     }
 }
 
-/// What it is, as far as it takes packets.
-fn place_of(found: &Seen) -> Place
-    ensures { result ≡ place_of found.now.kind }
+/// What it is, as far as it takes packets: a block device takes none.
+fn place_of(found: &Seen) -> Result<Place, PacketsFault>
+    ensures { result ≡ place_of found.now }
 {
-    match found.kind {
-        Kind::File => Place::File,
-        _ => Place::Stream,
+    match (found.block, found.kind) {
+        (Some(_), _) => Err(PacketsFault::BlockDevice),
+        (None, Kind::File) => Ok(Place::File),
+        (None, _) => Ok(Place::Stream),
     }
 }
 

@@ -1,7 +1,7 @@
 //! The file that monitoring reads.
 ghost use Rattle.std.specs.Prelude.{◌≡◌, ◌++◌, ◌∷◌, [], IfSome, MatchOption, codes, string_bytes};
 ghost use Rattle.mot_files.specs.Call.{told_time};
-ghost use Rattle.mot_endpoints.specs.Status.{ChecksPlace, WritesStatus};
+ghost use Rattle.mot_endpoints.specs.Status.{ChecksPlace, WritesStatus, beside_fault};
 
 use crate::beside::{SUFFIX, is_of_disk};
 use crate::fault::PacketsFault;
@@ -99,11 +99,21 @@ fn put<S: System>(
         return Err(fault);
     }
     if let Err(fault) = clear(system, beside, disk) {
-        return Err(fault);
+        return Err(fault_of_beside(fault));
     }
     match replace(system, beside, path, text) {
         Ok(()) => Ok(()),
         Err(fault) => Err(PacketsFault::from(fault)),
+    }
+}
+
+/// A fault of the file beside the path, as one of the path.
+fn fault_of_beside(fault: PacketsFault) -> PacketsFault
+    ensures { result ≡ beside_fault fault }
+{
+    match fault {
+        PacketsFault::NoFile => PacketsFault::NoNewFile,
+        _ => fault,
     }
 }
 

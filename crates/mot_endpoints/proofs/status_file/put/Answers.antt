@@ -7,7 +7,8 @@ returns-in-Err g c = misplaced c.in-Err.fault refl c.in-Err.ensures
 
 pub returns-in-Err-clear : goal.returns-in-Err-clear
 returns-in-Err-clear g c =
-    uncleared c.in-Err-clear.fault _ refl c.in_default.ensures c.in-Err-clear.ensures
+    uncleared c.in-Err-clear.fault _ (ap Err c.fault_of_beside.ensures) c.in_default.ensures
+    c.in-Err-clear.ensures
 
 pub returns-in-Ok : goal.returns-in-Ok
 returns-in-Ok g c =
