@@ -148,8 +148,8 @@ module _ {D : Type 0} (state : D → State) (disk : D) (server new : ServerView 
           (kept listing stays refused ends none are) e n =
           absurd (let no : false ≡ true = sym refused ∙ e in cc)
       equal fine fault commands marks names wanted entries run
-          (listed shown listing updates is_update others split whole exact answers told are seen
-          gone each) e n =
+          (listed shown listing updates is_update others split whole exact answers told are lasting
+          seen gone each) e n =
           let fine_is = exact.0 e in
           let all_run : commands ≡ updating s.carousel names wanted =
           sym (append-nil commands) ∙ ap (λ l. commands ++ l) (sym (whole n)) ∙ sym split in

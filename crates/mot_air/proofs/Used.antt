@@ -7,7 +7,7 @@ use Rattle.disk_store.specs.declared.file.start.Start.{Ghosts}
 use Rattle.mot_endpoints.specs.Opened.{BeginsTo}
 use Rattle.mot_outcome.specs.Outcome.{IsUntouched, Opens}
 use Rattle.mot_outcome.specs.declared.used.UsedDisk.{UsedDisk}
-use Rattle.mot_outcome.specs.declared.used.UsedDisk.TheVariants.{InMemory, OfFile, Untouched}
+use Rattle.mot_outcome.specs.declared.used.UsedDisk.TheVariants.{InMemory, OfCopy, OfFile, Untouched}
 
 -- a beginning of what comes first is one of all
 pub begun_first : (first others before after : List (Text × Text)) → BeginsTo first before after
@@ -45,6 +45,7 @@ pub opened_after : {S : Type 0} {start : Ghosts S} (first others : List (Text ×
 opened_after first others path (Untouched value) before mid after came is =
     begun_after first others before mid after came is
 opened_after first others path (InMemory disk value) before mid after came is = is
+opened_after first others path (OfCopy from to) before mid after came is = is
 opened_after first others path (OfFile disk beside) before mid after came is =
     opened_whole first others ((codes "disk", path) ∷ []) before mid after came is
 
@@ -54,4 +55,5 @@ pub opened_none : {S : Type 0} {start : Ghosts S} (others : List (Text × Text))
     → BeginsTo others before after → Opens others path used before after
 opened_none others path (Untouched value) before after untouched begins = begins
 opened_none others path (InMemory disk value) before after untouched begins = absurd untouched
+opened_none others path (OfCopy from to) before after untouched begins = absurd untouched
 opened_none others path (OfFile disk beside) before after untouched begins = absurd untouched

@@ -6,3 +6,4 @@ pub mod Opening
 pub mod Playing
 pub mod Syncing
 pub mod Telling
+pub mod Trying

@@ -177,7 +177,7 @@ fn sync_file<'a, B: Start, W: Write>(
 /// Makes the carousel of the disk equal to a folder. Why the folder was not opened, and what it
 /// gave, are handed out. (It is a function of its own, for any system of files, since calls at the
 /// program's own take longer to prove.)
-fn sync_shelf<Y: System + Drop, D: Disk, W: Write>(
+pub(crate) fn sync_shelf<Y: System + Drop, D: Disk, W: Write>(
     alloc: Global,
     disk: D,
     shelf: SystemShelf<'_, Y>,

@@ -4,10 +4,12 @@
 
 mod answered;
 mod commands;
+mod copying;
 mod lives;
 mod missing;
 mod on_air;
 mod playing;
+mod trying;
 
 pub use commands::{export_file, inspect_file, play, sync};
 pub use lives::{keep_done, open_done};
@@ -18,3 +20,4 @@ pub use mot_line_folder::LineFolder;
 pub use mot_outcome::{Exit, UsedDisk};
 pub use mot_status::Telling;
 pub use playing::{Aired, Followed, play_and_answer, play_disk, play_with, sync_disk};
+pub use trying::try_sync;

@@ -40,8 +40,7 @@ use mot_line_folder::{LineFolder, LineNotes, Spool};
 use mot_numbers::Refusal;
 use mot_outcome::Inputs;
 use mot_packets::Outlet;
-use mot_playout::Server;
-use mot_reason::{Explained, open_server};
+use mot_playout::{Refused, Server};
 use mot_shelf::{Inlet, LookNotes, Shelf};
 use mot_status::{Reporter, Telling};
 use mot_update::{Facts, NoUpdate, Update, Watch};
@@ -359,7 +358,7 @@ fn lines_between<'a, F: System + Drop, U: Update + Facts + Drop, T: Watch + Drop
 #[derive(Drop)]
 pub(crate) enum Fed<D: Disk> {
     /// It was not opened.
-    Unopened(Explained<D>),
+    Unopened(Refused<D>),
     /// It is open, and feeding came to this.
     Open(Server<D>, Result<(), Refusal>),
 }
@@ -516,7 +515,7 @@ fn feed_disk<D: Disk, U: Update, O: Outlet>(
         (tale_of U.tells how update.old update.new) how (ending_of result)
         (O.writes outlet.old) (O.writes outlet.new) (D.state disk) (D.state (disk_of result))) }
 {
-    let mut server = match open_server(alloc, disk) {
+    let mut server = match Server::open(alloc, disk) {
         Ok(server) => server,
         Err(refused) => return Fed::Unopened(refused),
     };
@@ -539,7 +538,7 @@ pub fn sync_disk<S: Shelf + Drop, D: Disk, L: Write>(
         (result_unwrap_or result.result false) (fault_of result.result)
         (L.contents log.old) (L.contents log.new) }
 {
-    let mut server = match open_server(alloc, disk) {
+    let mut server = match Server::open(alloc, disk) {
         Ok(server) => server,
         Err(refused) => return Ended::unopened(refused),
     };

@@ -5,13 +5,15 @@ use Rattle.std.specs.Prelude.{IfNone, codes}
 use Rattle.clap.specs.Words.{Row, Text}
 use Rattle.mot_numbers.specs.declared.geometry.Geometry.{Geometry}
 use Rattle.mot_cli.specs.Given.{IsGiven}
-use Rattle.mot_cli.specs.Options.{AreGiven, GiveDirectory, GiveGeometry}
-use Rattle.mot_cli.specs.Options.{geometry_asked}
+use Rattle.mot_cli.specs.Options.{AreGiven, GiveDirectory, GiveGeometry, GiveLastId}
+use Rattle.mot_cli.specs.Options.{geometry_asked, geometry_over}
 use Rattle.mot_cli.specs.Task.{IsTask}
 use Rattle.mot_cli.specs.declared.options.Options.{Options}
 use Rattle.mot_cli.specs.declared.task.Task.{Task}
-use Rattle.mot_cli.specs.declared.task.Task.TheVariants.{Memory, Format, Serve, Check, Migrate}
-use Rattle.mot_cli.specs.declared.task.Task.TheVariants.{Play, Sync, Export, Inspect}
+use Rattle.mot_cli.specs.declared.task.Task.TheVariants.{Memory, Format, Copy, Serve, Check, Migrate}
+use Rattle.mot_cli.specs.declared.task.Task.TheVariants.{Play, Sync, Export, Inspect, TrySync}
+use Rattle.mot_cli.specs.declared.task.Task.TheVariants.{GetBody, ListObjects, PutFiles}
+use Rattle.mot_cli.specs.declared.task.Task.TheVariants.{WithdrawNames}
 
 -- what holds anyhow holds where there is nothing
 pub IfNone-always : {T P : Type 0} (o : Option T) → P → IfNone o P
@@ -28,7 +30,7 @@ given_same (Some text) m n a b = a.1 ∙ sym b.1
 
 geometry_same : (rows : List Row) (o p : Options) → AreGiven rows o → AreGiven rows p
     → geometry_asked o ≡ geometry_asked p
-unfolding geometry_asked
+unfolding geometry_over
 geometry_same rows o p a b =
     let objects = given_same _ o.objects p.objects a.objects b.objects in
     let data_area = given_same _ o.data_area p.data_area a.data_area b.data_area in
@@ -51,6 +53,8 @@ module _ (rows : List Row) (none : (g : Geometry) → GiveGeometry rows g → �
   memory_needs_geometry name is (Memory g) t = none g t.1
   memory_needs_geometry name is (Format path g directory) t =
       clash 0 109 102 (codes "memory") (codes "format") refl refl (omega arith) (sym is ∙ t.0)
+  memory_needs_geometry name is (Copy copy) t =
+      clash 0 109 99 (codes "memory") (codes "copy") refl refl (omega arith) (sym is ∙ t.0)
   memory_needs_geometry name is (Serve path) t =
       clash 0 109 115 (codes "memory") (codes "serve") refl refl (omega arith) (sym is ∙ t.0)
   memory_needs_geometry name is (Check path) t =
@@ -61,6 +65,16 @@ module _ (rows : List Row) (none : (g : Geometry) → GiveGeometry rows g → �
       clash 0 109 112 (codes "memory") (codes "play") refl refl (omega arith) (sym is ∙ t.0)
   memory_needs_geometry name is (Sync disk folder types rules) t =
       clash 0 109 115 (codes "memory") (codes "sync") refl refl (omega arith) (sym is ∙ t.0)
+  memory_needs_geometry name is (TrySync disk folder types rules) t =
+      clash 0 109 115 (codes "memory") (codes "sync") refl refl (omega arith) (sym is ∙ t.0)
+  memory_needs_geometry name is (ListObjects disk) t =
+      clash 0 109 108 (codes "memory") (codes "list") refl refl (omega arith) (sym is ∙ t.0)
+  memory_needs_geometry name is (PutFiles disk files types) t =
+      clash 0 109 112 (codes "memory") (codes "put") refl refl (omega arith) (sym is ∙ t.0)
+  memory_needs_geometry name is (WithdrawNames disk names) t =
+      clash 0 109 119 (codes "memory") (codes "withdraw") refl refl (omega arith) (sym is ∙ t.0)
+  memory_needs_geometry name is (GetBody disk object) t =
+      clash 0 109 103 (codes "memory") (codes "get") refl refl (omega arith) (sym is ∙ t.0)
   memory_needs_geometry name is (Export disk) t =
       clash 0 109 101 (codes "memory") (codes "export") refl refl (omega arith) (sym is ∙ t.0)
   memory_needs_geometry name is (Inspect disk rate) t =
@@ -74,6 +88,8 @@ module _ (rows : List Row)
   format_needs_both name is (Format path g directory) t = none g directory t.2 t.3
   format_needs_both name is (Memory g) t =
       clash 0 102 109 (codes "format") (codes "memory") refl refl (omega arith) (sym is ∙ t.0)
+  format_needs_both name is (Copy copy) t =
+      clash 0 102 99 (codes "format") (codes "copy") refl refl (omega arith) (sym is ∙ t.0)
   format_needs_both name is (Serve path) t =
       clash 0 102 115 (codes "format") (codes "serve") refl refl (omega arith) (sym is ∙ t.0)
   format_needs_both name is (Check path) t =
@@ -84,7 +100,50 @@ module _ (rows : List Row)
       clash 0 102 112 (codes "format") (codes "play") refl refl (omega arith) (sym is ∙ t.0)
   format_needs_both name is (Sync disk folder types rules) t =
       clash 0 102 115 (codes "format") (codes "sync") refl refl (omega arith) (sym is ∙ t.0)
+  format_needs_both name is (TrySync disk folder types rules) t =
+      clash 0 102 115 (codes "format") (codes "sync") refl refl (omega arith) (sym is ∙ t.0)
+  format_needs_both name is (ListObjects disk) t =
+      clash 0 102 108 (codes "format") (codes "list") refl refl (omega arith) (sym is ∙ t.0)
+  format_needs_both name is (PutFiles disk files types) t =
+      clash 0 102 112 (codes "format") (codes "put") refl refl (omega arith) (sym is ∙ t.0)
+  format_needs_both name is (WithdrawNames disk names) t =
+      clash 0 102 119 (codes "format") (codes "withdraw") refl refl (omega arith) (sym is ∙ t.0)
+  format_needs_both name is (GetBody disk object) t =
+      clash 0 102 103 (codes "format") (codes "get") refl refl (omega arith) (sym is ∙ t.0)
   format_needs_both name is (Export disk) t =
       clash 0 102 101 (codes "format") (codes "export") refl refl (omega arith) (sym is ∙ t.0)
   format_needs_both name is (Inspect disk rate) t =
       clash 0 102 105 (codes "format") (codes "inspect") refl refl (omega arith) (sym is ∙ t.0)
+
+module _ (rows : List Row) (none : (after : Option ℕ) → GiveLastId rows after → ⊥) where
+  -- words without an id to go on after ask for no copy
+  pub copy_needs_id : (task : Task) → IsTask (codes "copy") rows task → ⊥
+  copy_needs_id (Copy copy) t = none copy.after t.4
+  copy_needs_id (Memory g) t =
+      clash 0 99 109 (codes "copy") (codes "memory") refl refl (omega arith) t.0
+  copy_needs_id (Format path g directory) t =
+      clash 0 99 102 (codes "copy") (codes "format") refl refl (omega arith) t.0
+  copy_needs_id (Serve path) t =
+      clash 0 99 115 (codes "copy") (codes "serve") refl refl (omega arith) t.0
+  copy_needs_id (Check path) t =
+      clash 1 111 104 (codes "copy") (codes "check") refl refl (omega arith) t.0
+  copy_needs_id (Migrate path) t =
+      clash 0 99 109 (codes "copy") (codes "migrate") refl refl (omega arith) t.0
+  copy_needs_id (Play p) t =
+      clash 0 99 112 (codes "copy") (codes "play") refl refl (omega arith) t.0
+  copy_needs_id (Sync disk folder types rules) t =
+      clash 0 99 115 (codes "copy") (codes "sync") refl refl (omega arith) t.0
+  copy_needs_id (TrySync disk folder types rules) t =
+      clash 0 99 115 (codes "copy") (codes "sync") refl refl (omega arith) t.0
+  copy_needs_id (ListObjects disk) t =
+      clash 0 99 108 (codes "copy") (codes "list") refl refl (omega arith) t.0
+  copy_needs_id (PutFiles disk files types) t =
+      clash 0 99 112 (codes "copy") (codes "put") refl refl (omega arith) t.0
+  copy_needs_id (WithdrawNames disk names) t =
+      clash 0 99 119 (codes "copy") (codes "withdraw") refl refl (omega arith) t.0
+  copy_needs_id (GetBody disk object) t =
+      clash 0 99 103 (codes "copy") (codes "get") refl refl (omega arith) t.0
+  copy_needs_id (Export disk) t =
+      clash 0 99 101 (codes "copy") (codes "export") refl refl (omega arith) t.0
+  copy_needs_id (Inspect disk rate) t =
+      clash 0 99 105 (codes "copy") (codes "inspect") refl refl (omega arith) t.0

@@ -2,7 +2,7 @@
 use Rattle.std.specs.Prelude.{[], codes}
 use Rattle.clap.specs.Words.{App, new_app, with_rule, with_subcommand}
 use Rattle.mot_cli.specs.Parts.{disk_app, flag_rule, motcar_top, number_rule, path_rule}
-use Rattle.mot_cli.specs.Parts.{word_rule}
+use Rattle.mot_cli.specs.Parts.{word_rule, words_rule}
 
 -- the five options of a geometry, behind what a command has
 abbrev pub with_options : App → App
@@ -17,6 +17,11 @@ memory_app = with_options (new_app (codes "memory"))
 
 abbrev pub format_app : App
 format_app = with_rule (with_options (disk_app (codes "format"))) (number_rule (codes "after"))
+
+-- a copy's ids may go on behind one, too
+abbrev pub copy_app : App
+copy_app = with_rule (with_options (with_rule (disk_app (codes "copy")) (word_rule (codes "NEW"))))
+    (number_rule (codes "after"))
 
 -- how a folder is looked at, behind what a command has
 abbrev pub with_looks : App → App
@@ -33,7 +38,19 @@ play_app =
     (number_rule (codes "look"))) (path_rule (codes "status"))) (flag_rule (codes "levels"))
 
 abbrev pub sync_app : App
-sync_app = with_looks (with_rule (disk_app (codes "sync")) (word_rule (codes "DIR")))
+sync_app = with_rule (with_looks (with_rule (disk_app (codes "sync")) (word_rule (codes "DIR"))))
+    (flag_rule (codes "dry-run"))
+
+-- single objects: their files, their names, and the name of one
+abbrev pub put_app : App
+put_app = with_rule (with_rule (disk_app (codes "put")) (words_rule (codes "FILE")))
+    (path_rule (codes "types"))
+
+abbrev pub withdraw_app : App
+withdraw_app = with_rule (disk_app (codes "withdraw")) (words_rule (codes "NAME"))
+
+abbrev pub get_app : App
+get_app = with_rule (disk_app (codes "get")) (word_rule (codes "NAME"))
 
 abbrev pub inspect_app : App
 inspect_app = with_rule (disk_app (codes "inspect")) (number_rule (codes "rate"))
@@ -42,14 +59,20 @@ inspect_app = with_rule (disk_app (codes "inspect")) (number_rule (codes "rate")
 abbrev pub motcar_app : App
 motcar_app =
     with_subcommand (with_subcommand (with_subcommand (with_subcommand (with_subcommand
+    (with_subcommand (with_subcommand (with_subcommand (with_subcommand (with_subcommand
     (with_subcommand (with_subcommand (with_subcommand (with_subcommand
     (record { top = motcar_top; subs = [] })
     format_app.top)
     play_app.top)
     sync_app.top)
+    (disk_app (codes "list")).top)
+    put_app.top)
+    withdraw_app.top)
+    get_app.top)
     (disk_app (codes "serve")).top)
     inspect_app.top)
     (disk_app (codes "check")).top)
+    copy_app.top)
     (disk_app (codes "export")).top)
     (disk_app (codes "migrate")).top)
     memory_app.top

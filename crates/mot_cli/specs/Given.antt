@@ -1,12 +1,17 @@
 -- The words and numbers that were given.
 use Rattle.std.specs.Prelude.{ℕ, ◌≡◌, ◌<◌, ◌^◌, Bool, false, List, Option, Some, None}
-use Rattle.std.specs.Prelude.{bytes_eq, codes}
+use Rattle.std.specs.Prelude.{bytes_eq, codes, map}
+use Rattle.std.specs.Borrow.{Bor}
 use Rattle.std.specs.Str.Parse.{IsNumeral, digits_value, without_leading_plus}
-use Rattle.clap.specs.Words.{Row, Text, first_of}
+use Rattle.clap.specs.Words.{Row, Text, all_of, first_of}
 
 -- this word was given for that one
 abbrev pub NameWord : List Row → Text → Text → Type 0
 NameWord rows name word = first_of name rows ≡ Some word
+
+-- these words were given for that one, in order
+abbrev pub NameWords : List Row → Text → List (Bor Text) → Type 0
+NameWords rows name words = all_of name rows ≡ Some (map (λ (word : Bor Text). word.now) words)
 
 -- the text writes a number of 32 bits
 abbrev pub IsNumberOf32Bits : List ℕ → Type 0

@@ -1,5 +1,5 @@
 -- The numbers of the command line, and the geometry that they make.
-use Rattle.std.specs.Prelude.{ℕ, ◌≡◌, nat_le, if◌then◌else◌, List, Option, Some, None, codes}
+use Rattle.std.specs.Prelude.{ℕ, ◌≡◌, ◌==◌, nat_le, if◌then◌else◌, List, Option, Some, None, codes}
 use Rattle.std.specs.Prelude.{unwrap_or}
 use Rattle.clap.specs.Words.{Row, first_of}
 use Rattle.mot_numbers.specs.Reading.{◌>>=◌}
@@ -31,20 +31,24 @@ abbrev pub field_in : Option ℕ → ℕ → Option ℕ
 field_in None default = Some default
 field_in (Some n) default = if nat_le n 65535 then Some n else None
 
--- whether its numbers are in their ranges is the geometry's concern
-unfoldable pub geometry_asked : Options → Option Geometry
-geometry_asked o = do
-  objects ← field_in o.objects default_geometry.objects
-  segment ← field_in o.segment default_geometry.segment
-  address ← field_in o.address default_geometry.address
-  packet ← field_in o.packet default_geometry.packet
+-- the numbers of the options, and of this geometry where none is given; whether they are in their
+-- ranges is the geometry's concern
+unfoldable pub geometry_over : Geometry → Options → Option Geometry
+geometry_over base o = do
+  objects ← field_in o.objects base.objects
+  segment ← field_in o.segment base.segment
+  address ← field_in o.address base.address
+  packet ← field_in o.packet base.packet
   Some (record {
     objects = objects;
     segment = segment;
     address = address;
     packet = packet;
-    area = unwrap_or o.data_area default_geometry.area;
+    area = unwrap_or o.data_area base.area;
   })
+
+abbrev pub geometry_asked : Options → Option Geometry
+geometry_asked = geometry_over default_geometry
 
 -- the words give this geometry
 abbrev pub GiveGeometry : List Row → Geometry → Type 0
@@ -57,3 +61,16 @@ abbrev pub GiveDirectory : List Row → ℕ → Type 0
 GiveDirectory rows directory =
     (number : Option ℕ) × (after : ℕ) × IsGiven (first_of (codes "after") rows) number
     × (field_in number 0 ≡ Some after) × (directory ≡ id_after after)
+
+-- the id after which those of a copy go on, if a number is given: 0 is the last one, behind which
+-- comes the first
+abbrev pub last_id : Option ℕ → Option (Option ℕ)
+last_id None = Some None
+last_id (Some n) =
+    if n == 0 then Some (Some 65535) else if nat_le n 65535 then Some (Some n) else None
+
+-- the words give that id
+pub record GiveLastId (rows : List Row) (after : Option ℕ) : Type 0 where
+  pub number : Option ℕ
+  pub given : IsGiven (first_of (codes "after") rows) number
+  pub last : last_id number ≡ Some after

@@ -1,12 +1,16 @@
 -- What the command line is made with, in the words of `clap`.
 use Rattle.std.specs.Prelude.{pos, true, Some, codes}
 use Rattle.clap.specs.Words.{App, Rule, Shape, Text, new_app, new_rule, with_rule}
-use Rattle.clap.specs.declared.builder.ArgAction.TheVariants.{Set, SetTrue}
+use Rattle.clap.specs.declared.builder.ArgAction.TheVariants.{Append, Set, SetTrue}
 use Rattle.clap.specs.declared.builder.value_parser.ValueParser.TheVariants.{Signed}
 
 -- a word that has to be there
 abbrev pub word_rule : Text → Rule
 word_rule name = record (new_rule name) { action = Some Set; required = true }
+
+-- one word or more, of which one has to be there
+abbrev pub words_rule : Text → Rule
+words_rule name = record (new_rule name) { action = Some Append; required = true }
 
 -- an option that is a path
 abbrev pub path_rule : Text → Rule

@@ -5,15 +5,17 @@ use Rattle.std.specs.Borrow.{Bor}
 use Rattle.clap.specs.Words.{Row, Text, first_of, subcommand_of}
 use Rattle.mot_cli.specs.Asked.{AreWrong}
 use Rattle.mot_cli.specs.Command.{motcar_app}
-use Rattle.mot_cli.specs.Given.{IsGiven, NameWord, is_set}
-use Rattle.mot_cli.specs.Options.{GiveDirectory, GiveGeometry}
+use Rattle.mot_cli.specs.Given.{IsGiven, NameWord, NameWords, is_set}
+use Rattle.mot_cli.specs.Options.{AreGiven, GiveDirectory, GiveGeometry, GiveLastId}
 use Rattle.mot_cli.specs.Whole.{is_whole}
 use Rattle.mot_cli.specs.declared.playing.LookRules.{LookRules}
 use Rattle.mot_cli.specs.declared.task.NoTask.{NoTask}
 use Rattle.mot_cli.specs.declared.task.NoTask.TheVariants.{Lacks, OutOfRange}
 use Rattle.mot_cli.specs.declared.task.Task.{Task}
-use Rattle.mot_cli.specs.declared.task.Task.TheVariants.{Memory, Format, Serve, Check, Migrate}
-use Rattle.mot_cli.specs.declared.task.Task.TheVariants.{Play, Sync, Export, Inspect}
+use Rattle.mot_cli.specs.declared.task.Task.TheVariants.{Memory, Format, Copy, Serve, Check, Migrate}
+use Rattle.mot_cli.specs.declared.task.Task.TheVariants.{Play, Sync, Export, Inspect, TrySync}
+use Rattle.mot_cli.specs.declared.task.Task.TheVariants.{GetBody, ListObjects, PutFiles}
+use Rattle.mot_cli.specs.declared.task.Task.TheVariants.{WithdrawNames}
 use Rattle.mot_numbers.specs.declared.refusal.Refusal.{Refusal}
 use Rattle.mot_numbers.specs.declared.refusal.Refusal.TheVariants.{BadGeometry, BadNumber}
 
@@ -40,6 +42,10 @@ IsTask name rows (Memory geometry) = (name ≡ codes "memory") × GiveGeometry r
 IsTask name rows (Format path geometry directory) =
     (name ≡ codes "format") × NameWord rows (codes "DISK") path.now × GiveGeometry rows geometry
     × GiveDirectory rows directory
+IsTask name rows (Copy copy) =
+    (name ≡ codes "copy") × NameWord rows (codes "DISK") copy.disk.now
+    × NameWord rows (codes "NEW") copy.new.now × AreGiven rows copy.sizes
+    × GiveLastId rows copy.after
 IsTask name rows (Serve path) = (name ≡ codes "serve") × NameWord rows (codes "DISK") path.now
 IsTask name rows (Check path) = (name ≡ codes "check") × NameWord rows (codes "DISK") path.now
 IsTask name rows (Migrate path) = (name ≡ codes "migrate") × NameWord rows (codes "DISK") path.now
@@ -57,7 +63,21 @@ IsTask name rows (Play p) =
 IsTask name rows (Sync disk folder types rules) =
     (name ≡ codes "sync") × NameWord rows (codes "DISK") disk.now
     × NameWord rows (codes "DIR") folder.now × NameOption rows (codes "types") types
-    × AreRules rows rules
+    × AreRules rows rules × (is_set rows (codes "dry-run") ≡ false)
+IsTask name rows (TrySync disk folder types rules) =
+    (name ≡ codes "sync") × NameWord rows (codes "DISK") disk.now
+    × NameWord rows (codes "DIR") folder.now × NameOption rows (codes "types") types
+    × AreRules rows rules × (is_set rows (codes "dry-run") ≡ true)
+IsTask name rows (ListObjects disk) = (name ≡ codes "list") × NameWord rows (codes "DISK") disk.now
+IsTask name rows (PutFiles disk files types) =
+    (name ≡ codes "put") × NameWord rows (codes "DISK") disk.now
+    × NameWords rows (codes "FILE") files.now × NameOption rows (codes "types") types
+IsTask name rows (WithdrawNames disk names) =
+    (name ≡ codes "withdraw") × NameWord rows (codes "DISK") disk.now
+    × NameWords rows (codes "NAME") names.now
+IsTask name rows (GetBody disk object) =
+    (name ≡ codes "get") × NameWord rows (codes "DISK") disk.now
+    × NameWord rows (codes "NAME") object.now
 IsTask name rows (Export disk) = (name ≡ codes "export") × NameWord rows (codes "DISK") disk.now
 IsTask name rows (Inspect disk rate) =
     (name ≡ codes "inspect") × NameWord rows (codes "DISK") disk.now
@@ -67,7 +87,8 @@ IsTask name rows (Inspect disk rate) =
 -- of another one
 abbrev pub bad_number : Text → Refusal
 bad_number name =
-    if bytes_eq name (codes "memory") || bytes_eq name (codes "format") then BadGeometry
+    if bytes_eq name (codes "memory") || bytes_eq name (codes "format")
+    || bytes_eq name (codes "copy") then BadGeometry
     else BadNumber
 
 -- why a command of this name, with these words behind it, is no task

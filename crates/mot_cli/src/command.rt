@@ -47,7 +47,27 @@ const VERBS: &[Verb] = &[
     Verb {
         name: "sync",
         about: "Make the carousel of a disk equal to a folder",
-        arguments: &[DISK, DIR, TYPES, ALLOW_EMPTY, AT_ONCE],
+        arguments: &[DISK, DIR, TYPES, ALLOW_EMPTY, AT_ONCE, DRY_RUN],
+    },
+    Verb {
+        name: "list",
+        about: "Print the objects of a disk",
+        arguments: &[DISK],
+    },
+    Verb {
+        name: "put",
+        about: "Put files into the carousel of a disk, or replace the objects of their names",
+        arguments: &[DISK, FILE, TYPES],
+    },
+    Verb {
+        name: "withdraw",
+        about: "Withdraw objects from the carousel of a disk",
+        arguments: &[DISK, NAMES],
+    },
+    Verb {
+        name: "get",
+        about: "Print the body of an object of a disk, and nothing else",
+        arguments: &[DISK, NAME],
     },
     Verb {
         name: "serve",
@@ -63,6 +83,20 @@ const VERBS: &[Verb] = &[
         name: "check",
         about: "Print the carousel of a disk, whether the disk is clean, and its layout",
         arguments: &[DISK],
+    },
+    Verb {
+        name: "copy",
+        about: "Make a copy of a disk, of other sizes if they are given",
+        arguments: &[
+            DISK,
+            NEW,
+            COPY_OBJECTS,
+            COPY_DATA,
+            COPY_SEGMENT,
+            COPY_ADDRESS,
+            COPY_PACKET,
+            GOES_ON,
+        ],
     },
     Verb {
         name: "export",
@@ -117,6 +151,49 @@ const AFTER: Argument = Argument {
     name: "after",
     kind: Kind::Number,
     help: "Transport id after which the ids begin, 0 to 65535 [default: 0]",
+};
+
+/// What `copy` needs besides a disk, and may be given: the sizes of the copy, and where its ids go on.
+const NEW: Argument = Argument {
+    name: "NEW",
+    kind: Kind::Word,
+    help: "The file of the copy: it is made, or it is long enough, or a block device",
+};
+
+const COPY_OBJECTS: Argument = Argument {
+    name: "objects",
+    kind: Kind::Number,
+    help: "Objects at most, 1 to 250 [default: as the disk]",
+};
+
+const COPY_DATA: Argument = Argument {
+    name: "data",
+    kind: Kind::Number,
+    help: "Bytes for all bodies, 1 to 268435456 [default: as the disk]",
+};
+
+const COPY_SEGMENT: Argument = Argument {
+    name: "segment",
+    kind: Kind::Number,
+    help: "Bytes of a segment, 64 to 8189 [default: as the disk]",
+};
+
+const COPY_ADDRESS: Argument = Argument {
+    name: "address",
+    kind: Kind::Number,
+    help: "Address of the packets, 1 to 1023 [default: as the disk]",
+};
+
+const COPY_PACKET: Argument = Argument {
+    name: "packet",
+    kind: Kind::Number,
+    help: "Bytes of a packet: 24, 48, 72 or 96 [default: as the disk]",
+};
+
+const GOES_ON: Argument = Argument {
+    name: "after",
+    kind: Kind::Number,
+    help: "Transport id after which new ids go on, 0 to 65535 [default: as the disk]",
 };
 
 /// What `play` needs besides a disk, and may be given.
@@ -200,6 +277,33 @@ const DIR: Argument = Argument {
     name: "DIR",
     kind: Kind::Word,
     help: "The folder",
+};
+
+const DRY_RUN: Argument = Argument {
+    name: "dry-run",
+    kind: Kind::Flag,
+    help: "Print the lines of a sync, and change nothing",
+};
+
+/// The files of `put`.
+const FILE: Argument = Argument {
+    name: "FILE",
+    kind: Kind::Words,
+    help: "A file, by whose name and suffix the object has its name and its type",
+};
+
+/// The objects of `withdraw`.
+const NAMES: Argument = Argument {
+    name: "NAME",
+    kind: Kind::Words,
+    help: "The name of an object",
+};
+
+/// The object of `get`.
+const NAME: Argument = Argument {
+    name: "NAME",
+    kind: Kind::Word,
+    help: "The name of the object",
 };
 
 /// The rate of `inspect`.

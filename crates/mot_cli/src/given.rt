@@ -1,8 +1,8 @@
 //! The words and numbers that were given.
-ghost use Rattle.std.specs.Prelude.{◌≡◌, ℕ, Option, IfNone, IfSome, codes, option_map};
+ghost use Rattle.std.specs.Prelude.{◌≡◌, ℕ, List, Option, IfNone, IfSome, codes, map, option_map};
 ghost use Rattle.std.specs.Borrow.{Bor};
 ghost use Rattle.clap.specs.Words.{Text, first_of, found_of, rows_of};
-ghost use Rattle.mot_cli.specs.Given.{IsGiven, NameWord, is_set};
+ghost use Rattle.mot_cli.specs.Given.{IsGiven, NameWord, NameWords, is_set};
 
 use clap::ArgMatches;
 
@@ -15,6 +15,17 @@ pub(crate) fn word_of<'a>(words: &ArgMatches<'a>, name: &str) -> Option<&'a str>
         → NameWord (rows_of (found_of words.now)) name.now word → ⊥) }
 {
     words.get_str(name)
+}
+
+/// The words that were given for this one.
+#[tactic(auto, using(crate::proofs::Values::all_found))]
+pub(crate) fn words_of<'m, 'a>(words: &'m ArgMatches<'a>, name: &str) -> Option<&'m [&'a str]>
+    ensures some { IfSome result (λ given.
+        NameWords (rows_of (found_of words.now)) name.now given.now) }
+    ensures none { IfNone result ((given : List (Bor Text))
+        → NameWords (rows_of (found_of words.now)) name.now given → ⊥) }
+{
+    words.get_strs(name)
 }
 
 /// The number of an option, if it was given; `None` if it is not a number.

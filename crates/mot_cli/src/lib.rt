@@ -1,7 +1,9 @@
 //! The words of the command line, and what they ask for.
 #![tactic(auto)]
 
+mod by_hand;
 mod command;
+mod copying;
 mod given;
 mod options;
 mod parts;
@@ -10,6 +12,7 @@ mod task;
 mod whole;
 
 pub use command::motcar_matches;
+pub use copying::CopyTask;
 pub use given::has_levels;
 pub use options::Options;
 pub use playing::{LookRules, PlayTask};

@@ -1,8 +1,9 @@
 //! The numbers of the command line.
-ghost use Rattle.std.specs.Prelude.{ℕ, ◌≡◌, IfNone, IfSome};
+ghost use Rattle.std.specs.Prelude.{ℕ, ◌≡◌, Option, IfNone, IfSome};
 ghost use Rattle.clap.specs.Words.{found_of, rows_of};
 ghost use Rattle.mot_numbers.specs.declared.geometry.Geometry.{Geometry};
-ghost use Rattle.mot_cli.specs.Options.{AreGiven, GiveDirectory, GiveGeometry, field_in};
+ghost use Rattle.mot_cli.specs.Options.{AreGiven, GiveDirectory, GiveGeometry, GiveLastId, field_in};
+ghost use Rattle.mot_cli.specs.Options.{last_id};
 ghost use Rattle.mot_cli.specs.declared.options.Options.{Options};
 
 use crate::given::number_of;
@@ -25,20 +26,27 @@ pub struct Options {
 }
 
 impl Options {
-    ghost use Rattle.mot_cli.specs.Options.{geometry_asked};
+    ghost use Rattle.mot_cli.specs.Options.{geometry_asked, geometry_over};
 
     /// The geometry of these numbers, with the default for each that is not given; `None` if one
     /// does not fit its field.
     pub fn geometry(self) -> Option<Geometry>
         ensures { result ≡ geometry_asked self }
     {
-        let default = Geometry::default();
+        self.over(&Geometry::default())
+    }
+
+    /// The geometry of these numbers, with that of `base` for each that is not given; `None` if one
+    /// does not fit its field.
+    pub fn over(self, base: &Geometry) -> Option<Geometry>
+        ensures { result ≡ geometry_over base.now self }
+    {
         Some(Geometry {
-            objects: field(self.objects, default.objects)?,
-            segment: field(self.segment, default.segment)?,
-            address: field(self.address, default.address)?,
-            packet: field(self.packet, default.packet)?,
-            area: self.data_area.unwrap_or(default.area),
+            objects: field(self.objects, base.objects)?,
+            segment: field(self.segment, base.segment)?,
+            address: field(self.address, base.address)?,
+            packet: field(self.packet, base.packet)?,
+            area: self.data_area.unwrap_or(base.area),
         })
     }
 }
@@ -74,8 +82,29 @@ pub(crate) fn directory_of(matches: &ArgMatches<'_>) -> Option<TransportId>
     TransportId::new(after % 65_535 + 1)
 }
 
+/// The transport id after which those of a copy go on, if the words give one; `None` if the word is
+/// not a number, or fits no id.
+pub(crate) fn last_id_of(matches: &ArgMatches<'_>) -> Option<Option<TransportId>>
+    ensures some { IfSome result (GiveLastId (rows_of (found_of matches.now))) }
+    ensures none { IfNone result ((after : Option ℕ)
+        → GiveLastId (rows_of (found_of matches.now)) after → ⊥) }
+{
+    last_id(number_of(matches, "after")?)
+}
+
+/// The transport id of this number, if one is given.
+fn last_id(number: Option<u32>) -> Option<Option<TransportId>>
+    ensures { result ≡ last_id number }
+{
+    match number {
+        Some(0) => Some(TransportId::new(65_535)),
+        Some(number) => Some(Some(TransportId::new(u16::try_from(number).ok()?)?)),
+        None => Some(None),
+    }
+}
+
 /// The numbers of the options that were given; `None` if a word is not a number.
-fn options_of(matches: &ArgMatches<'_>) -> Option<Options>
+pub(crate) fn options_of(matches: &ArgMatches<'_>) -> Option<Options>
     ensures some { IfSome result (AreGiven (rows_of (found_of matches.now))) }
     ensures none { IfNone result ((options : Options)
         → AreGiven (rows_of (found_of matches.now)) options → ⊥) }

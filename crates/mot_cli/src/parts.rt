@@ -30,6 +30,8 @@ pub(crate) struct Argument {
 pub(crate) enum Kind {
     /// A word that has to be given.
     Word,
+    /// One word or more, which have to be given.
+    Words,
     /// An option that is a path, and what stands for it in the help.
     Path(&'static str),
     /// An option that is a number of 32 bits.
@@ -91,6 +93,7 @@ fn arg_of<'a>(alloc: Global, argument: &Argument) -> Arg<'a>
         .action(ArgAction::Set);
     match argument.kind {
         Kind::Word => arg.required(true),
+        Kind::Words => arg.action(ArgAction::Append).required(true),
         Kind::Path(value) => arg.long(argument.name).value_name(value),
         Kind::Number => arg
             .long(argument.name)

@@ -51,7 +51,7 @@ pub struct PlayTask<'a> {
 }
 
 /// The task of the command `play` on this disk.
-pub(crate) fn play_of<'a>(disk: &'a str, words: &ArgMatches<'a>) -> Option<Task<'a>>
+pub(crate) fn play_of<'m, 'a>(disk: &'a str, words: &'m ArgMatches<'a>) -> Option<Task<'m, 'a>>
     ensures some { IfSome result (λ task.
         NameWord (rows_of (found_of words.now)) (codes "DISK") disk.now
         → IsTask (codes "play") (rows_of (found_of words.now)) task) }
@@ -78,18 +78,29 @@ pub(crate) fn play_of<'a>(disk: &'a str, words: &ArgMatches<'a>) -> Option<Task<
 }
 
 /// The task of the command `sync` on this disk.
-pub(crate) fn sync_of<'a>(disk: &'a str, words: &ArgMatches<'a>) -> Option<Task<'a>>
+pub(crate) fn sync_of<'m, 'a>(disk: &'a str, words: &'m ArgMatches<'a>) -> Option<Task<'m, 'a>>
     ensures some { IfSome result (λ task.
         NameWord (rows_of (found_of words.now)) (codes "DISK") disk.now
         → IsTask (codes "sync") (rows_of (found_of words.now)) task) }
     ensures none { IfNone result ((task : Task)
         → IsTask (codes "sync") (rows_of (found_of words.now)) task → ⊥) }
 {
+    let folder = word_of(words, "DIR")?;
+    let types = option_of(words, "types");
+    let rules = rules_of(words);
+    if is_set(words, "dry-run") {
+        return Some(Task::TrySync {
+            disk,
+            folder,
+            types,
+            rules,
+        });
+    }
     Some(Task::Sync {
         disk,
-        folder: word_of(words, "DIR")?,
-        types: option_of(words, "types"),
-        rules: rules_of(words),
+        folder,
+        types,
+        rules,
     })
 }
 
@@ -104,7 +115,7 @@ fn rules_of(words: &ArgMatches<'_>) -> LookRules
 }
 
 /// The task of the command `inspect` on this disk.
-pub(crate) fn inspect_of<'a>(disk: &'a str, words: &ArgMatches<'a>) -> Option<Task<'a>>
+pub(crate) fn inspect_of<'m, 'a>(disk: &'a str, words: &'m ArgMatches<'a>) -> Option<Task<'m, 'a>>
     ensures some { IfSome result (λ task.
         NameWord (rows_of (found_of words.now)) (codes "DISK") disk.now
         → IsTask (codes "inspect") (rows_of (found_of words.now)) task) }

@@ -5,6 +5,8 @@ ghost use Rattle.mot_cli.specs.Given.{NameWord};
 ghost use Rattle.mot_cli.specs.Task.{IsTask, IsWhy};
 ghost use Rattle.mot_cli.specs.declared.task.Task.{Task};
 
+use crate::by_hand::{get_of, put_of, withdraw_of};
+use crate::copying::{CopyTask, copy_of};
 use crate::given::word_of;
 use crate::options::{directory_of, geometry_of};
 use crate::playing::{LookRules, PlayTask, inspect_of, play_of, sync_of};
@@ -14,7 +16,7 @@ use mot_numbers::{Geometry, Refusal, TransportId};
 
 /// What the program is to do.
 #[derive(Clone, Copy)]
-pub enum Task<'a> {
+pub enum Task<'m, 'a> {
     /// Serve a carousel in memory.
     Memory(Geometry),
     /// Make a disk of the file at this path.
@@ -26,6 +28,8 @@ pub enum Task<'a> {
         /// The transport id of the new directory, after which all later ones are taken.
         directory: TransportId,
     },
+    /// Make a copy of a disk.
+    Copy(CopyTask<'a>),
     /// Serve the disk of the file at this path.
     Serve(&'a str),
     /// Tell what the disk of the file at this path keeps.
@@ -44,6 +48,42 @@ pub enum Task<'a> {
         types: Option<&'a str>,
         /// How the folder is looked at.
         rules: LookRules,
+    },
+    /// Print what that would do, and change nothing.
+    TrySync {
+        /// The path of the disk's file.
+        disk: &'a str,
+        /// The path of the folder.
+        folder: &'a str,
+        /// The path of the file that adds suffixes, if one is given.
+        types: Option<&'a str>,
+        /// How the folder is looked at.
+        rules: LookRules,
+    },
+    /// Print the objects of the disk of the file at this path.
+    ListObjects(&'a str),
+    /// Put files, or replace the objects of their names.
+    PutFiles {
+        /// The path of the disk's file.
+        disk: &'a str,
+        /// The paths of the files.
+        files: &'m [&'a str],
+        /// The path of the file that adds suffixes, if one is given.
+        types: Option<&'a str>,
+    },
+    /// Withdraw objects.
+    WithdrawNames {
+        /// The path of the disk's file.
+        disk: &'a str,
+        /// The names of the objects.
+        names: &'m [&'a str],
+    },
+    /// Print the body of an object.
+    GetBody {
+        /// The path of the disk's file.
+        disk: &'a str,
+        /// The name of the object.
+        name: &'a str,
     },
     /// Print the carousel of the disk of the file at this path.
     Export(&'a str),
@@ -67,7 +107,7 @@ pub enum NoTask {
 
 /// The task of a command and the words after it. There is none if a number does not fit its field,
 /// no sub-channel has the rate, or an option is given without the one of which it says more.
-pub fn task_of<'a>(name: &str, words: &ArgMatches<'a>) -> Result<Task<'a>, NoTask>
+pub fn task_of<'m, 'a>(name: &str, words: &'m ArgMatches<'a>) -> Result<Task<'m, 'a>, NoTask>
     ensures some { IfOk result (IsTask name.now (rows_of (found_of words.now))) }
     ensures none { IfErr result (λ why. (task : Task)
         → IsTask name.now (rows_of (found_of words.now)) task → ⊥) }
@@ -86,14 +126,14 @@ fn why_none(name: &str, words: &ArgMatches<'_>) -> NoTask
     if name == "play" && !is_whole(words) {
         return NoTask::Lacks(missing_option(words));
     }
-    if name == "memory" || name == "format" {
+    if name == "memory" || name == "format" || name == "copy" {
         return NoTask::OutOfRange(Refusal::BadGeometry);
     }
     NoTask::OutOfRange(Refusal::BadNumber)
 }
 
 /// The task of a command and the words after it, if they ask for one.
-fn asked_of<'a>(name: &str, words: &ArgMatches<'a>) -> Option<Task<'a>>
+fn asked_of<'m, 'a>(name: &str, words: &'m ArgMatches<'a>) -> Option<Task<'m, 'a>>
     ensures some { IfSome result (IsTask name.now (rows_of (found_of words.now))) }
     ensures none { IfNone result ((task : Task)
         → IsTask name.now (rows_of (found_of words.now)) task → ⊥) }
@@ -105,7 +145,7 @@ fn asked_of<'a>(name: &str, words: &ArgMatches<'a>) -> Option<Task<'a>>
 }
 
 /// The task of a command on this disk.
-fn disk_task<'a>(name: &str, disk: &'a str, words: &ArgMatches<'a>) -> Option<Task<'a>>
+fn disk_task<'m, 'a>(name: &str, disk: &'a str, words: &'m ArgMatches<'a>) -> Option<Task<'m, 'a>>
     ensures some { IfSome result (λ task.
         NameWord (rows_of (found_of words.now)) (codes "DISK") disk.now
         → IsTask name.now (rows_of (found_of words.now)) task) }
@@ -114,11 +154,16 @@ fn disk_task<'a>(name: &str, disk: &'a str, words: &ArgMatches<'a>) -> Option<Ta
 {
     match name {
         "format" => format_of(disk, words),
+        "copy" => copy_of(disk, words),
         "serve" => Some(Task::Serve(disk)),
         "check" => Some(Task::Check(disk)),
         "migrate" => Some(Task::Migrate(disk)),
         "play" => play_of(disk, words),
         "sync" => sync_of(disk, words),
+        "list" => Some(Task::ListObjects(disk)),
+        "put" => put_of(disk, words),
+        "withdraw" => withdraw_of(disk, words),
+        "get" => get_of(disk, words),
         "export" => Some(Task::Export(disk)),
         "inspect" => inspect_of(disk, words),
         _ => None,
@@ -126,7 +171,7 @@ fn disk_task<'a>(name: &str, disk: &'a str, words: &ArgMatches<'a>) -> Option<Ta
 }
 
 /// The task of the command `format` on this disk.
-fn format_of<'a>(path: &'a str, words: &ArgMatches<'a>) -> Option<Task<'a>>
+fn format_of<'m, 'a>(path: &'a str, words: &'m ArgMatches<'a>) -> Option<Task<'m, 'a>>
     ensures some { IfSome result (λ task.
         NameWord (rows_of (found_of words.now)) (codes "DISK") path.now
         → IsTask (codes "format") (rows_of (found_of words.now)) task) }

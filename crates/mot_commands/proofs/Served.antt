@@ -14,7 +14,7 @@ module _ {D E : Type 0} (of : D → E) (state : E → State) (disk : D) (start :
   abbrev state_on : D → State
   state_on d = state (of d)
 
-  opens-on : (P : ServerView D → ServerView D → Type 0) (Q : ServerView E → ServerView E → Type 0)
+  pub opens-on : (P : ServerView D → ServerView D → Type 0) (Q : ServerView E → ServerView E → Type 0)
       → ((first last : ServerView D) → P first last → Q (server_on of first) (server_on of last))
       → OpensTo state_on disk start P → OpensTo state (of disk) start Q
   opens-on P Q f o = record {

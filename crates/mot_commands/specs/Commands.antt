@@ -1,5 +1,5 @@
 -- What the commands that serve, make, check and migrate a disk do.
-use Rattle.std.specs.Prelude.{ℕ, ◌≡◌, ◌⊎◌, true, List, [], ◌∷◌, ◌++◌, Option, Some}
+use Rattle.std.specs.Prelude.{ℕ, ◌≡◌, ◌⊎◌, Bool, true, List, [], ◌∷◌, ◌++◌, Option, Some}
 use Rattle.std.specs.Prelude.{codes}
 use Rattle.clap.specs.Words.{Text}
 use Rattle.disk_store.specs.Beginning.{HasFirstCalls, SinceMade, SinceOpened}
@@ -9,8 +9,10 @@ use Rattle.disk_store.specs.declared.file.start.Start.{Ghosts}
 use Rattle.disk_store.specs.declared.memory.ram.RamDisk.{RamDisk}
 use Rattle.mot_devices.specs.Looking.{IsFree, OnlyLooks}
 use Rattle.mot_files.specs.Call.{Call}
+use Rattle.mot_commands.specs.Asking.{WithdrawsEach}
 use Rattle.mot_commands.specs.Report.{Checks, Formats, Migrates}
 use Rattle.mot_commands.specs.Serving.{Serves}
+use Rattle.mot_commands.specs.Shown.{Gets, Lists}
 use Rattle.mot_journal.specs.Journal.{IsNewDisk}
 use Rattle.mot_numbers.specs.Geometry.{IsValid, length_of}
 use Rattle.mot_numbers.specs.declared.geometry.Geometry.{Geometry}
@@ -71,6 +73,20 @@ module _ {S : Type 0} {start : Ghosts S} where
   abbrev pub MigratesFile : Option Refusal → UsedDisk S start → (old new : Option (List ℕ))
       → Type 0
   MigratesFile ending used old new = OnOpened (Migrates ending old new) used
+
+  -- a file was opened, and its objects listed, or the body of one of them printed
+  abbrev pub ListsFile : Option Refusal → UsedDisk S start → (old new : Option (List ℕ)) → Type 0
+  ListsFile ending used old new = OnOpened (Lists ending old new) used
+
+  abbrev pub GetsFile : (name : List ℕ) → Option Refusal → UsedDisk S start
+      → (old new : Option (List ℕ)) → Type 0
+  GetsFile name ending used old new = OnOpened (Gets name ending old new) used
+
+  -- or objects of it withdrawn
+  abbrev pub WithdrawsFile : (names : List Text) → (all : Bool) → Option Refusal
+      → UsedDisk S start → (old new : Option (List ℕ)) → Type 0
+  WithdrawsFile names all ending used old new = OnFile (λ disk beside. SinceOpened
+      (λ first now. WithdrawsEach file_state names disk all ending old new first) disk) used
 
   -- its calls are those of a file that was made, and not opened
   abbrev pub IsMade : UsedDisk S start → Type 0

@@ -1,7 +1,6 @@
 -- What `format`, `check` and `migrate` print, and what they leave of a disk.
 use Rattle.std.specs.Prelude.{◌≡◌, ◌≢◌, ◌⊎◌, ◌↔◌, ℕ, Bool, List, [], ◌∷◌, ◌++◌, Option, Some}
 use Rattle.std.specs.Prelude.{Ok, Err, IsTrue, if◌then◌else◌, codes}
-use Rattle.std.specs.Fmt.{decimal}
 use Rattle.std.specs.Io.KnownBytes.{Keeps}
 use Rattle.disk_model.specs.Disk.{State, IsStill, KeepsLength, OnlySyncs, Throughout}
 use Rattle.mot_export.specs.Opening.{IsUnopened, OfClean}
@@ -16,7 +15,7 @@ use Rattle.mot_numbers.specs.Refusal.{IsCalm}
 use Rattle.mot_numbers.specs.declared.geometry.Geometry.{Geometry}
 use Rattle.mot_numbers.specs.declared.refusal.Refusal.{Refusal}
 use Rattle.mot_numbers.specs.declared.refusal.Refusal.TheVariants.{DeviceFault}
-use Rattle.mot_outcome.specs.Outcome.{Prints}
+use Rattle.mot_outcome.specs.Outcome.{Prints, number_line}
 use Rattle.mot_repository.specs.Opening.{IsOpeningRefusal}
 use Rattle.mot_repository.specs.Repository.{IsOf}
 
@@ -34,7 +33,7 @@ Reports Refused Done ending old new =
 -- ---- `format`
 
 abbrev pub formatted_line : Geometry → List ℕ
-formatted_line g = codes "formatted " ++ decimal (length_of g) ++ 10 ∷ []
+formatted_line g = number_line (codes "formatted ") (length_of g)
 
 -- the disk was made, and its length printed; or it could not be made
 abbrev pub Formats : Geometry → (directory : ℕ) → Option Refusal → (old new : Option (List ℕ))

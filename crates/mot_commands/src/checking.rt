@@ -8,7 +8,6 @@ ghost use Rattle.mot_commands.specs.Commands.{ChecksFile};
 ghost use Rattle.mot_outcome.specs.Outcome.{Finishes};
 ghost use Rattle.mot_commands.specs.Report.{Checks, clean_line, layout_line};
 
-use crate::unfit::clear_unfit;
 use disk_model::Disk;
 use disk_store::Start;
 use mot_endpoints::Host;
@@ -16,8 +15,8 @@ use mot_export::Ended;
 use mot_journal::Layout;
 use mot_numbers::Refusal;
 use mot_objects::Carousel;
-use mot_outcome::{Beside, Finished, write_bytes, write_last};
-use mot_reason::open_repository;
+use mot_outcome::{Beside, Finished, clear_unfit, write_bytes, write_last};
+use mot_repository::Repository;
 use mot_session::write_listing;
 use std::alloc::Global;
 use std::io::Write;
@@ -51,7 +50,7 @@ pub(crate) fn check_disk<D: Disk, W: Write>(alloc: Global, disk: D, writer: &mut
     ensures { Checks (fault_of result.result) (W.contents writer.old) (W.contents writer.new)
         (D.state disk) (D.state result.disk) }
 {
-    let mut repository = match open_repository(alloc, disk) {
+    let mut repository = match Repository::open(alloc, disk) {
         Ok(repository) => repository,
         Err(refused) => return Ended::unopened(refused),
     };

@@ -9,18 +9,15 @@ ghost use Rattle.mot_outcome.specs.Outcome.{Finishes};
 ghost use Rattle.mot_commands.specs.Commands.{OpensOrMakes};
 ghost use Rattle.mot_commands.specs.Report.{Formats, formatted_line};
 
-use crate::unfit::clear_unfit;
 use disk_model::Disk;
 use disk_store::{Start, Unopened};
-use itoa::Buffer;
 use mot_devices::use_of;
 use mot_endpoints::{Cause, Host};
 use mot_export::Ended;
 use mot_files::System;
-use mot_journal::format_from;
+use mot_journal::{Reason, format_from};
 use mot_numbers::{Geometry, Refusal, TransportId};
-use mot_outcome::{Beside, Finished, write_bytes, write_last};
-use mot_reason::Reason;
+use mot_outcome::{Beside, Finished, clear_unfit, write_number};
 use std::alloc::Global;
 use std::io::Write;
 
@@ -154,8 +151,5 @@ fn write_formatted<W: Write>(writer: &mut W, geometry: &Geometry) -> Result<(), 
     ensures { Prints (fault_of result) (formatted_line geometry.now)
         (W.contents writer.old) (W.contents writer.new) }
 {
-    let mut digits = Buffer::new();
-    write_bytes(writer, b"formatted ")?;
-    write_bytes(writer, digits.format(geometry.length()).as_bytes())?;
-    write_last(writer, b"\n")
+    write_number(writer, b"formatted ", geometry.length())
 }

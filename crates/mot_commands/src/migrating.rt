@@ -7,13 +7,12 @@ ghost use Rattle.mot_commands.specs.Commands.{MigratesFile};
 ghost use Rattle.mot_outcome.specs.Outcome.{Finishes};
 ghost use Rattle.mot_commands.specs.Report.{Migrates, migrated_line};
 
-use crate::unfit::clear_unfit;
 use disk_model::Disk;
 use disk_store::Start;
 use mot_endpoints::Host;
 use mot_export::Ended;
-use mot_outcome::{Beside, Finished, write_last};
-use mot_reason::open_repository;
+use mot_outcome::{Beside, Finished, clear_unfit, write_last};
+use mot_repository::Repository;
 use std::alloc::Global;
 use std::io::Write;
 
@@ -51,7 +50,7 @@ pub(crate) fn migrate_disk<D: Disk, W: Write>(
     ensures { Migrates (fault_of result.result) (W.contents writer.old) (W.contents writer.new)
         (D.state disk) (D.state result.disk) }
 {
-    let mut repository = match open_repository(alloc, disk) {
+    let mut repository = match Repository::open(alloc, disk) {
         Ok(repository) => repository,
         Err(refused) => return Ended::unopened(refused),
     };

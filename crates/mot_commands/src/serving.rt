@@ -9,15 +9,14 @@ ghost use Rattle.mot_commands.specs.Commands.{IsUnmade, ServesFile, ServesMemory
 ghost use Rattle.mot_outcome.specs.Outcome.{Finishes};
 ghost use Rattle.mot_commands.specs.Serving.{Serves};
 
-use crate::unfit::clear_unfit;
 use disk_model::Disk;
 use disk_store::{RamDisk, Start};
 use mot_endpoints::Host;
 use mot_export::Ended;
 use mot_journal::format;
 use mot_numbers::{Geometry, Refusal};
-use mot_outcome::{Beside, Finished, UsedDisk};
-use mot_reason::open_server;
+use mot_outcome::{Beside, Finished, UsedDisk, clear_unfit};
+use mot_playout::Server;
 use mot_session::{MAX_READS, serve};
 use std::alloc::Global;
 use std::io::{Read, Write};
@@ -96,7 +95,7 @@ fn serve_disk<R: Read, W: Write, D: Disk>(
         (R.remaining reader.old) (R.remaining reader.new)
         (W.contents writer.old) (W.contents writer.new) (D.state disk) }
 {
-    let mut server = match open_server(alloc, disk) {
+    let mut server = match Server::open(alloc, disk) {
         Ok(server) => server,
         Err(refused) => return Ended::unopened(refused),
     };

@@ -1,6 +1,8 @@
 -- What a run of the program comes to, whatever its tasks are.
+use Rattle.std.specs.declared.io.Error.{Error}
 use Rattle.std.specs.Prelude.{ℕ, ◌≡◌, ◌++◌, ◌∷◌, [], Bool, true, List, Option, Some, None, codes}
-use Rattle.std.specs.Prelude.{◌⊎◌, IsErrAnd}
+use Rattle.std.specs.Prelude.{◌⊎◌, IsErrAnd, option_map}
+use Rattle.std.specs.Fmt.{decimal}
 use Rattle.std.specs.Io.KnownBytes.{Appends, Keeps}
 use Rattle.clap.specs.Words.{Row, Text}
 use Rattle.disk_model.specs.Disk.{State}
@@ -8,13 +10,19 @@ use Rattle.disk_store.specs.Beginning.{SinceOpened}
 use Rattle.disk_store.specs.declared.file.start.Start.{Ghosts}
 use Rattle.disk_store.specs.declared.file.FileDiskFrom.{FileDiskFrom}
 use Rattle.mot_endpoints.specs.Opened.{BeginsTo}
+use Rattle.disk_store.specs.File.{fault_on}
+use Rattle.disk_store.specs.Second.{second_fault}
+use Rattle.disk_store.specs.declared.file.fault.OpenFault.TheVariants.{System}
+use Rattle.mot_endpoints.specs.declared.fault.Cause.{Cause}
+use Rattle.mot_endpoints.specs.declared.fault.Cause.TheVariants.{Disk, NewDisk}
+use Rattle.mot_endpoints.specs.declared.fault.NewDiskFault.TheVariants as new_fault
 use Rattle.mot_numbers.specs.declared.refusal.Refusal.{Refusal}
 use Rattle.mot_numbers.specs.declared.refusal.Refusal.TheVariants.{OutOfMemory, WriteFault}
 use Rattle.mot_outcome.specs.declared.exit.Exit.{Exit}
 use Rattle.mot_outcome.specs.declared.used.Beside.{Beside}
 use Rattle.mot_outcome.specs.declared.used.Finished.{Finished}
 use Rattle.mot_outcome.specs.declared.used.UsedDisk.{UsedDisk}
-use Rattle.mot_outcome.specs.declared.used.UsedDisk.TheVariants.{InMemory, OfFile, Untouched}
+use Rattle.mot_outcome.specs.declared.used.UsedDisk.TheVariants.{InMemory, OfCopy, OfFile, Untouched}
 use Rattle.mot_playout.specs.Attempts.{fault_of}
 use Rattle.mot_session.specs.Served.{WritesFront}
 use Rattle.mot_cli.specs.Asked.{AskFor, AskForHelp}
@@ -25,6 +33,15 @@ abbrev pub Prints : (ending : Option Refusal) → List ℕ → (old new : Option
 Prints None text old new = Appends old new text
 Prints (Some refusal) text old new = (refusal ≡ WriteFault) × WritesFront text old new
 
+-- a line of these bytes and a number in decimal digits
+abbrev pub number_line : List ℕ → ℕ → List ℕ
+number_line bytes number = (bytes ++ decimal number) ++ 10 ∷ []
+
+-- why the first call on either of two files failed
+abbrev pub cause_of_two : (from to : Option Error) → Option Cause
+cause_of_two (Some error) to = Some (Disk (System error))
+cause_of_two None to = option_map (λ error. NewDisk (new_fault.Disk (System error))) to
+
 -- The disk that is handed out is of a file that held the bytes of `start` as it was opened. These
 -- are words of contracts alone: what holds for each `start` holds for what the file really held.
 module _ {S : Type 0} {start : Ghosts S} where
@@ -32,6 +49,14 @@ module _ {S : Type 0} {start : Ghosts S} where
   abbrev pub IsUntouched : UsedDisk S start → Type 0
   IsUntouched (Untouched value) = Unit {0}
   IsUntouched used = ⊥
+
+  -- why the first call on the file of the disk that failed did so; of a copy, that of the file that
+  -- was copied comes first
+  abbrev pub fault_in : UsedDisk S start → Option Cause
+  fault_in (OfFile disk beside) = option_map (λ error. Disk (System error)) (fault_on disk)
+  fault_in (OfCopy from None) = option_map (λ error. Disk (System error)) (fault_on from)
+  fault_in (OfCopy from (Some to)) = cause_of_two (fault_on from) (second_fault to)
+  fault_in used = None
 
   -- a file was opened or made: its disk, and what was done beside it, have this fact
   abbrev pub OnFile : (FileDiskFrom S start → Beside → Type 0) → UsedDisk S start → Type 0
@@ -62,6 +87,7 @@ module _ {S : Type 0} {start : Ghosts S} where
       → (before after : List (Text × Text)) → Type 0
   Opens others path (Untouched value) before after = BeginsTo others before after
   Opens others path (InMemory disk value) before after = ⊥
+  Opens others path (OfCopy from to) before after = ⊥
   Opens others path (OfFile disk beside) before after =
       after ≡ before ++ (others ++ (codes "disk", path) ∷ [])
 

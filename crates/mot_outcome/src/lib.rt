@@ -5,9 +5,11 @@
 mod exit;
 mod printing;
 mod subject;
+mod unfit;
 mod used;
 
 pub use exit::{Exit, explain, refuse};
-pub use printing::{write_bytes, write_last};
-pub use subject::{Subject, subject_of};
+pub use printing::{write_bytes, write_last, write_number};
+pub use subject::{Subject, subject_of, tell};
+pub use unfit::{clear_unfit, clear_unfit_of};
 pub use used::{Beside, Finished, Inputs, UsedDisk};

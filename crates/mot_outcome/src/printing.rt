@@ -1,7 +1,8 @@
 //! Printing bytes, whole or up to a fault.
-ghost use Rattle.mot_outcome.specs.Outcome.{Prints};
+ghost use Rattle.mot_outcome.specs.Outcome.{Prints, number_line};
 ghost use Rattle.mot_playout.specs.Attempts.{fault_of};
 
+use itoa::Buffer;
 use mot_numbers::Refusal;
 use mot_session::write_whole;
 use std::io::Write;
@@ -27,4 +28,15 @@ pub fn write_last<W: Write>(writer: &mut W, bytes: &[u8]) -> Result<(), Refusal>
         Ok(()) => Ok(()),
         Err(_) => Err(Refusal::WriteFault),
     }
+}
+
+/// Writes a line of these bytes and a number in decimal digits, and hands all of it on.
+pub fn write_number<W: Write>(writer: &mut W, bytes: &[u8], number: u64) -> Result<(), Refusal>
+    ensures { Prints (fault_of result) (number_line bytes.now number)
+        (W.contents writer.old) (W.contents writer.new) }
+{
+    let mut digits = Buffer::new();
+    write_bytes(writer, bytes)?;
+    write_bytes(writer, digits.format(number).as_bytes())?;
+    write_last(writer, b"\n")
 }

@@ -6,9 +6,9 @@ ghost use Rattle.std.specs.declared.io.ErrorKind.TheVariants.{QuotaExceeded, Sto
 use clap::ArgMatches;
 use disk_store::OpenFault;
 use mot_devices::DeviceUse;
-use mot_endpoints::{Cause, OUTPUT, SUFFIX};
+use mot_endpoints::{Cause, NewDiskFault, OUTPUT, SUFFIX};
+use mot_journal::Reason;
 use mot_numbers::Refusal;
-use mot_reason::Reason;
 use std::io::{ErrorKind, Write};
 
 /// What a refusal is about.
@@ -59,14 +59,16 @@ const RANGES: [Range; 11] = [
     ("look", 0, u32::MAX, 1, "0 to 4294967295"),
 ];
 
-/// What this refusal of a command with these words is about.
+/// What this refusal of a command with these words is about. Of a disk the reason is told by the path
+/// that this word names.
 pub fn subject_of<'a>(
     refusal: Refusal,
     words: &ArgMatches<'a>,
     cause: Option<Cause>,
+    word: &str,
     reason: Option<Reason>,
 ) -> Subject<'a> {
-    if let (Some(path), Some(reason)) = (words.get_str("DISK"), reason) {
+    if let (Some(path), Some(reason)) = (words.get_str(word), reason) {
         return Subject::Disk { path, reason };
     }
     match cause {
@@ -87,6 +89,7 @@ pub fn subject_of<'a>(
 fn word_of_cause(cause: Cause) -> &'static str {
     match cause {
         Cause::Disk(_) | Cause::Device(_) => "DISK",
+        Cause::NewDisk(_) => "NEW",
         Cause::Types(_) => "types",
         Cause::Folder(_) => "folder",
         Cause::Lines(_) => "lines",
@@ -119,7 +122,7 @@ fn is_within(text: &str, least: u32, most: u32, step: u32) -> bool {
 }
 
 /// Prints what a refusal is about, if there is more to say, in a line that begins with a level.
-pub(crate) fn tell<E: Write>(errors: &mut E, level: &str, subject: Subject<'_>) {
+pub fn tell<E: Write>(errors: &mut E, level: &str, subject: Subject<'_>) {
     match subject {
         Subject::Nothing => {}
         Subject::Disk { path, reason } => {
@@ -149,7 +152,9 @@ fn shown(path: &str, cause: Cause) -> (&str, &'static str) {
     match cause {
         Cause::Packets(_) if path == OUTPUT => ("standard output", ""),
         Cause::NewFile(_) => (path, SUFFIX),
-        Cause::Disk(fault) => (path, suffix_beside(fault)),
+        Cause::Disk(fault) | Cause::NewDisk(NewDiskFault::Disk(fault)) => {
+            (path, suffix_beside(fault))
+        }
         _ => (path, ""),
     }
 }
@@ -171,17 +176,34 @@ fn suffix_beside(fault: OpenFault) -> &'static str {
     }
 }
 
-/// What to do about a disk that was not opened or made.
+/// What to do about what was not done.
 fn hint_of(cause: Cause) -> &'static str {
     match cause {
-        Cause::Disk(OpenFault::System(error)) | Cause::Disk(OpenFault::Beside(error)) => {
-            hint_of_kind(error.kind())
-        }
-        Cause::Disk(OpenFault::InUse) => "; end that program first",
-        Cause::Disk(OpenFault::NoDisk) => "; check the path",
-        Cause::Disk(OpenFault::SecondName) => "; remove the other name",
+        Cause::Disk(fault) => hint_of_fault(fault),
         Cause::Device(found) => hint_of_use(found),
+        Cause::NewDisk(fault) => hint_of_new(fault),
         _ => "",
+    }
+}
+
+/// What to do about a copy that was not made.
+fn hint_of_new(fault: NewDiskFault) -> &'static str {
+    match fault {
+        NewDiskFault::Disk(fault) => hint_of_fault(fault),
+        NewDiskFault::Device(found) => hint_of_use(found),
+        NewDiskFault::Objects { .. } => "; give more as --objects",
+        NewDiskFault::Bodies { .. } => "; give more as --data",
+    }
+}
+
+/// What to do about a disk that was not opened or made.
+fn hint_of_fault(fault: OpenFault) -> &'static str {
+    match fault {
+        OpenFault::Beside(error) if error.raw_os_error().is_none() => "; move it away",
+        OpenFault::System(error) | OpenFault::Beside(error) => hint_of_kind(error.kind()),
+        OpenFault::InUse => "; end that program first",
+        OpenFault::NoDisk => "; check the path",
+        OpenFault::SecondName => "; remove the other name",
     }
 }
 
@@ -218,7 +240,8 @@ fn hint_of_use(found: DeviceUse) -> &'static str {
 /// The path again, if what to do ends with it.
 fn again(path: &str, cause: Cause) -> &str {
     match cause {
-        Cause::Device(DeviceUse::HasSignature(_)) => path,
+        Cause::Device(DeviceUse::HasSignature(_))
+        | Cause::NewDisk(NewDiskFault::Device(DeviceUse::HasSignature(_))) => path,
         _ => "",
     }
 }

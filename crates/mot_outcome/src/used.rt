@@ -1,15 +1,18 @@
 //! The disk that a task worked on, as it is left.
-ghost use Rattle.std.specs.Prelude.{◌≡◌, [], Err, None, Some};
-ghost use Rattle.mot_endpoints.specs.declared.fault.Cause.TheVariants.{Disk};
+ghost use Rattle.std.specs.Prelude.{◌≡◌, [], Err, None, Some, option_map};
+ghost use Rattle.mot_endpoints.specs.declared.fault.Cause.TheVariants.{Disk, NewDisk};
+ghost use Rattle.mot_endpoints.specs.declared.fault.NewDiskFault.TheVariants as NewDiskFault;
 ghost use Rattle.mot_numbers.specs.declared.refusal.Refusal.TheVariants.{DeviceFault};
 ghost use Rattle.mot_outcome.specs.declared.used.UsedDisk.TheVariants.{OfFile, Untouched};
 
-use disk_store::{Beginning, BegunFile, FileDiskFrom, RamDisk, Start, Unopened};
-use mot_endpoints::{Cause, Taken};
+use disk_store::{
+    Beginning, BegunFile, FileDiskFrom, OpenFault, RamDisk, SecondDisk, Start, Unopened,
+};
+use mot_endpoints::{Cause, NewDiskFault, Taken};
 use mot_export::Ended;
+use mot_journal::Reason;
 use mot_line_folder::LineNotes;
 use mot_numbers::Refusal;
-use mot_reason::Reason;
 use mot_shelf::{LookNotes, Seen};
 
 /// The disk that a task worked on. The value of `S` is used up if a file is opened or made, so that
@@ -22,6 +25,47 @@ pub enum UsedDisk<S: Start> {
     InMemory(RamDisk, S),
     /// The disk of the file that was opened or made, and what was done beside it.
     OfFile(FileDiskFrom<S>, Beside),
+    /// The disk of the file that was opened to be copied, and that of the file that was opened or
+    /// made to be its copy, if one was.
+    OfCopy(FileDiskFrom<S>, Option<SecondDisk<S>>),
+}
+
+impl<S: Start> UsedDisk<S> {
+    ghost use Rattle.mot_outcome.specs.Outcome.{fault_in};
+
+    /// Why the first call on its file that failed did so, if one did. Of a copy that of the file
+    /// that was copied comes first.
+    pub fn fault(&self) -> Option<Cause>
+        ensures { result ≡ fault_in self.now }
+    {
+        match self {
+            UsedDisk::OfFile(disk, _) => disk.fault().map(Cause::Disk),
+            UsedDisk::OfCopy(from, None) => from.fault().map(Cause::Disk),
+            UsedDisk::OfCopy(from, Some(to)) => match from.fault() {
+                Some(fault) => Some(Cause::Disk(fault)),
+                None => new_cause(to.fault()),
+            },
+            _ => None,
+        }
+    }
+
+    /// The word of the command line that names the file of which a disk's reason is told.
+    pub fn word(&self) -> &'static str {
+        match self {
+            UsedDisk::OfCopy(_, Some(_)) => "NEW",
+            _ => "DISK",
+        }
+    }
+}
+
+/// Why a call on the file of a copy failed, as a cause.
+fn new_cause(fault: Option<OpenFault>) -> Option<Cause>
+    ensures { result ≡ option_map (λ fault. NewDisk (NewDiskFault.Disk fault)) fault }
+{
+    match fault {
+        Some(fault) => Some(Cause::NewDisk(NewDiskFault::Disk(fault))),
+        None => None,
+    }
 }
 
 /// What a task did beside its disk, as lists that only clauses read.

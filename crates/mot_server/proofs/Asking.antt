@@ -8,8 +8,11 @@ use Rattle.mot_cli.specs.Command.{motcar_app}
 use Rattle.mot_cli.specs.Task.{IsTask, LackOption, bad_number}
 use Rattle.mot_cli.specs.Whole.{is_whole}
 use Rattle.mot_cli.specs.declared.task.Task.{Task}
-use Rattle.mot_cli.specs.declared.task.Task.TheVariants.{Memory, Format, Serve, Check, Migrate}
-use Rattle.mot_cli.specs.declared.task.Task.TheVariants.{Play, Sync, Export, Inspect}
+use Rattle.mot_cli.specs.declared.task.Task.TheVariants.{Memory, Format, Copy, Serve, Check}
+use Rattle.mot_cli.specs.declared.task.Task.TheVariants.{Migrate}
+use Rattle.mot_cli.specs.declared.task.Task.TheVariants.{Play, Sync, Export, Inspect, TrySync}
+use Rattle.mot_cli.specs.declared.task.Task.TheVariants.{GetBody, ListObjects, PutFiles}
+use Rattle.mot_cli.specs.declared.task.Task.TheVariants.{WithdrawNames}
 use Rattle.mot_numbers.specs.declared.refusal.Refusal.{Refusal}
 use Rattle.mot_numbers.specs.declared.refusal.Refusal.TheVariants.{BadNumber, OutOfMemory}
 use Rattle.mot_server.specs.Program.{refused_number}
@@ -58,10 +61,16 @@ lacks_none name rows (Play p) is play lack =
     absurd (let whole : is_whole rows ≡ true = is.13 in cc)
 lacks_none name rows (Memory g) is play lack = not_play name (codes "memory") refl is.0 play
 lacks_none name rows (Format p g d) is play lack = not_play name (codes "format") refl is.0 play
+lacks_none name rows (Copy c) is play lack = not_play name (codes "copy") refl is.0 play
 lacks_none name rows (Serve p) is play lack = not_play name (codes "serve") refl is.0 play
 lacks_none name rows (Check p) is play lack = not_play name (codes "check") refl is.0 play
 lacks_none name rows (Migrate p) is play lack = not_play name (codes "migrate") refl is.0 play
 lacks_none name rows (Sync d f t r) is play lack = not_play name (codes "sync") refl is.0 play
+lacks_none name rows (TrySync d f t r) is play lack = not_play name (codes "sync") refl is.0 play
+lacks_none name rows (ListObjects d) is play lack = not_play name (codes "list") refl is.0 play
+lacks_none name rows (PutFiles d f t) is play lack = not_play name (codes "put") refl is.0 play
+lacks_none name rows (WithdrawNames d n) is play lack = not_play name (codes "withdraw") refl is.0 play
+lacks_none name rows (GetBody d o) is play lack = not_play name (codes "get") refl is.0 play
 lacks_none name rows (Export d) is play lack = not_play name (codes "export") refl is.0 play
 lacks_none name rows (Inspect d r) is play lack = not_play name (codes "inspect") refl is.0 play
 

@@ -1,19 +1,27 @@
 -- What the program does, whichever command its words name.
-use Rattle.std.specs.Prelude.{ℕ, ◌≡◌, ◌≢◌, Bool, true, List, [], Option, None, Some}
+use Rattle.std.specs.Prelude.{ℕ, ◌≡◌, ◌≢◌, ◌⊎◌, codes, Bool, true, List, [], Option, None, Some}
 use Rattle.std.specs.Io.KnownBytes.{Keeps}
 use Rattle.std.specs.Option.{option_map_or}
 use Rattle.clap.specs.Words.{Text, subcommand_of}
 use Rattle.disk_store.specs.declared.file.start.Start.{Ghosts}
 use Rattle.mot_air.specs.Commands.{ExportsFile, InspectsFile, IsUnplayed, IsUnsynced, PlaysTask}
 use Rattle.mot_air.specs.Commands.{SyncsTask, played_with, synced_with}
+use Rattle.mot_air.specs.Trying.{TriesTask}
 use Rattle.mot_cli.specs.Command.{motcar_app}
 use Rattle.mot_cli.specs.Task.{AskForNothing, IsTask, LackOption, bad_number}
 use Rattle.mot_cli.specs.declared.task.Task.{Task}
-use Rattle.mot_cli.specs.declared.task.Task.TheVariants.{Memory, Format, Serve, Check, Migrate}
-use Rattle.mot_cli.specs.declared.task.Task.TheVariants.{Play, Sync, Export, Inspect}
+use Rattle.mot_cli.specs.declared.task.Task.TheVariants.{Memory, Format, Copy, Serve, Check}
+use Rattle.mot_cli.specs.declared.task.Task.TheVariants.{Migrate}
+use Rattle.mot_cli.specs.declared.task.Task.TheVariants.{Play, Sync, Export, Inspect, TrySync}
+use Rattle.mot_cli.specs.declared.task.Task.TheVariants.{GetBody, ListObjects, PutFiles}
+use Rattle.mot_cli.specs.declared.task.Task.TheVariants.{WithdrawNames}
 use Rattle.mot_commands.specs.Commands.{ChecksFile, FormatsFile, IsUnformatted, IsUnmade}
 use Rattle.mot_commands.specs.Commands.{LooksFirst, MigratesFile, OpensOrMakes, ServesFile}
-use Rattle.mot_commands.specs.Commands.{ServesMemory}
+use Rattle.mot_commands.specs.Commands.{GetsFile, ListsFile, ServesMemory, WithdrawsFile}
+use Rattle.mot_commands.specs.Putting.{PutLooks, PutsFiles, texts}
+use Rattle.mot_copy_command.specs.Command.{CopiesFile, LooksAtNew, OpensTwo}
+use Rattle.mot_endpoints.specs.Opened.{named}
+use Rattle.mot_endpoints.specs.Types.{IsUntyped}
 use Rattle.mot_files.specs.Call.{Call}
 use Rattle.mot_numbers.specs.declared.refusal.Refusal.{Refusal}
 use Rattle.mot_numbers.specs.declared.refusal.Refusal.TheVariants.{BadNumber, DeviceFault}
@@ -32,6 +40,8 @@ IsBeginningRefusal (Memory g) r = IsUnmade g r
 IsBeginningRefusal (Format path g directory) r = IsUnformatted g r
 IsBeginningRefusal (Play p) r = IsUnplayed p r
 IsBeginningRefusal (Sync disk folder types rules) r = IsUnsynced types r
+IsBeginningRefusal (TrySync disk folder types rules) r = IsUnsynced types r
+IsBeginningRefusal (PutFiles path files types) r = IsUntyped types r ⊎ (r ≡ DeviceFault)
 IsBeginningRefusal task r = r ≡ DeviceFault
 
 -- if no refusal ended a task, all of it is done
@@ -47,6 +57,9 @@ module _ {S : Type 0} {start : Ghosts S} where
       IsWhole all ending × ServesMemory g ending used unread left old new
   Ends (Format path g directory) all ending used unread left old new =
       IsWhole all ending × Keeps unread left × FormatsFile g directory ending used old new
+  Ends (Copy copy) all ending used unread left old new =
+      IsWhole all ending × Keeps unread left
+      × CopiesFile copy.sizes copy.after ending used old new
   Ends (Serve path) all ending used unread left old new =
       IsWhole all ending × ServesFile ending used unread left old new
   Ends (Check path) all ending used unread left old new =
@@ -57,6 +70,17 @@ module _ {S : Type 0} {start : Ghosts S} where
       Keeps unread left × PlaysTask p all ending used old new
   Ends (Sync disk folder types rules) all ending used unread left old new =
       Keeps unread left × SyncsTask types rules folder.now all ending used old new
+  Ends (TrySync disk folder types rules) all ending used unread left old new =
+      Keeps unread left × TriesTask types rules folder.now all ending used old new
+  Ends (ListObjects path) all ending used unread left old new =
+      IsWhole all ending × Keeps unread left × ListsFile ending used old new
+  Ends (PutFiles path files types) all ending used unread left old new =
+      Keeps unread left × ((before after : List Call)
+      × PutsFiles types (texts files.now) all ending used old new before after)
+  Ends (WithdrawNames path names) all ending used unread left old new =
+      Keeps unread left × WithdrawsFile (texts names.now) all ending used old new
+  Ends (GetBody path name) all ending used unread left old new =
+      IsWhole all ending × Keeps unread left × GetsFile name.now ending used old new
   Ends (Export disk) all ending used unread left old new =
       IsWhole all ending × Keeps unread left × ExportsFile ending used old new
   Ends (Inspect disk rate) all ending used unread left old new =
@@ -69,18 +93,32 @@ module _ {S : Type 0} {start : Ghosts S} where
   UsesFor ending (Memory g) used before after = after ≡ before
   UsesFor ending (Format path g directory) used before after =
       OpensOrMakes ending path.now used before after
+  UsesFor ending (Copy copy) used before after =
+      OpensTwo ending copy.disk.now copy.new.now used before after
   UsesFor ending (Serve path) used before after = Opens [] path.now used before after
   UsesFor ending (Check path) used before after = Opens [] path.now used before after
   UsesFor ending (Migrate path) used before after = Opens [] path.now used before after
   UsesFor ending (Play p) used before after = Opens (played_with p) p.disk.now used before after
   UsesFor ending (Sync disk folder types rules) used before after =
       Opens (synced_with types folder.now) disk.now used before after
+  UsesFor ending (TrySync disk folder types rules) used before after =
+      Opens (synced_with types folder.now) disk.now used before after
+  UsesFor ending (ListObjects path) used before after = Opens [] path.now used before after
+  UsesFor ending (PutFiles path files types) used before after =
+      Opens (named (codes "types") types) path.now used before after
+  UsesFor ending (WithdrawNames path names) used before after =
+      Opens [] path.now used before after
+  UsesFor ending (GetBody path name) used before after = Opens [] path.now used before after
   UsesFor ending (Export path) used before after = Opens [] path.now used before after
   UsesFor ending (Inspect path rate) used before after = Opens [] path.now used before after
 
-  -- which calls it made of the system that looks at what is to be formatted
+  -- which calls it made of the system that looks at what is to be formatted, and reads files that are
+  -- put
   abbrev pub LooksFor : Task → UsedDisk S start → (before after : List Call) → Type 0
   LooksFor (Format path g directory) used before after = LooksFirst path.now used before after
+  LooksFor (Copy copy) used before after = LooksAtNew copy.new.now used before after
+  LooksFor (PutFiles path files types) used before after =
+      PutLooks types (texts files.now) used before after
   LooksFor task used before after = after ≡ before
 
   -- What a run of these words came to, whatever they ask for: the task was done, or ended by a

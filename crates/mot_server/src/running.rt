@@ -5,9 +5,13 @@ ghost use Rattle.mot_server.specs.Inner.Coming.{ComesOut, whole_result};
 ghost use Rattle.mot_server.specs.Program.{LooksFor, UsesFor};
 
 use disk_store::Start;
-use mot_air::{export_file, inspect_file, play, sync};
+use mot_air::{export_file, inspect_file, play, sync, try_sync};
 use mot_cli::Task;
-use mot_commands::{check_file, format_file, migrate_file, serve_file, serve_memory};
+use mot_commands::{
+    check_file, format_file, get_file, list_file, migrate_file, put, serve_file, serve_memory,
+    withdraw_file,
+};
+use mot_copy_command::copy_file;
 use mot_endpoints::Host;
 use mot_files::System;
 use mot_outcome::Finished;
@@ -19,7 +23,7 @@ pub(crate) fn execute<'a, Y: System, B: Start, R: Read, W: Write, E: Write>(
     host: &mut Host<'a>,
     system: &mut Y,
     alloc: Global,
-    task: &Task<'a>,
+    task: &Task<'_, 'a>,
     start: B,
     reader: &mut R,
     writer: &mut W,
@@ -41,6 +45,7 @@ pub(crate) fn execute<'a, Y: System, B: Start, R: Read, W: Write, E: Write>(
         } => whole(format_file(
             host, system, alloc, path, start, *geometry, *directory, writer,
         )),
+        Task::Copy(copied) => whole(copy_file(host, system, alloc, copied, start, writer)),
         Task::Serve(path) => whole(serve_file(host, alloc, path, start, reader, writer)),
         Task::Check(path) => whole(check_file(host, alloc, path, start, writer)),
         Task::Migrate(path) => whole(migrate_file(host, alloc, path, start, writer)),
@@ -51,6 +56,20 @@ pub(crate) fn execute<'a, Y: System, B: Start, R: Read, W: Write, E: Write>(
             types,
             rules,
         } => sync(host, alloc, disk, folder, *types, *rules, start, writer),
+        Task::TrySync {
+            disk,
+            folder,
+            types,
+            rules,
+        } => try_sync(host, alloc, disk, folder, *types, *rules, start, writer),
+        Task::ListObjects(path) => whole(list_file(host, alloc, path, start, writer)),
+        Task::PutFiles { disk, files, types } => put(
+            host, system, alloc, disk, files, *types, start, writer, errors,
+        ),
+        Task::WithdrawNames { disk, names } => {
+            withdraw_file(host, alloc, disk, names, start, writer)
+        }
+        Task::GetBody { disk, name } => whole(get_file(host, alloc, disk, name, start, writer)),
         Task::Export(path) => whole(export_file(host, alloc, path, start, writer)),
         Task::Inspect { disk, rate } => {
             whole(inspect_file(host, alloc, disk, *rate, start, writer))

@@ -1,7 +1,8 @@
 //! What is told of a run on standard error.
-ghost use Rattle.std.specs.Prelude.{◌≡◌, false};
+ghost use Rattle.std.specs.Prelude.{◌≡◌, None, IsSome, false};
 ghost use Rattle.std.specs.Result.{result_unwrap_or};
-ghost use Rattle.mot_outcome.specs.Outcome.{status_of};
+ghost use Rattle.mot_numbers.specs.declared.refusal.Refusal.TheVariants.{DeviceFault};
+ghost use Rattle.mot_outcome.specs.Outcome.{fault_in, status_of};
 ghost use Rattle.mot_outcome.specs.declared.used.UsedDisk.TheVariants.{Untouched};
 ghost use Rattle.mot_playout.specs.Attempts.{fault_of};
 ghost use Rattle.mot_server.specs.Inner.Coming.{TellsWhy};
@@ -10,7 +11,8 @@ use clap::ArgMatches;
 use disk_store::{OpenFault, Start};
 use mot_cli::{NoTask, has_levels};
 use mot_endpoints::Cause;
-use mot_outcome::{Exit, Finished, UsedDisk, refuse, subject_of};
+use mot_numbers::Refusal;
+use mot_outcome::{Exit, Finished, UsedDisk, refuse, subject_of, tell};
 use std::io::Write;
 
 /// Prints why words ask for no task: the option is missing of which another one says more, or a
@@ -34,7 +36,7 @@ pub(crate) fn tell_no_task<B: Start, E: Write>(
             errors,
             has_levels(words),
             refusal,
-            subject_of(refusal, words, None, None),
+            subject_of(refusal, words, None, "DISK", None),
             disk,
         ),
     }
@@ -68,7 +70,10 @@ pub(crate) fn conclude<B: Start, E: Write>(
         reason,
     } = finished;
     match result {
-        Ok(true) => Exit::unrefused(0, disk),
+        Ok(true) => {
+            tell_disk(errors, words, disk.fault());
+            Exit::unrefused(0, disk)
+        }
         Ok(false) => {
             tell_folder(errors, words, cause);
             Exit::unrefused(1, disk)
@@ -77,9 +82,35 @@ pub(crate) fn conclude<B: Start, E: Write>(
             errors,
             has_levels(words),
             refusal,
-            subject_of(refusal, words, cause, reason),
+            subject_of(
+                refusal,
+                words,
+                cause_of(refusal, cause, &disk),
+                disk.word(),
+                reason,
+            ),
             disk,
         ),
+    }
+}
+
+/// Why a task was refused: of a disk that failed the first call that did so, if nothing else is
+/// known.
+fn cause_of<B: Start>(refusal: Refusal, cause: Option<Cause>, disk: &UsedDisk<B>) -> Option<Cause>
+    ensures kept { IsSome cause → result ≡ cause }
+    ensures told { cause ≡ None → refusal ≡ DeviceFault → result ≡ fault_in disk.now }
+{
+    match cause {
+        None if refusal == Refusal::DeviceFault => disk.fault(),
+        _ => cause,
+    }
+}
+
+/// Prints why the disk that these words name failed, though the task went on to its end.
+fn tell_disk<E: Write>(errors: &mut E, words: &ArgMatches<'_>, cause: Option<Cause>) {
+    if cause.is_some() {
+        let subject = subject_of(Refusal::DeviceFault, words, cause, "DISK", None);
+        tell(errors, "", subject);
     }
 }
 

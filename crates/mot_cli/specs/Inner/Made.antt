@@ -4,9 +4,9 @@ use Rattle.clap.specs.Words.{App, Rule, app_of, new_app, with_rule, with_subcomm
 use Rattle.clap.specs.declared.builder.Command.{Command}
 use Rattle.clap.specs.declared.builder.Command.TheViews.{out-Command}
 use Rattle.mot_cli.specs.Parts.{flag_rule, motcar_top, number_rule, path_rule}
-use Rattle.mot_cli.specs.Parts.{word_rule}
+use Rattle.mot_cli.specs.Parts.{word_rule, words_rule}
 use Rattle.mot_cli.specs.declared.parts.Argument.{Argument}
-use Rattle.mot_cli.specs.declared.parts.Kind.TheVariants.{Word, Path, Number, Flag}
+use Rattle.mot_cli.specs.declared.parts.Kind.TheVariants.{Word, Words, Path, Number, Flag}
 use Rattle.mot_cli.specs.declared.parts.Kind.{Kind}
 use Rattle.mot_cli.specs.declared.parts.Verb.{Verb}
 
@@ -23,6 +23,7 @@ with_all with_one app (x ∷ xs) = with_all with_one (with_one app x) xs
 -- what an argument of this name is
 abbrev pub rule_of_kind : Kind → List ℕ → Rule
 rule_of_kind Word name = word_rule name
+rule_of_kind Words name = words_rule name
 rule_of_kind (Path value) name = path_rule name
 rule_of_kind Number name = number_rule name
 rule_of_kind Flag name = flag_rule name

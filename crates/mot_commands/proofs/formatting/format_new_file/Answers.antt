@@ -1,13 +1,15 @@
 use Rattle.mot_playout.specs.Attempts.{fault_of}
-use Rattle.std.proofs.Common.{◌∙◌, inl, inr, refl, subst, sym}
+use Rattle.std.proofs.Common.{ℕ, List, [], ◌∷◌, ◌++◌, ◌∙◌, ap, append_assoc, inl, inr, refl, subst, sym}
+use Rattle.std.specs.Prelude.{codes}
 use Rattle.std.proofs.KnownBytes.{Keeps-refl}
-use Rattle.mot_commands.specs.Commands.{FormatsFile, IsUnformatted}
+use Rattle.mot_commands.specs.Commands.{FormatsFile, IsUnformatted, OpensOrMakes}
 use Rattle.mot_outcome.specs.Outcome.{Finishes}
 use Rattle.mot_commands.specs.Report.{Formats}
 use Rattle.mot_numbers.specs.Geometry.{length_of}
 use Rattle.disk_store.proofs.Laws.{since_made}
 use Rattle.mot_commands.proofs.Ends.{Formats-keeps}
 use Rattle.mot_commands.proofs.formatting.format_new_file.Goals as goal
+use Rattle.mot_commands.proofs.formatting.format_new_file.Goals.{then-is_unformatted, else-is_unformatted}
 
 pub returns-clause-ended : goal.returns-clause-ended
 returns-clause-ended g c =
@@ -33,3 +35,30 @@ returns-in-Err-clause-ended g c =
     subst (λ (f : _). Finishes (IsUnformatted c.args.geometry) (λ ending used. FormatsFile c.args.geometry c.args.directory ending used old old)
     f old old) (sym c.unopened.ensures)
     (inl (inl refl, record { untouched = tt; silent = Keeps-refl _ }))
+
+pub returns-clause-files : goal.returns-clause-files
+returns-clause-files g c =
+    let geometry = c.args.geometry in
+    let directory = c.args.directory in
+    let last = c.format_disk-result.new.disk in
+    let old = g.W.Write.contents c.args.writer.now in
+    let new = g.W.Write.contents c.format_disk-result.new.writer in
+    let ending = fault_of c.format_disk-result.result in
+    let formats = c.format_disk-result.ensures in
+    let made = since_made c.in-Ok.disk.disk last.disk (Formats geometry directory ending old new)
+    (length_of geometry) c.in-Ok.ensures.first (c.in-Ok.ensures.len ∙ c.length.ensures)
+    last.begins (Formats-keeps geometry directory ending old new _ _ formats) formats in
+    subst (λ (f : _). OpensOrMakes (fault_of f.result) c.args.path.now f.disk
+    c.args.host.now.paths.all c.if-is_unformatted.host.paths.all) (sym c.of_file.ensures)
+    (elim c.if-is_unformatted.branch [
+      | then-is_unformatted w ↦
+          let removed : List (List ℕ × List ℕ) = (codes "removed", c.args.path.now) ∷ [] in
+          inr (
+            c.is_unformatted.ensures w.if-is_unformatted.true,
+            made.begun,
+            ap (λ (h : _). h.paths.all) w.host-is ∙ w.take_away.ensures
+                ∙ ap (λ l. l ++ removed) c.in-Ok.ensures.paths
+                ∙ append_assoc c.args.host.now.paths.all _ removed,
+          )
+      | else-is_unformatted w ↦ inl (ap (λ (h : _). h.paths.all) w.host-is ∙ c.in-Ok.ensures.paths)
+    ])

@@ -1,21 +1,28 @@
-use Rattle.std.proofs.Common.{[], ◌≡◌, Option, refl, subst, sym}
+use Rattle.std.proofs.Common.{[], ◌≡◌, ◌⊎◌, Option, refl, subst, sym}
 use Rattle.std.proofs.KnownBytes.{Keeps-refl}
 use Rattle.std.specs.Io.KnownBytes.{Keeps}
 use Rattle.mot_air.specs.Commands.{ExportsFile, InspectsFile, IsUnplayed, IsUnsynced, PlaysTask}
 use Rattle.mot_air.specs.Commands.{SyncsTask}
+use Rattle.mot_air.specs.Trying.{TriesTask}
 use Rattle.mot_cli.specs.declared.task.Task.{Task}
-use Rattle.mot_cli.specs.declared.task.Task.TheVariants.{Memory, Format, Serve, Check, Migrate}
-use Rattle.mot_cli.specs.declared.task.Task.TheVariants.{Play, Sync, Export, Inspect}
+use Rattle.mot_cli.specs.declared.task.Task.TheVariants.{Memory, Format, Copy, Serve, Check}
+use Rattle.mot_cli.specs.declared.task.Task.TheVariants.{Migrate}
+use Rattle.mot_cli.specs.declared.task.Task.TheVariants.{Play, Sync, Export, Inspect, TrySync}
+use Rattle.mot_cli.specs.declared.task.Task.TheVariants.{GetBody, ListObjects, PutFiles}
+use Rattle.mot_cli.specs.declared.task.Task.TheVariants.{WithdrawNames}
 use Rattle.mot_commands.specs.Commands.{ChecksFile, FormatsFile, IsUnformatted, IsUnmade}
 use Rattle.mot_commands.specs.Commands.{LooksFirst, MigratesFile, OpensOrMakes, ServesFile}
-use Rattle.mot_commands.specs.Commands.{ServesMemory}
+use Rattle.mot_commands.specs.Commands.{GetsFile, ListsFile, ServesMemory, WithdrawsFile}
+use Rattle.mot_commands.specs.Putting.{PutsFiles, texts}
+use Rattle.mot_copy_command.specs.Command.{CopiesFile, LooksAtNew, OpensTwo}
+use Rattle.mot_endpoints.specs.Types.{IsUntyped}
 use Rattle.mot_numbers.specs.declared.refusal.Refusal.{Refusal}
 use Rattle.mot_numbers.specs.declared.refusal.Refusal.TheVariants.{DeviceFault}
 use Rattle.mot_outcome.specs.Outcome.{Opens}
 use Rattle.mot_playout.specs.Attempts.{fault_of}
 use Rattle.mot_server.specs.Inner.Coming.{ComesOut}
 use Rattle.mot_server.specs.Program.{LooksFor, UsesFor}
-use Rattle.mot_server.proofs.Coming.{comes_so, comes_whole, fault_whole}
+use Rattle.mot_server.proofs.Coming.{comes_so, comes_told, comes_whole, fault_whole}
 use Rattle.mot_server.proofs.running.execute.Goals as goal
 
 pub returns-in-Memory-clause-ended : goal.returns-in-Memory-clause-ended
@@ -270,3 +277,175 @@ pub returns-in-Inspect-clause-looked : goal.returns-in-Inspect-clause-looked
 returns-in-Inspect-clause-looked g c =
     let calls = g.Y.System.calls c.args.system.now in
     subst (λ (t : Task). LooksFor t c.whole-in-Inspect.result.disk calls calls) (sym c.in-Inspect.is) refl
+
+pub returns-in-ListObjects-clause-ended : goal.returns-in-ListObjects-clause-ended
+returns-in-ListObjects-clause-ended g c =
+    let unread = g.R.Read.remaining c.args.reader.now in
+    let old = g.W.Write.contents c.args.writer.now in
+    let new = g.W.Write.contents c.list_file.new.writer in
+    let task : Task = ListObjects c.in-ListObjects.path in
+    let result = c.list_file.result.result in
+    let used = c.list_file.result.disk in
+    subst (λ (t : Task). ComesOut t c.whole-in-ListObjects.result.result c.whole-in-ListObjects.result.disk unread unread old new)
+    (sym c.in-ListObjects.is)
+    (subst (λ (w : _). ComesOut task w.result w.disk unread unread old new) (sym c.whole-in-ListObjects.ensures)
+    (comes_whole task unread unread old new (λ r. r ≡ DeviceFault)
+    (λ ending used. ListsFile ending used old new) result used (λ r early. (early, Keeps-refl _))
+    (λ all ending whole is. (whole, Keeps-refl _, is)) c.list_file.ensures.ended))
+
+pub returns-in-GetBody-clause-ended : goal.returns-in-GetBody-clause-ended
+returns-in-GetBody-clause-ended g c =
+    let unread = g.R.Read.remaining c.args.reader.now in
+    let old = g.W.Write.contents c.args.writer.now in
+    let new = g.W.Write.contents c.get_file.new.writer in
+    let task : Task = GetBody c.in-GetBody.disk c.in-GetBody.name in
+    let result = c.get_file.result.result in
+    let used = c.get_file.result.disk in
+    subst (λ (t : Task). ComesOut t c.whole-in-GetBody.result.result c.whole-in-GetBody.result.disk unread unread old new)
+    (sym c.in-GetBody.is)
+    (subst (λ (w : _). ComesOut task w.result w.disk unread unread old new) (sym c.whole-in-GetBody.ensures)
+    (comes_whole task unread unread old new (λ r. r ≡ DeviceFault)
+    (λ ending used. GetsFile c.in-GetBody.name.now ending used old new) result used (λ r early. (early, Keeps-refl _))
+    (λ all ending whole is. (whole, Keeps-refl _, is)) c.get_file.ensures.ended))
+
+pub returns-in-TrySync-clause-ended : goal.returns-in-TrySync-clause-ended
+returns-in-TrySync-clause-ended g c =
+    let unread = g.R.Read.remaining c.args.reader.now in
+    let old = g.W.Write.contents c.args.writer.now in
+    let new = g.W.Write.contents c.try_sync.new.log in
+    let task : Task = TrySync c.in-TrySync.disk c.in-TrySync.folder c.in-TrySync.types c.in-TrySync.rules in
+    let result = c.try_sync.result.result in
+    let used = c.try_sync.result.disk in
+    subst (λ (t : Task). ComesOut t result used unread unread old new) (sym c.in-TrySync.is)
+    (comes_so task unread unread old new (IsUnsynced c.in-TrySync.types)
+    (λ all ending. TriesTask c.in-TrySync.types c.in-TrySync.rules c.in-TrySync.folder.now all ending used old new) result used (λ r early. (early, Keeps-refl _))
+    (λ all ending is. (Keeps-refl _, is)) c.try_sync.ensures.ended)
+
+pub returns-in-WithdrawNames-clause-ended : goal.returns-in-WithdrawNames-clause-ended
+returns-in-WithdrawNames-clause-ended g c =
+    let unread = g.R.Read.remaining c.args.reader.now in
+    let old = g.W.Write.contents c.args.writer.now in
+    let new = g.W.Write.contents c.withdraw_file.new.writer in
+    let names = c.in-WithdrawNames.names in
+    let task : Task = WithdrawNames c.in-WithdrawNames.disk names in
+    let result = c.withdraw_file.result.result in
+    let used = c.withdraw_file.result.disk in
+    subst (λ (t : Task). ComesOut t result used unread unread old new) (sym c.in-WithdrawNames.is)
+    (comes_told task unread unread old new (λ r. r ≡ DeviceFault)
+    (λ all ending used. WithdrawsFile (texts names.now) all ending used old new) result used
+    (λ r early. (early, Keeps-refl _)) (λ all ending is. (Keeps-refl _, is))
+    c.withdraw_file.ensures.ended)
+
+pub returns-in-PutFiles-clause-ended : goal.returns-in-PutFiles-clause-ended
+returns-in-PutFiles-clause-ended g c =
+    let unread = g.R.Read.remaining c.args.reader.now in
+    let old = g.W.Write.contents c.args.writer.now in
+    let new = g.W.Write.contents c.put.new.writer in
+    let before = g.Y.System.calls c.args.system.now in
+    let after = g.Y.System.calls c.put.new.system in
+    let files = c.in-PutFiles.files in
+    let types = c.in-PutFiles.types in
+    let task : Task = PutFiles c.in-PutFiles.disk files types in
+    let result = c.put.result.result in
+    let used = c.put.result.disk in
+    subst (λ (t : Task). ComesOut t result used unread unread old new) (sym c.in-PutFiles.is)
+    (comes_told task unread unread old new (λ r. IsUntyped types r ⊎ (r ≡ DeviceFault))
+    (λ all ending used. PutsFiles types (texts files.now) all ending used old new before after)
+    result used (λ r early. (early, Keeps-refl _))
+    (λ all ending is. (Keeps-refl _, (before, after, is))) c.put.ensures.ended)
+
+pub returns-in-PutFiles-clause-looked : goal.returns-in-PutFiles-clause-looked
+returns-in-PutFiles-clause-looked g c =
+    subst (λ (t : Task). LooksFor t c.put.result.disk (g.Y.System.calls c.args.system.now)
+    (g.Y.System.calls c.put.new.system)) (sym c.in-PutFiles.is) c.put.ensures.looked
+
+pub returns-in-PutFiles-clause-files : goal.returns-in-PutFiles-clause-files
+returns-in-PutFiles-clause-files g c =
+    subst (λ (t : Task). UsesFor (fault_of c.put.result.result) t c.put.result.disk
+    c.args.host.now.paths.all c.put.new.host.paths.all) (sym c.in-PutFiles.is) c.put.ensures.files
+
+pub returns-in-WithdrawNames-clause-files : goal.returns-in-WithdrawNames-clause-files
+returns-in-WithdrawNames-clause-files g c =
+    subst (λ (t : Task). UsesFor (fault_of c.withdraw_file.result.result) t
+    c.withdraw_file.result.disk c.args.host.now.paths.all c.withdraw_file.new.host.paths.all)
+    (sym c.in-WithdrawNames.is) c.withdraw_file.ensures.files
+
+pub returns-in-WithdrawNames-clause-looked : goal.returns-in-WithdrawNames-clause-looked
+returns-in-WithdrawNames-clause-looked g c =
+    let calls = g.Y.System.calls c.args.system.now in
+    subst (λ (t : Task). LooksFor t c.withdraw_file.result.disk calls calls)
+    (sym c.in-WithdrawNames.is) refl
+
+pub returns-in-ListObjects-clause-files : goal.returns-in-ListObjects-clause-files
+returns-in-ListObjects-clause-files g c =
+    let old = c.args.host.now.paths.all in
+    let new = c.list_file.new.host.paths.all in
+    let done = c.whole-in-ListObjects.result in
+    subst (λ (t : Task). UsesFor (fault_of done.result) t done.disk old new) (sym c.in-ListObjects.is)
+    (subst (λ (w : _). Opens [] c.in-ListObjects.path.now w.disk old new) (sym c.whole-in-ListObjects.ensures)
+    c.list_file.ensures.files)
+
+pub returns-in-GetBody-clause-files : goal.returns-in-GetBody-clause-files
+returns-in-GetBody-clause-files g c =
+    let old = c.args.host.now.paths.all in
+    let new = c.get_file.new.host.paths.all in
+    let done = c.whole-in-GetBody.result in
+    subst (λ (t : Task). UsesFor (fault_of done.result) t done.disk old new) (sym c.in-GetBody.is)
+    (subst (λ (w : _). Opens [] c.in-GetBody.disk.now w.disk old new) (sym c.whole-in-GetBody.ensures)
+    c.get_file.ensures.files)
+
+pub returns-in-TrySync-clause-files : goal.returns-in-TrySync-clause-files
+returns-in-TrySync-clause-files g c =
+    subst (λ (t : Task). UsesFor (fault_of c.try_sync.result.result) t c.try_sync.result.disk
+    c.args.host.now.paths.all c.try_sync.new.host.paths.all) (sym c.in-TrySync.is) c.try_sync.ensures.opens
+
+pub returns-in-TrySync-clause-looked : goal.returns-in-TrySync-clause-looked
+returns-in-TrySync-clause-looked g c =
+    let calls = g.Y.System.calls c.args.system.now in
+    subst (λ (t : Task). LooksFor t c.try_sync.result.disk calls calls) (sym c.in-TrySync.is) refl
+
+pub returns-in-ListObjects-clause-looked : goal.returns-in-ListObjects-clause-looked
+returns-in-ListObjects-clause-looked g c =
+    let calls = g.Y.System.calls c.args.system.now in
+    subst (λ (t : Task). LooksFor t c.whole-in-ListObjects.result.disk calls calls) (sym c.in-ListObjects.is) refl
+
+pub returns-in-GetBody-clause-looked : goal.returns-in-GetBody-clause-looked
+returns-in-GetBody-clause-looked g c =
+    let calls = g.Y.System.calls c.args.system.now in
+    subst (λ (t : Task). LooksFor t c.whole-in-GetBody.result.disk calls calls) (sym c.in-GetBody.is) refl
+
+pub returns-in-Copy-clause-ended : goal.returns-in-Copy-clause-ended
+returns-in-Copy-clause-ended g c =
+    let unread = g.R.Read.remaining c.args.reader.now in
+    let old = g.W.Write.contents c.args.writer.now in
+    let new = g.W.Write.contents c.copy_file.new.writer in
+    let copied = c.in-Copy.copied in
+    let task : Task = Copy copied in
+    let result = c.copy_file.result.result in
+    let used = c.copy_file.result.disk in
+    subst (λ (t : Task). ComesOut t c.whole-in-Copy.result.result c.whole-in-Copy.result.disk unread unread old new)
+    (sym c.in-Copy.is)
+    (subst (λ (w : _). ComesOut task w.result w.disk unread unread old new) (sym c.whole-in-Copy.ensures)
+    (comes_whole task unread unread old new (λ r. r ≡ DeviceFault)
+    (λ ending used. CopiesFile copied.sizes copied.after ending used old new) result used (λ r early. (early, Keeps-refl _))
+    (λ all ending whole is. (whole, Keeps-refl _, is)) c.copy_file.ensures.ended))
+
+pub returns-in-Copy-clause-files : goal.returns-in-Copy-clause-files
+returns-in-Copy-clause-files g c =
+    let old = c.args.host.now.paths.all in
+    let new = c.copy_file.new.host.paths.all in
+    let done = c.whole-in-Copy.result in
+    let copied = c.in-Copy.copied in
+    subst (λ (t : Task). UsesFor (fault_of done.result) t done.disk old new) (sym c.in-Copy.is)
+    (subst (λ (w : _). OpensTwo (fault_of w.result) copied.disk.now copied.new.now w.disk old new)
+    (sym c.whole-in-Copy.ensures)
+    (subst (λ (e : Option Refusal). OpensTwo e copied.disk.now copied.new.now c.copy_file.result.disk
+    old new) (sym (fault_whole c.copy_file.result.result)) c.copy_file.ensures.files))
+
+pub returns-in-Copy-clause-looked : goal.returns-in-Copy-clause-looked
+returns-in-Copy-clause-looked g c =
+    let old = g.Y.System.calls c.args.system.now in
+    let new = g.Y.System.calls c.copy_file.new.system in
+    subst (λ (t : Task). LooksFor t c.whole-in-Copy.result.disk old new) (sym c.in-Copy.is)
+    (subst (λ (w : _). LooksAtNew c.in-Copy.copied.new.now w.disk old new)
+    (sym c.whole-in-Copy.ensures) c.copy_file.ensures.looked)

@@ -6,11 +6,20 @@ use mot_numbers::Refusal;
 
 /// Takes away the empty file that the last opening has made beside a file, if that was refused as it
 /// was found: no disk, a disk already, or too short.
-pub(crate) fn clear_unfit(host: &mut Host<'_>, ended: &Result<(), Refusal>)
+pub fn clear_unfit(host: &mut Host<'_>, ended: &Result<(), Refusal>)
     ensures { host.new.paths.all ≡ host.old.paths.all }
 {
     if is_unfit(ended) {
         host.clear_side();
+    }
+}
+
+/// The same of a command that tells whether all of it was done.
+pub fn clear_unfit_of(host: &mut Host<'_>, ended: &Result<bool, Refusal>)
+    ensures { host.new.paths.all ≡ host.old.paths.all }
+{
+    if let Err(refusal) = ended {
+        clear_unfit(host, &Err(*refusal));
     }
 }
 

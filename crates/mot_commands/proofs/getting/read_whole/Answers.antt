@@ -1,0 +1,22 @@
+use Rattle.std.proofs.Common.{◌≡◌, ◌<◌, ◌∙◌, arith, length, rules, subst, sym}
+use Rattle.mot_commands.proofs.Read.{read_all, whole_again}
+use Rattle.mot_commands.proofs.getting.read_whole.Goals as goal
+use Rattle.mot_playout.proofs.Laws.{body_length}
+use Rattle.mot_repository.specs.Repository.{object_body}
+
+pub returns-in-Ok-read_body-clause-body : goal.returns-in-Ok-read_body-clause-body
+returns-in-Ok-read_body-clause-body g c = λ s holds honest.
+    let body = object_body s.carousel.objects c.args.place in
+    let room = c.deref_mut.result.now in
+    let items = c.in-Ok.body.items in
+    let long = body_length c.args.repository.now.view s holds.agrees
+    c.body_count-bodies.ensures.paired c.args.place
+    (subst (λ n. c.args.place < n) c.body_count-bodies.ensures.value c.if-prove.false) in
+    let size = c.body_length-length.ensures.value in
+    let len : c.in-Ok.body.len ≡ c.body_length-length.result = search rules in
+    let held : length items ≡ c.in-Ok.body.len = search rules in
+    let same : length room ≡ c.in-Ok.body.len =
+    subst (λ l. length l ≡ c.in-Ok.body.len) (sym c.deref_mut.ensures.value) held in
+    let read = read_all body c.read_body.new.out room (same ∙ len ∙ size ∙ sym long)
+    (c.in-Ok-read_body.ensures.bytes s holds honest) in
+    whole_again c.read_body.new.out body items c.in-Ok.body.len read (len ∙ size ∙ sym long)

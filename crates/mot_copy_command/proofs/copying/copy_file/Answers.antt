@@ -1,0 +1,47 @@
+use Rattle.mot_playout.specs.Attempts.{fault_of}
+use Rattle.std.proofs.Common.{[], ◌≡◌, append-nil, inl, inr, refl, subst, sym}
+use Rattle.std.proofs.KnownBytes.{Keeps-refl}
+use Rattle.std.proofs.lemmas.List.Elements.{All-nil}
+use Rattle.disk_store.proofs.Laws.{since_opened}
+use Rattle.mot_copy_command.specs.Command.{ComesToCopy, CopiesFile, CopiesTo, LooksAtNew, OpensTwo}
+use Rattle.mot_copy_command.proofs.Lifts.{syncs_of}
+use Rattle.mot_numbers.specs.declared.refusal.Refusal.TheVariants.{DeviceFault}
+use Rattle.mot_outcome.specs.Outcome.{Finishes}
+use Rattle.mot_copy_command.proofs.copying.copy_file.Goals as goal
+
+pub returns-clause-ended : goal.returns-clause-ended
+returns-clause-ended g c =
+    let sizes = c.args.task.now.sizes in
+    let ids = c.args.task.now.after in
+    let old = g.W.Write.contents c.args.writer.now in
+    let new = g.W.Write.contents c.copy_disk-end.new.writer in
+    let end = c.copy_disk-end.result in
+    let copies = c.copy_disk-end.ensures.ended in
+    inr (since_opened c.in-Ok.disk.disk end.from.disk
+    (CopiesTo sizes ids (fault_of end.result) end.to old new) c.in-Ok.ensures.first end.from.begins
+    (syncs_of sizes ids (fault_of end.result) end.to old new _ _ copies).keeps copies)
+
+pub returns-in-Err-clause-ended : goal.returns-in-Err-clause-ended
+returns-in-Err-clause-ended g c =
+    let old = g.W.Write.contents c.args.writer.now in
+    subst (λ (f : _). Finishes (λ r. r ≡ DeviceFault) (λ ending used.
+    CopiesFile c.args.task.now.sizes c.args.task.now.after ending used old old) f old old)
+    (sym c.unopened.ensures) (inl (refl, record { untouched = tt; silent = Keeps-refl _ }))
+
+pub returns-clause-files : goal.returns-clause-files
+returns-clause-files g c =
+    let end = c.copy_disk-end.result in
+    subst (λ before. ComesToCopy (fault_of end.result) c.args.task.now.new.now end.to before
+    c.copy_disk-end.new.host.paths.all) c.in-Ok.ensures.paths c.copy_disk-end.ensures.files
+
+pub returns-in-Err-clause-files : goal.returns-in-Err-clause-files
+returns-in-Err-clause-files g c =
+    subst (λ (f : _). OpensTwo (fault_of f.result) c.args.task.now.disk.now c.args.task.now.new.now
+    f.disk c.args.host.now.paths.all c.disk.new.self.paths.all) (sym c.unopened.ensures)
+    c.in-Err.ensures.paths
+
+pub returns-in-Err-clause-looked : goal.returns-in-Err-clause-looked
+returns-in-Err-clause-looked g c =
+    let calls = g.Y.System.calls c.args.system.now in
+    subst (λ (f : _). LooksAtNew c.args.task.now.new.now f.disk calls calls) (sym c.unopened.ensures)
+    (record { more = []; calls = sym (append-nil calls); still = All-nil _ })

@@ -1,0 +1,36 @@
+use Rattle.mot_playout.specs.Attempts.{fault_of}
+use Rattle.std.proofs.Common.{refl, subst, sym}
+use Rattle.disk_model.specs.Disk.{OnlyReads}
+use Rattle.disk_store.proofs.Laws.{since_opened}
+use Rattle.disk_store.specs.File.{file_state}
+use Rattle.mot_copy_command.specs.Inner.{CopiesView}
+use Rattle.mot_copy_command.proofs.Lifts.{Known, opened_view}
+use Rattle.mot_copy_command.proofs.copying.copy_open.Goals as goal
+
+pub returns-after-is_refused-clause-reads : goal.returns-after-is_refused-clause-reads
+returns-after-is_refused-clause-reads g c =
+    subst (λ (d : _). OnlyReads (file_state c.args.repository.disk.disk) (file_state d.disk))
+    (sym c.end_of.ensures.from) c.tell_copy-made.ensures.reads
+
+pub returns-after-is_refused-clause-ended : goal.returns-after-is_refused-clause-ended
+returns-after-is_refused-clause-ended g c =
+    let view = c.args.repository.view in
+    let geometry = c.args.geometry.now in
+    let ids = c.args.task.now.after in
+    let old = g.W.Write.contents c.args.writer.now in
+    let new = g.W.Write.contents c.tell_copy-made.new.writer in
+    let mid = file_state c.args.repository.disk.disk in
+    let now = file_state c.tell_copy-made.new.repository.disk.disk in
+    let last = c.tell_copy-made.new.to in
+    let ending = fault_of c.tell_copy-made.result in
+    let copies = c.tell_copy-made.ensures.copies in
+    let since = since_opened c.in-Ok.to.disk last.disk
+    (Known view geometry ids ending old new mid now) c.in-Ok.ensures.first last.begins copies.keeps
+    copies in
+    let end = c.end_of.result in
+    subst (λ (d : _). CopiesView view geometry ids (fault_of end.result) end.to old new mid
+    (file_state d.disk)) (sym c.end_of.ensures.from)
+    (subst (λ (r : _). CopiesView view geometry ids (fault_of r) end.to old new mid now)
+    (sym c.end_of.ensures.made)
+    (opened_view view geometry ids ending old new mid now last.disk refl end.to
+    c.end_of.ensures.some c.end_of.ensures.to since))

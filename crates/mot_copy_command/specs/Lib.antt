@@ -1,0 +1,3 @@
+pub mod Command
+pub mod Copying
+pub mod Inner

@@ -1,0 +1,334 @@
+//! What `copy` does.
+ghost use Rattle.mot_playout.specs.Attempts.{fault_of};
+ghost use Rattle.std.specs.Prelude.{◌≡◌, IfNone, IfSome, IsSome, None, Some, true};
+ghost use Rattle.disk_model.specs.Disk.{OnlyReads};
+ghost use Rattle.disk_store.specs.File.{file_state};
+ghost use Rattle.mot_cli.specs.Options.{geometry_over};
+ghost use Rattle.mot_copy_command.specs.Command.{ComesToCopy, CopiesFile, CopiesTo, IsRefused};
+ghost use Rattle.mot_copy_command.specs.Command.{LooksAtCopy, LooksAtNew, OpensTwo};
+ghost use Rattle.mot_copy_command.specs.Copying.{Copies, refusal_of};
+ghost use Rattle.mot_copy_command.specs.Inner.{CopiesView, OfView};
+ghost use Rattle.mot_numbers.specs.Geometry.{IsValid};
+ghost use Rattle.mot_numbers.specs.declared.geometry.Geometry.{Geometry as GeometryOf};
+ghost use Rattle.mot_numbers.specs.declared.refusal.Refusal.TheVariants.{DeviceFault};
+ghost use Rattle.mot_outcome.specs.Outcome.{Finishes};
+
+use disk_model::Disk;
+use disk_store::{
+    BegunFile, FileDiskFrom, Second, SecondDisk, Start, Unopened, WasThere, with_second,
+};
+use mot_cli::CopyTask;
+use mot_copying::{NotCopied, copy};
+use mot_devices::use_of;
+use mot_endpoints::{Cause, Host, NewDiskFault};
+use mot_files::System;
+use mot_journal::Reason;
+use mot_numbers::{Geometry, Refusal, TransportId};
+use mot_outcome::{Finished, UsedDisk, clear_unfit, write_number};
+use mot_repository::Repository;
+use std::alloc::Global;
+use std::io::Write;
+
+/// What copying came to, and the disks then.
+#[derive(Drop)]
+struct CopyEnd<S: Start> {
+    /// The disk that was copied.
+    from: BegunFile<S, WasThere>,
+    /// That of the copy, if its file was opened or made.
+    to: Option<SecondDisk<S>>,
+    /// What it came to.
+    result: Result<(), Refusal>,
+    /// Why it was refused, if more is known than the refusal says.
+    cause: Option<Cause>,
+    /// Why one of the disks was refused, if that is known.
+    reason: Option<Reason>,
+}
+
+/// Copies the disk of a file to that of another, which is opened, or made if it can't be, and removed
+/// again if nothing was copied to it. That is not done for sizes that no disk has, or if it is a
+/// device in use. Prints how many bytes the copy has.
+pub fn copy_file<Y: System, S: Start, W: Write>(
+    host: &mut Host<'_>,
+    system: &mut Y,
+    alloc: Global,
+    task: &CopyTask<'_>,
+    start: S,
+    writer: &mut W,
+) -> Finished<S, ()>
+    ensures ended { Finishes (λ r. r ≡ DeviceFault) (λ ending used.
+        CopiesFile task.now.sizes task.now.after ending used
+        (W.contents writer.old) (W.contents writer.new))
+        result (W.contents writer.old) (W.contents writer.new) }
+    ensures files { OpensTwo (fault_of result.result) task.now.disk.now task.now.new.now result.disk
+        host.old.paths.all host.new.paths.all }
+    ensures looked { LooksAtNew task.now.new.now result.disk
+        (Y.calls system.old) (Y.calls system.new) }
+{
+    let (start, second) = with_second(start);
+    let disk = match host.disk(task.disk, start) {
+        Ok(disk) => disk,
+        Err(unopened) => return Finished::unopened(unopened),
+    };
+    let end = copy_disk(host, system, alloc, task, disk, second, writer);
+    Finished {
+        result: end.result,
+        disk: UsedDisk::OfCopy(end.from.disk, end.to),
+        cause: end.cause,
+        reason: end.reason,
+    }
+}
+
+/// Copies a disk that is open.
+fn copy_disk<Y: System, S: Start, W: Write>(
+    host: &mut Host<'_>,
+    system: &mut Y,
+    alloc: Global,
+    task: &CopyTask<'_>,
+    disk: BegunFile<S, WasThere>,
+    second: Second<S>,
+    writer: &mut W,
+) -> CopyEnd<S>
+    ensures ended { CopiesTo task.now.sizes task.now.after (fault_of result.result) result.to
+        (W.contents writer.old) (W.contents writer.new)
+        (file_state disk.disk) (file_state result.from.disk) }
+    ensures files { ComesToCopy (fault_of result.result) task.now.new.now result.to
+        host.old.paths.all host.new.paths.all }
+    ensures looked { LooksAtCopy task.now.new.now result.to
+        (Y.calls system.old) (Y.calls system.new) }
+{
+    let repository = match Repository::open(alloc, disk) {
+        Ok(repository) => repository,
+        Err(refused) => {
+            clear_unfit(host, &Err(refused.refusal));
+            return uncopied(refused.disk, refused.refusal, None, refused.reason);
+        }
+    };
+    let Some(geometry) = valid_sizes(task, repository.geometry()) else {
+        return uncopied(repository.into_disk(), Refusal::BadGeometry, None, None);
+    };
+    if let Some(found) = use_of(system, alloc, task.new) {
+        let cause = Cause::NewDisk(NewDiskFault::from(found));
+        return uncopied(
+            repository.into_disk(),
+            Refusal::DeviceFault,
+            Some(cause),
+            None,
+        );
+    }
+    copy_open(host, alloc, repository, &geometry, task, second, writer)
+}
+
+/// The sizes of the copy, if a disk has such.
+fn valid_sizes(task: &CopyTask<'_>, base: Geometry) -> Option<Geometry>
+    ensures some { IfSome result (λ g. (geometry_over base task.now.sizes ≡ Some g) × IsValid g) }
+    ensures none { IfNone result ((g : GeometryOf)
+        → geometry_over base task.now.sizes ≡ Some g → IsValid g → ⊥) }
+{
+    let geometry = task.sizes.over(&base)?;
+    if geometry.is_valid() {
+        Some(geometry)
+    } else {
+        None
+    }
+}
+
+/// The end of a copying for which no other file was opened or made.
+fn uncopied<S: Start>(
+    from: BegunFile<S, WasThere>,
+    refusal: Refusal,
+    cause: Option<Cause>,
+    reason: Option<Reason>,
+) -> CopyEnd<S>
+    ensures { result ≡ record {
+      from = from;
+      to = None;
+      result = Err refusal;
+      cause = cause;
+      reason = reason;
+    } }
+{
+    CopyEnd {
+        from,
+        to: None,
+        result: Err(refusal),
+        cause,
+        reason,
+    }
+}
+
+/// Copies an open disk to that of the file at the path of the task, which is opened or made.
+fn copy_open<S: Start, W: Write>(
+    host: &mut Host<'_>,
+    alloc: Global,
+    mut repository: Repository<BegunFile<S, WasThere>>,
+    geometry: &Geometry,
+    task: &CopyTask<'_>,
+    second: Second<S>,
+    writer: &mut W,
+) -> CopyEnd<S>
+    requires { IsValid geometry.now }
+    ensures reads { OnlyReads (file_state repository.disk.disk)
+        (file_state result.from.disk) }
+    ensures ended { CopiesView repository.view geometry.now task.now.after
+        (fault_of result.result) result.to (W.contents writer.old) (W.contents writer.new)
+        (file_state repository.disk.disk) (file_state result.from.disk) }
+    ensures files { ComesToCopy (fault_of result.result) task.now.new.now result.to
+        host.old.paths.all host.new.paths.all }
+{
+    match host.disk(task.new, second) {
+        Ok(mut to) => {
+            let made = tell_copy(
+                alloc,
+                &mut repository,
+                &mut to,
+                geometry,
+                task.after,
+                writer,
+            );
+            if is_refused(&made) {
+                host.clear_side();
+            }
+            end_of(repository, to.disk, made, geometry)
+        }
+        Err(unopened) => copy_to_new(host, alloc, repository, geometry, task, unopened, writer),
+    }
+}
+
+/// Copies an open disk to that of a new file. If nothing was copied, it is removed.
+fn copy_to_new<S: Start, W: Write>(
+    host: &mut Host<'_>,
+    alloc: Global,
+    mut repository: Repository<BegunFile<S, WasThere>>,
+    geometry: &Geometry,
+    task: &CopyTask<'_>,
+    unopened: Unopened<Second<S>>,
+    writer: &mut W,
+) -> CopyEnd<S>
+    requires { IsValid geometry.now }
+    ensures reads { OnlyReads (file_state repository.disk.disk)
+        (file_state result.from.disk) }
+    ensures ended { CopiesView repository.view geometry.now task.now.after
+        (fault_of result.result) result.to (W.contents writer.old) (W.contents writer.new)
+        (file_state repository.disk.disk) (file_state result.from.disk) }
+    ensures files { ComesToCopy (fault_of result.result) task.now.new.now result.to
+        host.old.paths.all host.new.paths.all }
+{
+    let mut to = match host.make_disk(task.new, geometry.length(), unopened.start) {
+        Ok(to) => to,
+        Err(unmade) => {
+            let fault = NewDiskFault::Disk(unmade.behind(unopened.fault).fault);
+            let cause = Some(Cause::NewDisk(fault));
+            return uncopied(repository.into_disk(), Refusal::DeviceFault, cause, None);
+        }
+    };
+    let made = tell_copy(
+        alloc,
+        &mut repository,
+        &mut to,
+        geometry,
+        task.after,
+        writer,
+    );
+    if is_refused(&made) {
+        host.take_away(task.new);
+    }
+    end_of(repository, to.disk, made, geometry)
+}
+
+/// Whether copying was refused, and not only the telling of it.
+fn is_refused(made: &Result<(), Refusal>) -> bool
+    ensures { result ≡ true → IsRefused (fault_of made.now) }
+{
+    match made {
+        Err(refusal) => *refusal != Refusal::WriteFault,
+        Ok(()) => false,
+    }
+}
+
+/// The end of a copying to this disk.
+fn end_of<S: Start>(
+    repository: Repository<BegunFile<S, WasThere>>,
+    to: FileDiskFrom<Second<S>>,
+    made: Result<(), Refusal>,
+    geometry: &Geometry,
+) -> CopyEnd<S>
+    ensures from { result.from ≡ repository.disk }
+    ensures to { IfSome result.to (λ second. (second.file ≡ to.file)
+        × (second.failures ≡ to.failures) × (second.calls ≡ to.calls)) }
+    ensures some { IsSome result.to }
+    ensures made { result.result ≡ made }
+{
+    let cause = cause_of(&made, &repository, geometry);
+    let reason = match made {
+        Ok(()) => None,
+        Err(refusal) => Reason::of_formatting(refusal, to.len(), geometry),
+    };
+    CopyEnd {
+        from: repository.into_disk(),
+        to: Some(SecondDisk::of(to)),
+        result: made,
+        cause,
+        reason,
+    }
+}
+
+/// Why a copy has no room, with both numbers.
+fn cause_of<D: Disk>(
+    made: &Result<(), Refusal>,
+    repository: &Repository<D>,
+    geometry: &Geometry,
+) -> Option<Cause> {
+    let fault = match made {
+        Err(Refusal::TooManyObjects) => NewDiskFault::Objects {
+            count: repository.body_count(),
+            most: geometry.objects,
+        },
+        Err(Refusal::NoRoom) => NewDiskFault::Bodies {
+            length: length_of_bodies(repository),
+            room: geometry.area,
+        },
+        _ => return None,
+    };
+    Some(Cause::NewDisk(fault))
+}
+
+/// How many bytes all bodies have.
+fn length_of_bodies<D: Disk>(repository: &Repository<D>) -> u64 {
+    let mut length: u64 = 0;
+    let count = repository.body_count();
+    for place in 0..count {
+        length = length.saturating_add(u64::from(repository.body_length(place)));
+    }
+    length
+}
+
+/// Makes the copy, and prints how many bytes it has.
+fn tell_copy<D: Disk, E: Disk, W: Write>(
+    alloc: Global,
+    repository: &mut Repository<D>,
+    to: &mut E,
+    geometry: &Geometry,
+    after: Option<TransportId>,
+    writer: &mut W,
+) -> Result<(), Refusal>
+    ensures reads { OnlyReads (D.state repository.old.disk) (D.state repository.new.disk) }
+    ensures copies { Copies (OfView repository.old.view (D.state repository.old.disk)
+        (D.state repository.new.disk)) (D.state repository.old.disk).failures
+        (D.state repository.new.disk).failures geometry.now after (fault_of result)
+        (W.contents writer.old) (W.contents writer.new) (E.state to.old) (E.state to.new) }
+{
+    match copy(alloc, repository, to, geometry, after) {
+        Ok(()) => write_number(writer, b"copied ", geometry.length()),
+        Err(why) => Err(refusal_of(why)),
+    }
+}
+
+/// The refusal of a copy that was not made.
+fn refusal_of(why: NotCopied) -> Refusal
+    ensures { result ≡ refusal_of why }
+{
+    match why {
+        NotCopied::Refused(refusal) => refusal,
+        NotCopied::Unreadable => Refusal::DeviceFault,
+    }
+}
