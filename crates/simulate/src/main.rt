@@ -5,6 +5,7 @@
 mod answers;
 mod chance;
 mod judging;
+mod log;
 #[cfg(test)]
 mod memory_tests;
 mod playing;

@@ -3,6 +3,7 @@
 use crate::answers::{Told, are_lines};
 use crate::chance::Chance;
 use crate::judging::{has_right_objects, is_of_lines, is_told_right, wrong_removal};
+use crate::log::Log;
 use crate::texts::{LINES, lines_plan, objects_plan};
 use crate::verdict::{Verdict, Wrong};
 use disk_store::{Disk, MemoryDisk};
@@ -45,7 +46,7 @@ pub struct World {
     pub lines: MemorySystem,
     disk: MemoryDisk,
     /// The log.
-    pub log: Vec<u8>,
+    log: Log,
 }
 
 /// How a disk is played.
@@ -133,7 +134,7 @@ fn new_world(alloc: Global, seed: u64) -> Result<World, AllocError> {
         objects,
         lines,
         disk: new_disk(alloc)?,
-        log: Vec::new(alloc),
+        log: Log::new(alloc),
     })
 }
 
@@ -256,7 +257,7 @@ fn live(
     };
     let is_right = has_right_objects(&mut server, &objects, &lines);
     let mut log = log;
-    let (from, before) = (log.len(), lines.removed().len());
+    let (from, before) = (log.shown().len(), lines.removed().len());
     let hand = Hand::new(alloc)?;
     let (objects, lines) = play(
         alloc,
@@ -270,7 +271,7 @@ fn live(
     );
     let is_right = is_right && has_right_objects(&mut server, &objects, &lines);
     let wrong = if is_right {
-        wrong_of(alloc, &objects, &lines, before, log.as_slice(), from)?
+        wrong_of(alloc, &objects, &lines, before, &log, from)?
     } else {
         Some(Wrong::Torn)
     };
@@ -384,9 +385,13 @@ fn wrong_of(
     objects: &MemorySystem,
     lines: &MemorySystem,
     before: usize,
-    log: &[u8],
+    log: &Log,
     from: usize,
 ) -> Result<Option<Wrong>, AllocError> {
+    if !log.is_flushed() {
+        return Ok(Some(Wrong::Unflushed));
+    }
+    let log = log.shown();
     if objects.waited() > 0 || lines.waited() > 0 {
         return Ok(Some(Wrong::Waited));
     }
@@ -410,7 +415,7 @@ fn last_life(
 ) -> Result<(Option<Wrong>, u64), AllocError> {
     let mut world = world;
     world.objects.pass(OLD_ENOUGH);
-    let from = world.log.len();
+    let from = world.log.shown().len();
     let left = left_lines(alloc, &world.lines)?;
     let manner = Manner {
         turns: LAST_TURNS,
@@ -423,12 +428,12 @@ fn last_life(
     if wrong.is_some() {
         return Ok((wrong, calls));
     }
-    let told = Told::of(alloc, world.log.as_slice(), from)?;
+    let told = Told::of(alloc, world.log.shown(), from)?;
     for (name, bytes) in &left {
         if world.lines.bytes_of(name.as_str()).is_some() {
             return Ok((Some(Wrong::Kept), calls));
         }
-        if !told.answers_all(world.log.as_slice(), name.as_bytes(), bytes.as_slice()) {
+        if !told.answers_all(world.log.shown(), name.as_bytes(), bytes.as_slice()) {
             return Ok((Some(Wrong::Unanswered), calls));
         }
     }

@@ -26,6 +26,8 @@ pub enum Wrong {
     Carried,
     /// A file of lines is left, though nothing fails.
     Kept,
+    /// A line of the log was not flushed.
+    Unflushed,
 }
 
 impl Wrong {
@@ -42,6 +44,7 @@ impl Wrong {
             Wrong::Unanswered => "lines went without a reply",
             Wrong::Carried => "a line was carried out that no file has",
             Wrong::Kept => "a file of lines is left",
+            Wrong::Unflushed => "a line of the log was not flushed",
         }
     }
 }
