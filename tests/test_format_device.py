@@ -1,11 +1,11 @@
 """The command `format` on a block device: one that is in use, or has something on it, stays whole."""
-import contextlib
 import os
 import pathlib
 import shutil
 import subprocess
 import unittest
 
+from .loops import Loops, has_loop_devices, word
 from .program import Case, refused, run
 
 FORMATTED = (0, b"formatted 84032\n", b"")
@@ -26,30 +26,12 @@ SIGNATURES = [
 ]
 
 
-def has_loop_devices():
-    """Whether this machine lets one attach a file as a block device."""
-    return os.geteuid() == 0 and os.path.exists("/dev/loop-control") and shutil.which("losetup") is not None
-
-
-def word(*words):
-    """What a tool that has to succeed prints."""
-    return subprocess.run([str(it) for it in words], check=True, capture_output=True, timeout=60).stdout.decode().strip()
-
-
 @unittest.skipUnless(has_loop_devices(), "no loop devices here, or not root")
-class FormatDevice(Case):
+class FormatDevice(Loops, Case):
     def setUp(self):
         super().setUp()
         self.image = self.room / "image"
         self.device = self.attach(self.image, 20 * MIB)
-
-    def attach(self, image, size, *options):
-        """A loop device of a new image of zeros; it is gone with the test."""
-        with open(image, "wb") as file:
-            file.truncate(size)
-        device = word("losetup", "--find", "--show", *options, image)
-        self.addCleanup(subprocess.run, ["losetup", "--detach", device], check=False, capture_output=True)
-        return device
 
     def put(self, at, held):
         """Writes bytes onto the device."""
@@ -59,17 +41,6 @@ class FormatDevice(Case):
 
     def clear(self):
         self.put(0, bytes(MIB))
-
-    @contextlib.contextmanager
-    def mounted(self, device):
-        """A folder in which the file system of the device is mounted."""
-        folder = self.room / "mounted"
-        folder.mkdir(exist_ok=True)
-        word("mount", device, folder)
-        try:
-            yield folder
-        finally:
-            word("umount", folder)
 
     def expect_refused(self, row, why, device=None):
         """`format` refuses the device for this, and no byte of it changes."""

@@ -76,9 +76,9 @@ class Reasons(Case):
         sizes = {"objects": 250, "area": 300}
         self.expect_reason(disk_of(*objects, more, **sizes), 250, "it sets one object more than 250")
         again = two(18, tid=900, name=b"n0", start=249, size=1, directory=9_999)
-        self.expect_reason(disk_of(*objects, again, **sizes), 250, "its body meets that of slot 249's object")
+        self.expect_reason(disk_of(*objects, again, **sizes), 250, "the body of transport id 900 meets that of another object")
         same = two(18, tid=251, name=b"n0", start=251, size=1, directory=9_999)
-        self.expect_reason(disk_of(*objects, same, **sizes), 250, "transport id 251 is that of slot 249's object, too")
+        self.expect_reason(disk_of(*objects, same, **sizes), 250, "transport id 251 is that of another object, too")
 
     def test_a_head(self):
         held = disk_of(objects=250)

@@ -60,14 +60,14 @@ LISTS = [
     ([slot(), slot(name=b"b", tid=3, start=2)], 1, 1, "it sets one object more than 1"),
     ([slot(), slot(REMOVE), slot(name=b"b", tid=3), slot(name=b"c", tid=4, start=2)], 1, 3,
      "it sets one object more than 1"),
-    ([slot(), slot(name=b"b", start=2)], 3, 1, "transport id 2 is that of slot 0's object, too"),
-    ([slot(), slot(tid=3), slot(name=b"b", tid=3, start=2)], 3, 2, "transport id 3 is that of slot 1's object, too"),
-    ([slot(), slot(NOTHING, directory=2)], 3, 1, "the directory's transport id 2 is that of slot 0's object"),
-    ([slot(directory=2)], 3, 0, "the directory's transport id 2 is that of slot 0's object"),
-    ([slot(), slot(tid=3, directory=3)], 3, 1, "the directory's transport id 3 is that of slot 1's object"),
-    ([slot(), slot(name=b"b", tid=3, start=1)], 3, 1, "its body meets that of slot 0's object"),
+    ([slot(), slot(name=b"b", start=2)], 3, 1, "transport id 2 is that of another object, too"),
+    ([slot(), slot(tid=3), slot(name=b"b", tid=3, start=2)], 3, 2, "transport id 3 is that of another object, too"),
+    ([slot(), slot(NOTHING, directory=2)], 3, 1, "the directory's transport id 2 is that of an object"),
+    ([slot(directory=2)], 3, 0, "the directory's transport id 2 is that of an object"),
+    ([slot(), slot(tid=3, directory=3)], 3, 1, "the directory's transport id 3 is that of an object"),
+    ([slot(), slot(name=b"b", tid=3, start=1)], 3, 1, "the body of transport id 3 meets that of another object"),
     ([slot(), slot(start=3, tid=3), slot(name=b"b", tid=4), slot(name=b"c", tid=5, start=1)], 3, 3,
-     "its body meets that of slot 2's object"),
+     "the body of transport id 5 meets that of another object"),
 ]
 LIST_DAMAGES = [(disk_of(*slots, objects=objects), f"{DAMAGED} {number}", f"slot {number}: {reason}")
                 for slots, objects, number, reason in LISTS]
@@ -97,9 +97,11 @@ class Reasons(Case):
         self.write("disk", held)
         (self.room / "objects").mkdir()
         wanted = refused(*refusal.split(" ", 1), f"disk: {reason}")
-        more = [("sync", "disk", "objects"), ("play", "disk", "packets", "--turns", "1")]
+        more = [("sync", "disk", "objects"), ("sync", "disk", "objects", "--dry-run"), ("list", "disk"),
+                ("put", "disk", "a.txt"), ("withdraw", "disk", "a.txt"), ("get", "disk", "a.txt"),
+                ("play", "disk", "packets", "--turns", "1")]
         for words in [*((it, "disk") for it in COMMANDS), *more]:
-            self.expect(f"a damaged disk: {words[0]}", wanted, self.motcar(*words, given=b"list\n"))
+            self.expect(f"a damaged disk: {' '.join(words)}", wanted, self.motcar(*words, given=b"list\n"))
 
     def test_format(self):
         words = ("format", "disk", "--objects", "1", "--data", "5")
@@ -152,13 +154,13 @@ class InTheWay(Case):
         beside = self.room / "disk-wal"
         beside.unlink()
         beside.symlink_to("elsewhere")
-        self.expect_fault("a link", "disk-wal: unsupported; it has to be a regular file of one name: move it away")
+        self.expect_fault("a link", "disk-wal: not a regular file of one name; move it away")
         beside.unlink()
         self.expect("and not behind that", 0, self.motcar("check", "disk")[0])
 
     def test_a_journal_beside_it(self):
         self.new_disk("disk")
         self.write("disk-journal", b"x")
-        self.expect_fault("a journal", "disk-journal: entity already exists; move it away")
+        self.expect_fault("a journal", "disk-journal: a file is there; move it away")
         (self.room / "disk-journal").unlink()
         self.expect("and not behind that", 0, self.motcar("check", "disk")[0])

@@ -5,6 +5,7 @@ import resource
 import shutil
 import time
 
+from . import dab
 from .air import AirCase, needs_strace, samples, send, traced, until
 from .program import run
 
@@ -27,6 +28,11 @@ class Status(AirCase):
     def count(self, name):
         return samples(self.path).get(f"motcar_{name}")
 
+    def checksum(self, disk):
+        """The checksum of the directory that a turn of the disk has."""
+        entity = dab.entities_of(self.turns(disk, 1))[0]
+        return int.from_bytes(dab.checksum(entity.data), "big")
+
 
 class Samples(Status):
     def test_all(self):
@@ -37,7 +43,8 @@ class Samples(Status):
         files = {f'motcar_file_refused{{command="read",name="{it}",reason="{why}"}}': 1 for it, why in reasons.items()}
         wanted = {"packets_total": packets, "turns_total": 1, "looks_total": 1, "changes_total": 1, "refusals_total": 4,
                   "line_refusals_total": 0, "mass_withdrawals_total": 0, "objects_limit": 40, "data_bytes": 600_000,
-                  "objects": 1, "directory_id": 3, "turn_packets": packets, "turn_bytes": size, "folder_listed": 1,
+                  "objects": 1, "directory_id": 3, "directory_checksum": self.checksum(self.place),
+                  "turn_packets": packets, "turn_bytes": size, "folder_listed": 1,
                   "free_bytes": int(inspected["data"].split()[-1]), "gap_bytes": int(inspected["gap"]),
                   f'info{{version="{version}"}}': 1}
         wanted = {f"motcar_{it}": value for it, value in wanted.items()}
@@ -112,6 +119,26 @@ class Samples(Status):
         reason = f"<4>look {self.objects_of} refused 22 ReadFault: No such file or directory"
         self.expect("with the reason", True, reason in told)
 
+    def test_two_stations(self):
+        """A copy of a disk has the checksum of the disk, until something is changed on one of them."""
+        def told(disk):
+            ended = self.motcar("play", disk, "/dev/null", "--turns", "1", "--status", self.path)
+            self.expect("a status is written", 0, ended[0])
+            return self.count("directory_checksum")
+
+        self.serve(self.place, ["put a 1 0 - 6162", "put b 1 0 text/plain 62"])
+        other = self.room / "other"
+        shutil.copy(self.place, other)
+        wanted = self.checksum(self.place)
+        self.expect("a disk and its copy", (wanted, wanted), (told(self.place), told(other)))
+        last = wanted
+        for line in ("replace a 1 0 - 6162", "replace a 1 0 - 6163", "period 7", "withdraw b", "put b 1 0 - 62"):
+            self.serve(other, [line])
+            came = told(other)
+            self.expect(line, (self.checksum(other), True), (came, came not in (last, wanted)))
+            last = came
+        self.expect("the disk as before", wanted, told(self.place))
+
     def test_an_object_that_is_replaced(self):
         """Another length of it is another turn, though there are as many objects as before."""
         asked = self.folder(name="lines")
@@ -179,7 +206,8 @@ class Places(Status):
         before = self.path.read_bytes()
         for row, make in (("a link", lambda: new.symlink_to(victim)), ("a pipe", lambda: os.mkfifo(new))):
             make()
-            wanted = [f"<4>status {self.path} refused 23 WriteFault: a link, or not a regular file"]
+            why = "the .new file beside it is a link, or not a regular file"
+            wanted = [f"<4>status {self.path} refused 23 WriteFault: {why}"]
             self.expect(f"{row} beside it", (0, wanted), self.told(turns="2"))
             self.expect(f"{row} stays, and the old status", (True, before, b"mine"),
                         (os.path.lexists(new), self.path.read_bytes(), victim.read_bytes()))

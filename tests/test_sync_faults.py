@@ -69,7 +69,8 @@ class Faults(AirCase):
         fault = "inject=fdatasync:error=EIO:when=4"
         status, told, said = run(traced([self.program, "sync", "--at-once", disk, folder], fault))
         done = [it for it, now in self.objects(disk).items() if now != there[it]]
-        self.expect("a disk that fails in a look of sync", (1, b"motcar: 15 DeviceFault\n", True),
+        wanted = f"motcar: 15 DeviceFault\nmotcar: {disk}: Input/output error\n".encode()
+        self.expect("a disk that fails in a look of sync", (1, wanted, True),
                     (status, said, len(done) in (1, 2)))
         self.expect("what was done before is logged", [b"replace"], [it.split()[0] for it in told.splitlines()])
 
@@ -78,8 +79,9 @@ class Faults(AirCase):
         self.rewritten(folder, there, b"y")
         words = [self.program, "play", disk, "-", "--at-once", "--folder", folder, "--turns", "1"]
         status, printed, said = run(traced(words, "inject=fdatasync:error=EIO:when=4"))
-        said = [it.split()[0] for it in plain(said).splitlines()]
-        self.expect("and in a look of play", (1, b"", [b"replace", b"motcar:"]), (status, printed, said))
+        said = plain(said).splitlines()
+        wanted = [b"motcar: 15 DeviceFault", f"motcar: {disk}: Input/output error".encode()]
+        self.expect("and in a look of play", (1, b"", b"replace", wanted), (status, printed, said[0].split()[0], said[1:]))
 
 
 @needs_strace

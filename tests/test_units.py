@@ -1,19 +1,41 @@
-"""The units of examples/: what they name fits together, and systemd reads them without a complaint."""
+"""The units of examples/: what they name fits together, systemd reads them without a complaint, and their command makes
+the pipe as long as they say."""
+import fcntl
+import os
 import pathlib
 import re
 import shlex
 import shutil
 import subprocess
+import sys
 import tempfile
 
-from tests import program
+from tests import dab, program
 
 UNITS = ("motcar.service", "motcar@.service")
+PROGRAM = "/usr/local/bin/motcar"
+LENGTH_OF = "import fcntl, os; print(fcntl.fcntl(os.open('packets.pipe', os.O_RDWR), fcntl.F_GETPIPE_SZ))"
+KEPT = "<4>the pipe keeps its length until motcar and the multiplexer are both stopped\n"
 
 
 def values(text, key):
     """The words of each line of a key; a line that ends in a backslash goes on."""
-    return " ".join(re.findall(rf"(?m)^{key}=(.*)$", text.replace("\\\n", " "))).split()
+    return shlex.split(" ".join(re.findall(rf"(?m)^{key}=(.*)$", text.replace("\\\n", " "))))
+
+
+def program_of(text):
+    """The words that run the program."""
+    words = values(text, "ExecStart")
+    return words[words.index(PROGRAM):]
+
+
+def around(text, more=None):
+    """The words before those, as systemd hands them over, for a pipe in the folder in which they run."""
+    words = values(text, "ExecStart")
+    given = dict(it.split("=", 1) for it in [*values(text, "Environment"), *(more or [])])
+    script = words[2].replace("${PIPE}", given["PIPE"]).replace("$$", "$")
+    pipe = next(it for it in words if it.endswith("/packets.pipe"))
+    return [*words[:2], script.replace(pipe, "packets.pipe"), *words[3:words.index(PROGRAM)]]
 
 
 class Units(program.Rows):
@@ -27,7 +49,7 @@ class Units(program.Rows):
             self.expect(f"{name}: WantedBy", ["multi-user.target", *multiplexer], values(text, "WantedBy"))
             self.expect(f"{name}: options", ["-/etc/default/motcar" + place.replace("/", "-")],
                         values(text, "EnvironmentFile"))
-            command = values(text, "ExecStart")
+            command = program_of(text)
             status = pathlib.PurePath(command[command.index("--status") + 1])
             folders = [f"/var/lib/{it}" for it in values(text, "StateDirectory")]
             self.expect(f"{name}: the folder of the status is made", True, str(status.parent) in folders)
@@ -36,7 +58,7 @@ class Units(program.Rows):
     def test_options(self):
         """The program takes the options that the units give."""
         for name in UNITS:
-            command = values((program.top / "examples" / name).read_text(), "ExecStart")
+            command = program_of((program.top / "examples" / name).read_text())
             words = [it for it in command[1:] if it != "$ARGS"]
             ended = program.run([program.find(), *words, "--help"])
             self.expect(f"{name}: {shlex.join(words)}", (0, b""), (ended[0], ended[2]))
@@ -49,8 +71,60 @@ class Units(program.Rows):
         with tempfile.TemporaryDirectory() as room:
             for name in UNITS:
                 text = (program.top / "examples" / name).read_text()
-                text = re.sub(r"(?m)^Documentation=.*\n", "", text.replace("/usr/local/bin/motcar", "/bin/true"))
+                text = re.sub(r"(?m)^Documentation=.*\n", "", text.replace(PROGRAM, "/bin/true"))
                 file = pathlib.Path(room, name.replace("@", "@north"))
                 file.write_text(text)
                 done = subprocess.run(["systemd-analyze", "verify", file], capture_output=True, text=True)
                 self.expect(f"{name}: verified", (0, ""), (done.returncode, done.stderr))
+
+
+class Pipe(program.Case):
+    def test_length(self):
+        """How long the pipe is for the program that the command of a unit runs."""
+        if not shutil.which("perl"):
+            self.leave_out("the length of the pipe", "no perl")
+            return
+        os.mkfifo(self.room / "packets.pipe")
+        for name in UNITS:
+            text = (program.top / "examples" / name).read_text()
+            for more, length in (([], 8192), (["PIPE=65536"], 65_536), (["PIPE=5000"], 8192)):
+                ended = program.run([*around(text, more), sys.executable, "-c", LENGTH_OF], cwd=self.room)
+                self.expect(f"{name}: {more}", (0, b"%d\n" % length, b""), ended)
+            self.expect(f"{name}: a new start", ["1"], values(text, "RestartSec"))
+
+    def test_full(self):
+        """A pipe that has more bytes in it is not made shorter, and the program is run."""
+        if not shutil.which("perl"):
+            self.leave_out("a pipe that is full", "no perl")
+            return
+        os.mkfifo(self.room / "packets.pipe")
+        pipe = os.open(self.room / "packets.pipe", os.O_RDWR)
+        self.addCleanup(os.close, pipe)
+        os.write(pipe, bytes(20_000))
+        for name in UNITS:
+            text = (program.top / "examples" / name).read_text()
+            ended = program.run([*around(text), sys.executable, "-c", LENGTH_OF], cwd=self.room)
+            self.expect(name, (0, KEPT.encode() + b"65536\n", b""), ended)
+
+    def test_packets(self):
+        """What the program writes into the pipe that the command made short: whole packets, through many fillings."""
+        if not shutil.which("perl"):
+            self.leave_out("packets through a short pipe", "no perl")
+            return
+        os.mkfifo(self.room / "packets.pipe")
+        for packet in dab.LENGTHS:
+            self.new_disk(f"{packet}.disk", "--packet", packet)
+            self.serve(f"{packet}.disk", ["put a 2 3 - " + "00" * 999, "put b 2 3 - " + "11" * 1500])
+            words = [*around((program.top / "examples" / UNITS[0]).read_text()), self.program]
+            pipe = os.open(self.room / "packets.pipe", os.O_RDWR)
+            playing = subprocess.Popen([*words, "play", f"{packet}.disk", "packets.pipe"], cwd=self.room,
+                                       stdout=subprocess.DEVNULL)
+            self.addCleanup(program.end, playing)
+            came = b""
+            while len(came) < 100_000:
+                came += os.read(pipe, 96)
+            self.expect(f"{packet} bytes: the pipe", 8192, fcntl.fcntl(pipe, fcntl.F_GETPIPE_SZ))
+            program.end(playing)
+            os.close(pipe)
+            whole = dab.packets_in(came)[:-1]
+            self.expect(f"{packet} bytes: indexes go on", True, dab.counts_on(whole))

@@ -37,8 +37,8 @@ PROMISES = [
         ("mot_session", "serve_line_and_restart", "told"),
     ]),
     ("The disk's format", [
-        ("mot_journal", "load", ""), ("mot_journal", "slot_bytes", ""), ("mot_journal", "read_record", ""),
-        ("mot_journal", "format", ""), ("mot_repository", "Repository::open", ""),
+        ("mot_journal", "load", ""), ("mot_journal", "slot_bytes", ""),
+        ("mot_journal", "format", ""), ("mot_repository", "Repository::open", "only_syncs going opened refused calm cost"),
     ]),
     ("Sessions and playing", [
         ("mot_session", "serve", ""), ("mot_session", "serve_line", ""), ("mot_session", "told_laws", ""),
@@ -47,13 +47,15 @@ PROMISES = [
     ("The program", [
         ("mot_cli", "task_of", ""), ("mot_commands", "format_file", ""), ("mot_commands", "serve_file", ""),
         ("mot_commands", "check_file", ""), ("mot_commands", "migrate_file", ""), ("mot_commands", "serve_memory", ""),
+        ("mot_commands", "list_file", ""), ("mot_commands", "put", ""), ("mot_commands", "withdraw_file", ""),
+        ("mot_commands", "get_file", ""), ("mot_copy_command", "copy_file", ""),
     ]),
     ("On the air", [
         ("mot_update", "update_laws", ""), ("mot_update", "look", ""),
         ("mot_feed", "feed", ""), ("mot_feed", "feed_often", ""), ("mot_feed", "feed_every", ""), ("mot_folder", "look_at_folder", ""), ("mot_suffixes", "FileTypes::new", ""),
         ("mot_suffixes", "FileTypes::add", ""), ("mot_suffixes", "FileTypes::of_name", ""), ("mot_endpoints", "file_types", ""),
         ("mot_feed_lines", "answer_there", ""), ("mot_feed_lines", "Lines::new", ""), ("mot_feed_lines", "Lines::update", ""),
-        ("mot_air", "play", ""), ("mot_air", "sync", ""), ("mot_air", "export_file", ""),
+        ("mot_air", "play", ""), ("mot_air", "sync", ""), ("mot_air", "try_sync", ""), ("mot_air", "export_file", ""),
         ("mot_air", "inspect_file", ""), ("mot_air", "play_disk", ""),
         ("mot_air", "play_and_answer", ""), ("mot_air", "sync_disk", ""), ("mot_export", "export_disk", ""), ("mot_export", "inspect_disk", ""),
     ]),
@@ -63,7 +65,8 @@ PROMISES = [
     ("Files beside the disk", [
         ("mot_devices", "use_of", ""), ("mot_devices", "signature_of", ""),
         ("mot_files", "read_file", ""), ("mot_files", "is_file", ""), ("mot_files", "write_all", ""), ("mot_files", "hold", ""),
-        ("mot_files", "take_place", ""), ("mot_files", "replace", ""), ("mot_endpoints", "StatusFile::write", ""),
+        ("mot_files", "take_place", ""), ("mot_files", "replace", ""), ("mot_files", "make_last", ""),
+        ("mot_files", "sync_path", ""), ("mot_endpoints", "StatusFile::write", ""),
         ("mot_endpoints", "OpenPackets::take_place", ""), ("mot_endpoints", "OpenPackets::take_away", ""),
         ("mot_endpoints", "PacketWriter::write_once", ""), ("mot_endpoints", "Host::packets", ""),
         ("mot_line_folder", "Spool::read", ""), ("mot_line_folder", "Spool::finish", ""),
@@ -84,8 +87,10 @@ HANDED_VALUES = {"Acknowledged commands are stored": ["Server", "ServerView"], "
 
 # Public definitions that no public contract cites: by file and reason.
 CITED_BY_NONE = [
+    ("disk_store/Beginning", "first_state", "its own laws"),
     ("disk_store/FileSound", "now_is file_sound", "`mot_commands`, whose own disks are files"),
     ("mot_journal/Gaps", "IsBeside AreBeside standing_of", "private functions of `mot_repository`, and its proofs"),
+    ("mot_repository/Copy", "bytes_in_row", "private functions of `mot_copying`, and a law"),
     ("mot_feed/Sending", "SendsPacket", "private functions of `mot_feed`, and its proofs"),
     ("mot_events/Status", "label_byte", "private functions of `write_status`"),
     ("mot_events/Text", "line_of", "private functions of `EventLog`"),
@@ -95,7 +100,6 @@ CITED_BY_NONE = [
     ("mot_status/Measured", "IsMeasured", "private functions of `Reporter`"),
     ("mot_air/Telling", "EndsAs", "private functions of `mot_air::play`"),
     ("mot_cli/Asked", "AskBy", "proofs of `mot_server`"),
-    ("mot_update/HasRun", "commands_for", "a private function of `settle`"),
     ("mot_update/Looking", "unknown_names withdraw_all HasSettled", "private functions of `look`"),
 ]
 

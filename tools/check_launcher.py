@@ -15,7 +15,8 @@ import time
 
 ENDING = (signal.SIGTERM, signal.SIGHUP, signal.SIGINT)
 top = pathlib.Path(__file__).resolve().parent.parent
-ON_FILES = ("format", "serve", "check", "migrate", "play", "sync", "export", "inspect")
+ON_FILES = ("format", "copy", "serve", "check", "migrate", "play", "sync", "list", "put", "withdraw", "get", "export",
+            "inspect")
 STAND_IN = r"""#!/bin/sh
 # A stand-in for the toolchain: its proof takes PROOF seconds, or, where that is "held", until $ROOM/released is there;
 # its unproved run takes TRY seconds. It proves crates by name, and has a folder to keep proofs in, if CHAIN is set.

@@ -37,12 +37,12 @@ motcar play air.disk packets.pipe \-\-folder objects
 .RE
 .fi
 .PP
-A command on a disk that is not on air:
+A file on a disk that is not on air, and what the disk has then:
 .PP
 .nf
 .RS
-echo \(aqput hello.txt 1 0 text/plain 68656c6c6f\(aq |
-    motcar serve air.disk
+motcar put air.disk logo.png
+motcar list air.disk
 .RE
 .fi
 """,
@@ -156,7 +156,8 @@ def zsh():
         for name, value, help in it.words():
             parts.append(f"'{name}[{quoted(help)}]{f':{value}:{actions[value]}' if value else ''}'")
         for number, (name, _) in enumerate(it.arguments, 2):
-            parts.append(f"'{number}:{name.strip('<>')}:{'_files -/' if name == '<DIR>' else '_files'}'")
+            place, name = "*" if name.endswith("...") else number, name.strip("<>.")
+            parts.append(f"'{place}:{name}:{ {'DIR': '_files -/', 'NAME': ' '}.get(name, '_files')}'")
         text += f"        {it.name}) _arguments {' '.join([*parts, chr(39) + '--help[Print help]' + chr(39)])} ;;\n"
     text += f"        help) _values command {' '.join(it.name for it in all_commands)} ;;\n"
     return text + "    esac\n}\n_motcar \"$@\"\n"
