@@ -1,9 +1,9 @@
 #!/usr/bin/env python3
-"""The short campaigns of the gate: hostile disks, hostile lines and kills, side by side, within a minute on two cores.
+"""The short campaigns of the gate: hostile disks, hostile lines, kills, and two stations, side by side, within a minute on two cores.
 
     campaigns/short.py [PROGRAM] [--seed N]
 
-Their corpus comes first, in each of them.
+The corpus of each comes first.
 """
 import pathlib
 import subprocess
@@ -18,6 +18,7 @@ RUNS = (
     ("hostile.py", "--disks", "5000", "--lines", "0", "--jobs", "2"),
     ("hostile.py", "--disks", "0", "--lines", "100000"),
     ("kills.py", "--rounds", "150"),
+    ("stations.py",),
 )
 # The gate tries the same each time: a change that it refuses is at fault, and not the hour.
 SEED = 1

@@ -179,11 +179,9 @@ def moments(life, count, choices):
     return sorted(some + choices.choices(places, weights, k=count - len(some)))
 
 
-def judged(room, life, program, count, seed, notes, tears):
-    """The faults of so many images of a life; where a superblock is torn on purpose, it is its first copy."""
-    choices, faults, at = random.Random(7_919 * seed + 1), [], life.begin
-    folder = pathlib.Path(room, "cut")
-    folder.mkdir(exist_ok=True)
+def images(room, life, count, choices, tears=False):
+    """So many images of a life, each with its moment; where a superblock is torn on purpose, it is its first copy."""
+    at, first = life.begin, life.system.superblocks[:1]
     base = devices.Image(pathlib.Path(room, "base"), life.system.size)
     base.write((offset, data) for kind, offset, data in life.log[:at] if kind == "W")
     for moment in moments(life, count, choices):
@@ -192,15 +190,23 @@ def judged(room, life, program, count, seed, notes, tears):
         at = last
         image = base.copy(pathlib.Path(room, "image"))
         waiting = [(offset, data) for kind, offset, data in life.log[last:moment] if kind == "W"]
-        first = life.system.superblocks[:1]
         is_due = tears and any((offset,) == first for offset, _ in waiting)
         image.write(torn(choices, waiting, *first) if is_due else reached(choices, waiting))
         image.close()
+        yield image.path, moment
+    base.close()
+
+
+def judged(room, life, program, count, seed, notes, tears):
+    """The faults of so many images of a life."""
+    choices, faults = random.Random(7_919 * seed + 1), []
+    folder = pathlib.Path(room, "cut")
+    folder.mkdir(exist_ok=True)
+    for image, moment in images(room, life, count, choices, tears):
         notes["images"] += 1
-        wrong = wrong_in(life, program, image.path, folder, moment, choices, notes)
+        wrong = wrong_in(life, program, image, folder, moment, choices, notes)
         if wrong:
             faults.append(f"at {moment}: {wrong}")
-    base.close()
     return faults
 
 
@@ -213,16 +219,21 @@ def whole_superblocks(life, image, moment):
             yield any(kind == "W" and (at, data) == (place, kept) for kind, at, data in life.log[:moment])
 
 
+def wrong_unmounted(whole, notes):
+    """The file system can't be mounted, which is its own matter if the device tore all copies of its superblock."""
+    if not whole or any(whole):
+        return f"{judge.LOST}: the file system can't be mounted"
+    notes["no superblock whole"] += 1
+    return None
+
+
 def wrong_in(life, program, image, folder, moment, choices, notes):
     told = sum(it <= moment for it in life.told)
     given = told + (told < len(life.sent) and life.sent[told] <= moment)
     whole = list(whole_superblocks(life, image, moment))
     with judge.opened(life.system, image, folder, notes) as disk:
         if disk is None:
-            if whole and not any(whole):
-                notes["no superblock whole"] += 1
-                return None
-            return f"{judge.LOST}: the file system can't be mounted"
+            return wrong_unmounted(whole, notes)
         if moment < life.formatted:
             return wrong_before(program, disk, notes)
         if whole and not whole[0]:

@@ -3,13 +3,15 @@ import subprocess
 
 
 class Program:
-    """The built program; where `without` names a call of the system, that call does nothing and answers success."""
+    """The built program; where `without` names a call of the system, that call does nothing and answers success: each
+    time, or for the files of these paths."""
 
-    def __init__(self, path, without=None):
+    def __init__(self, path, without=None, paths=()):
         self.path, self.before = str(path), []
         if without:
             inject = f"inject={without}:retval=0"
             self.before = ["strace", "-f", "-o", "/dev/null", "-e", f"trace={without}", "-e", inject]
+            self.before += [word for it in paths for word in ("-P", str(it))]
 
     def run(self, *words, given=b"", before=()):
         return subprocess.run([*self.before, *before, self.path, *words], input=given, capture_output=True, timeout=60)

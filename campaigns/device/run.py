@@ -1,7 +1,7 @@
 #!/usr/bin/env python3
 """Cuts the power and fails the device below motcar on real file systems; README.md beside this file has it all.
 
-    campaigns/device/run.py [PROGRAM] [--seed N] [--systems ext4,xfs,btrfs] [--campaigns cuts,faults,full,holes] ..
+    campaigns/device/run.py [PROGRAM] [--seed N] [--systems ext4,xfs,btrfs] [--campaigns cuts,faults,full,folder] ..
 
 It needs root on Linux, /dev/fuse and loop devices. Exit status 1 if anything was lost or unclean, 2 if it can't be
 run here. The seed makes the commands and the images; when the file system writes, the system decides. Seeds that once
@@ -21,6 +21,7 @@ sys.path[:0] = [str(here), str(here.parent)]
 import campaign
 
 import faults
+import folder
 import full
 import holes
 import power_cuts
@@ -31,15 +32,16 @@ import systems
 def words():
     parser = campaign.words(__doc__)
     parser.add_argument("--systems", default="ext4,xfs,btrfs", help=", ".join(systems.SYSTEMS))
-    parser.add_argument("--campaigns", default="cuts,faults,full", help="cuts, faults, full, holes")
+    parser.add_argument("--campaigns", default="cuts,faults,full", help="cuts, faults, full, folder, holes")
     parser.add_argument("--lives", type=int, default=2, help="of power cuts, for each file system")
     parser.add_argument("--images", type=int, default=100, help="for each life")
-    parser.add_argument("--commands", type=int, default=40, help="of each life")
+    parser.add_argument("--commands", type=int, default=40, help="of each life; of folder: changes of files")
     parser.add_argument("--scenarios", default=",".join(faults.SCENARIOS))
     parser.add_argument("--kinds", default=",".join(faults.KINDS), help="how a call fails")
     parser.add_argument("--most", type=int, default=40, help="faults of each scenario and kind")
     parser.add_argument("--trials", type=int, default=2, help="of a full file system")
-    parser.add_argument("--without", help="a control: this call of the system does nothing (fdatasync, fadvise64)")
+    parser.add_argument("--without", help="a control: this call of the system does nothing (fdatasync, fadvise64); of "
+                        "folder: for the folder and its files (fsync)")
     parser.add_argument("--torn", action="store_true", help="of cuts: tear btrfs' first superblock, and nothing else")
     parser.add_argument("--show", action="store_true", help="a line for each fault")
     return parser
@@ -81,6 +83,9 @@ def one(what, room, system, given, program):
         show = (lambda text: print(f"  {text}", flush=True)) if given.show else (lambda text: None)
         which = given.scenarios.split(","), given.kinds.split(","), given.most
         return faults.campaign(room, system, program, *which, show)
+    if what == "folder":
+        sizes = given.lives, given.images, given.commands
+        return folder.campaign(room, system, given.program, given.without, given.seed, *sizes)
     return full.campaign(room, system, program, given.seed, given.trials)
 
 
@@ -89,8 +94,8 @@ def campaigns(room, given, program):
     rows = []
     for name in given.systems.split(","):
         system, row = systems.SYSTEMS[name], {"name": name, "bad": 0}
-        for what in ("cuts", "faults", "full"):
-            if what not in given.campaigns.split(",") or what == "full" and system.kind == "bare":
+        for what in ("cuts", "faults", "full", "folder"):
+            if what not in given.campaigns.split(",") or what in ("full", "folder") and system.kind == "bare":
                 continue
             begun = time.monotonic()
             found, notes = one(what, room, system, given, program)
@@ -106,12 +111,13 @@ def campaigns(room, given, program):
 
 def print_table(rows):
     heads = ("File system", "Images of power cuts", "Lost", "Unclean", "Single faults", "Lost", "Unclean",
-             "Refused until mounted again")
+             "Refused until mounted again", "Images with a folder", "Lost")
     print(f"\n| {' | '.join(heads)} |\n{'|---' * len(heads)}|")
     for row in rows:
         cuts, found = row.get("cuts", ({"images": "-"}, "-", "-")), row.get("faults", ({"faults": "-"}, "-", "-"))
+        beside = row.get("folder", ({"images": "-"}, "-"))
         cells = [row["name"], cuts[0]["images"], *cuts[1:3], found[0]["faults"], *found[1:3]]
-        cells.append(found[0].get("until mounted again", 0))
+        cells += [found[0].get("until mounted again", 0), beside[0]["images"], beside[1]]
         print("| " + " | ".join(str(it) for it in cells) + " |")
 
 
@@ -136,7 +142,7 @@ def main():
                 print(f"of the corpus: {row}", flush=True)
                 rows += campaigns(room, kept, program)
         rows += campaigns(room, given, program)
-        if any("cuts" in row or "faults" in row for row in rows):
+        if any({"cuts", "faults", "folder"} & set(row) for row in rows):
             print_table(rows)
         return 1 if any(row["bad"] for row in rows) else 0
 

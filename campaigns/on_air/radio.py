@@ -97,13 +97,13 @@ def heard_by_gr_dab(room, rate):
 
 def packets_in(bytes_, rate, address):
     """The packets at the address, of logical frames of a packet-mode sub-channel (3 bytes for each kbit/s, each of
-    whole packets), and how many were wrong since the first that was right: a receiver's first frames have only a part
+    whole packets), and those that were wrong since the first that was right: a receiver's first frames have only a part
     of their bits yet."""
-    packets, bad, length = [], 0, 3 * rate
+    packets, bad, length = [], [], 3 * rate
     for frame in (bytes_[at : at + length] for at in range(0, len(bytes_) - length + 1, length)):
         for packet in dab.packets_in(frame):
             if not is_right(packet):
-                bad += bool(packets)
+                bad += [packet] if packets else []
             elif (packet[0] & 3) << 8 | packet[1] == address:
                 packets.append(packet)
     return packets, bad

@@ -3,19 +3,20 @@
 time and writes an ETI file. On the way files change, and the program is killed, twice. Then the packets are read back
 out of the file and compared.
 
-    campaigns/on_air/run.py [PROGRAM] [--seed N] [--delays | --radio | --trial MINUTES]
+    campaigns/on_air/run.py [PROGRAM] [--seed N] [--delays [MINUTES] | --radio | --trial MINUTES]
 
-`odr-dabmux` has to be installed. It takes two and a half minutes, works in a temporary folder, and ends with status 1
-if a packet is bad, missing or out of turn, or an object is not that of its file. With strace it compares, too, each
-packet in the file with what the program wrote.
+`odr-dabmux` has to be installed, but for --delays. It takes two and a half minutes, works in a temporary folder, and
+ends with status 1 if a packet is bad, missing or out of turn, or an object is not that of its file. With strace it
+compares, too, each packet in the file with what the program wrote.
 
 With --radio the frames after the last change go on through ODR-DabMod to samples of a radio signal, and back through
-two radios that share no code, welle-cli and gr-dab; what each gathers is compared with the files, too. It says which
-of these programs are missing.
+two radios that share no code, welle-cli and gr-dab; what they gather is compared with the files, too. A fault counts if
+both radios have it: welle-cli plays in real time, and misses frames if the machine has other work. It says which of
+these programs are missing.
 
-With --delays it plays fifty logos of 20,000 bytes, which its disk has, for twelve and a half minutes. One changes
-every 30 seconds for ten minutes. It prints how long receivers wait: for the directory, from twenty random moments on;
-for a change, from the file to its first packet; and for each object, from one whole sending to the next.
+With --delays ten stations play for twelve minutes, or for so many, as `delays.py` has them: at 32 and at 8 kbit/s, with
+a long pipe and a short one, a new disk, an update of all files. A file of each changes every half minute. It prints
+how long receivers wait for a change, and after tuning in. Without ODR-DabMux readers take the packets as it does.
 
 With --trial three stations play for so many minutes (an hour says something) as `trial.py` has it: killed programs
 and multiplexers, and folders as they are met in service.
@@ -24,7 +25,6 @@ The seed makes the bodies of files and which of them change, not the moments of 
 """
 import os
 import pathlib
-import random
 import re
 import shutil
 import signal
@@ -38,15 +38,15 @@ sys.path[:0] = [str(here), str(here.parent)]
 
 import campaign
 
+import delays
 import radio
 import trial
-from received import FRAME, LENGTH, groups_of, is_right, jumps_in, objects_of, segments_in, sendings, timed_packets
-from tests import dab
+from received import FRAME, LENGTH, groups_of, is_right, jumps_in, objects_of, timed_packets
 
 examples = campaign.top / "examples"
 ADDRESS = 7
 SECONDS = 150
-DELAYS = 750
+DELAYS = 12
 # With --radio: the frames from here on have what changed last.
 SETTLED = 150
 RADIO = 60
@@ -56,9 +56,9 @@ RATE = 32
 class Station:
     """The disk, the folder and the pipe, and the program that plays."""
 
-    def __init__(self, room, program, traced):
+    def __init__(self, room, program):
         self.room, self.program, self.starts = room, program, 0
-        self.traced = traced and shutil.which("strace")
+        self.traced = shutil.which("strace")
         self.folder, self.pipe, self.disk = room / "objects", room / "packets.pipe", room / "air.disk"
         self.folder.mkdir()
         os.mkfifo(self.pipe)
@@ -139,71 +139,6 @@ def on_air(station, seconds):
     return contents
 
 
-def changing(station, dice):
-    """Plays fifty logos that the disk has, of which one changes every 30 seconds for ten minutes. Each change: its
-    name, and how many frames the file had then."""
-    for logo in range(50):
-        station.file(f"logo{logo:02}.png", dice.randbytes(20_000))
-    with open(station.room / "log", "wb") as log:
-        subprocess.run([station.program, "sync", station.disk, station.folder, "--at-once"], check=True, stdout=log)
-    station.start()
-    multiplexer = multiplexer_of(station, DELAYS)
-    begin, changes = time.monotonic(), []
-    for change in range(20):
-        time.sleep(max(0, begin + 60 + 30 * change - time.monotonic()))
-        name = f"logo{dice.randrange(50):02}.png"
-        station.file(name, dice.randbytes(20_000))
-        changes.append((name, (station.room / "on-air.eti").stat().st_size // LENGTH))
-    multiplexer.wait(timeout=DELAYS + 60)
-    station.kill()
-    return changes
-
-
-def worst(what, waits):
-    """Prints the mean and the worst of some waits in frames, and how many never ended."""
-    ended = [it * FRAME for it in waits if it is not None]
-    mean, most, never = sum(ended) / max(1, len(ended)), max(ended, default=0), len(waits) - len(ended)
-    print(f"{what}: mean {mean:.1f} s, worst {most:.1f} s, of {len(waits)}; never: {never}")
-
-
-def waits_for_changes(changes, log, segments):
-    """Of each change, from the file to its first packet."""
-    told = re.findall(r"^replace (\S+) done object (\d+) ", log, re.M)
-    begun = {}
-    for it, frame, _ in segments:
-        if it.kind == dab.BODY:
-            begun.setdefault(it.tid, frame)
-    for number, (name, frame) in enumerate(changes):
-        later = sum(it[0] == name for it in changes[: number + 1]) - 1
-        ids = [int(tid) for it, tid in told if it == name][later:]
-        yield begun[ids[0]] - frame if ids and ids[0] in begun else None
-
-
-def longest_gaps(log, segments, first, end):
-    """Of each object, the longest time between the ends of two whole sendings."""
-    names = {int(tid): name for name, tid in re.findall(r"^(?:put|replace) (\S+) done object (\d+) ", log, re.M)}
-    whole = {name: [first] for name in names.values()}
-    for tid, _, ended in sendings(segments, dab.BODY):
-        whole[names[tid]].append(ended)
-    return [max(b - a for a, b in zip(ends, [*ends[1:], end])) for ends in whole.values()]
-
-
-def delays(station, dice):
-    """How long receivers wait for the directory, for a change and for each object."""
-    changes = changing(station, dice)
-    packets = list(timed_packets((station.room / "on-air.eti").read_bytes(), ADDRESS))
-    segments, end = list(segments_in(packets)), packets[-1][0]
-    directories = [it[1:] for it in sendings(segments, dab.DIRECTORY)]
-    first = directories[0][1]
-    moments = [dice.randrange(first, end - round(60 / FRAME)) for _ in range(20)]
-    whole = [next((ended - moment for begun, ended in directories if begun >= moment), None) for moment in moments]
-    worst("from tuning in to a whole directory", whole)
-    log = (station.room / "log").read_text()
-    worst("from a changed file to its first packet", list(waits_for_changes(changes, log, segments)))
-    worst("from one whole sending of an object to the next", longest_gaps(log, segments, first, end))
-    print("log:", *log.splitlines()[-25:], sep="\n  ")
-
-
 def hear(station, expect):
     """What two radios receive of the frames after the last change, compared with the files."""
     missing = [it for it in radio.PROGRAMS if not shutil.which(it)]
@@ -217,13 +152,19 @@ def hear(station, expect):
         radios["gr-dab"] = lambda: radio.heard_by_gr_dab(station.room, RATE)
     else:
         print("gr-dab: not installed")
+    wrong = []
     for name, heard in radios.items():
         packets, bad = radio.packets_in(heard(), RATE, ADDRESS)
         objects = objects_of(packets)
-        print(f"{name}: {len(packets)} packets, {len(objects)} objects received whole")
-        expect(f"{name}: packets that are wrong", bad)
-        expect(f"{name}: objects that are no file's", sum(wanted.get(it) != body for it, body in objects))
-        expect(f"{name}: files that did not come", sum((it, body) not in objects for it, body in wanted.items()))
+        strange = {it for it in objects if wanted.get(it[0]) != it[1]}
+        never = {it for it in wanted.items() if it not in objects}
+        print(f"{name}: {len(packets)} packets, and {len(bad)} wrong ones; {len(objects)} objects received whole, "
+              f"{len(strange)} of them no file's; {len(never)} files did not come")
+        expect(f"{name}: hears nothing", not packets)
+        wrong.append((set(bad), strange, never))
+    whats = "packets that are wrong", "objects that are no file's", "files that did not come"
+    for what, found in zip(whats, zip(*wrong)):
+        expect(f"{what}, as each radio has it", len(set.intersection(*found)))
 
 
 def compare(station, seconds, by_radio, expect):
@@ -277,21 +218,23 @@ class Faults:
 def main():
     words, faults = campaign.words(__doc__), Faults()
     way = words.add_mutually_exclusive_group()
-    way.add_argument("--delays", action="store_true", help="how long receivers wait (12.5 minutes)")
+    way.add_argument("--delays", type=int, nargs="?", const=DELAYS, metavar="MINUTES",
+                     help=f"how long receivers wait ({DELAYS} minutes)")
     way.add_argument("--radio", action="store_true", help="on to a radio signal, and back (4 minutes)")
     way.add_argument("--trial", type=int, metavar="MINUTES", help="three stations in service (9 at least)")
     options = campaign.given(words)
-    if not shutil.which("odr-dabmux"):
+    if not options.delays and not shutil.which("odr-dabmux"):
         sys.exit("odr-dabmux is not installed")
     with tempfile.TemporaryDirectory() as name:
         room = pathlib.Path(name)
+        plain = (examples / "odr-dabmux.mux").read_text()
         if options.trial:
-            trial.trial(room, options, (examples / "odr-dabmux.mux").read_text(), faults.expect)
+            trial.trial(room, options, plain, faults.expect)
         elif options.delays:
-            delays(Station(room, options.program, False), random.Random(options.seed))
+            delays.delays(room, options, plain, faults.expect)
         else:
             seconds = SECONDS + RADIO * options.radio
-            compare(Station(room, options.program, True), seconds, options.radio, faults.expect)
+            compare(Station(room, options.program), seconds, options.radio, faults.expect)
     return 1 if faults.found else 0
 
 

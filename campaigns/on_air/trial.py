@@ -111,7 +111,7 @@ class Multiplexer:
         return head + "\n".join(self.of(station, body) for station in self.stations) + tail
 
     def of(self, station, text):
-        for old, new in (("logos", station.name), ("0xe1400001", f"0xe140000{station.number + 1}"),
+        for old, new in (("logos", station.name), ("0xe1400001", f"0xe140000{station.number + 1:x}"),
                          ("id 1\n", f"id {station.number + 1}\n"), ("type packet", f"type {station.type}"),
                          ("bitrate 32 ", f"bitrate {station.rate} "), ("packets.pipe", f"{station.name}/packets.pipe"),
                          ("address 7 ", f"address {station.address} ")):
