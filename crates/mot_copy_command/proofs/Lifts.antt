@@ -1,5 +1,5 @@
 -- What is known of an open repository is told of the disk that it was opened of.
-use Rattle.std.proofs.Common.{◌≡◌, ◌++◌, ◌∷◌, [], ℕ, Bool, true, List, Option, None, Some, inl, inr, refl}
+use Rattle.std.proofs.Common.{◌≡◌, ◌++◌, ◌∷◌, [], ℕ, Bool, false, true, List, Option, None, Some, inl, inr, refl}
 use Rattle.std.proofs.Common.{subst}
 use Rattle.std.specs.Prelude.{IfSome, IsSome, codes}
 use Rattle.clap.specs.Words.{Text}
@@ -154,12 +154,22 @@ module _ {S : Type 0} {origin : Ghosts S} {T : Type 0} {other : Ghosts T} (view 
   comes_removed path (Some second) some same refusal begun before after is =
       inr (refusal, second_begun true second same.0 same.1 same.2 begun, is)
 
--- one that was not removed
-pub comes_kept : {S : Type 0} {origin : Ghosts S} (ending : Option Refusal) (path : Text)
-    (second : Option (SecondDisk S origin)) → IsSome second → (before after : List (Text × Text))
-    → after ≡ before ++ (codes "disk", path) ∷ [] → ComesToCopy ending path second before after
-comes_kept ending path None some before after is = absurd (cc)
-comes_kept ending path (Some second) some before after is = inl is
+  -- one that was there stays
+  pub comes_kept : (path : Text) (second : Option (SecondDisk S origin)) → IsSome second
+      → IfSome second (λ s. (s.file ≡ disk.file) × (s.failures ≡ disk.failures)
+      × (s.calls ≡ disk.calls)) → HasFirstCalls false disk → (before after : List (Text × Text))
+      → after ≡ before ++ (codes "disk", path) ∷ [] → ComesToCopy ending path second before after
+  comes_kept path None some same begun before after is = absurd (cc)
+  comes_kept path (Some second) some same begun before after is =
+      inl (is, inl (second_begun false second same.0 same.1 same.2 begun))
+
+-- one that was copied to
+pub comes_copied : {S : Type 0} {origin : Ghosts S} (ending : Option Refusal) (path : Text)
+    (second : Option (SecondDisk S origin)) → IsSome second → (IsRefused ending → ⊥)
+    → (before after : List (Text × Text)) → after ≡ before ++ (codes "disk", path) ∷ []
+    → ComesToCopy ending path second before after
+comes_copied ending path None some copied before after is = absurd (cc)
+comes_copied ending path (Some second) some copied before after is = inl (is, inr copied)
 
 -- what the system was asked for it
 pub looks_at : {S : Type 0} {origin : Ghosts S} (path : Text) (second : Option (SecondDisk S origin))

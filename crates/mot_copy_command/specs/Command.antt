@@ -1,5 +1,5 @@
 -- What the command `copy` does.
-use Rattle.std.specs.Prelude.{◌≡◌, ◌≢◌, ◌⊎◌, ℕ, true, List, [], ◌∷◌, ◌++◌, Option, Some, None, codes}
+use Rattle.std.specs.Prelude.{◌≡◌, ◌≢◌, ◌⊎◌, ℕ, true, List, [], ◌∷◌, ◌++◌, Option, Some, None, codes, false}
 use Rattle.std.specs.Io.KnownBytes.{Keeps}
 use Rattle.clap.specs.Words.{Text}
 use Rattle.disk_model.specs.Disk.{OnlySyncs, State}
@@ -54,13 +54,14 @@ module _ {S : Type 0} {start : Ghosts S} where
       ⊎ SinceSecondMade (length_of g) (Copies (λ P. OfStanding P start now) start.failures now.failures g
       ids ending old new) disk))
 
-  -- The file of the copy was come to by this path. One that was made, and to which nothing was
-  -- copied, is removed.
+  -- The file of the copy was come to by this path. It is removed if it was made, and the copying was
+  -- refused; else it stays.
   abbrev pub ComesToCopy : Option Refusal → Text → Option (SecondDisk S start)
       → (before after : List (Text × Text)) → Type 0
   ComesToCopy ending path None before after = after ≡ before
   ComesToCopy ending path (Some disk) before after =
-      (after ≡ before ++ (codes "disk", path) ∷ [])
+      ((after ≡ before ++ (codes "disk", path) ∷ [])
+      × (HasSecondCalls false disk ⊎ (IsRefused ending → ⊥)))
       ⊎ (IsRefused ending × HasSecondCalls true disk
       × (after ≡ before ++ (codes "disk", path) ∷ (codes "removed", path) ∷ []))
 

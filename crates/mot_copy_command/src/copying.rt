@@ -1,6 +1,6 @@
 //! What `copy` does.
 ghost use Rattle.mot_playout.specs.Attempts.{fault_of};
-ghost use Rattle.std.specs.Prelude.{◌≡◌, IfNone, IfSome, IsSome, None, Some, true};
+ghost use Rattle.std.specs.Prelude.{◌≡◌, IfNone, IfSome, IsSome, None, Some, false, true};
 ghost use Rattle.disk_model.specs.Disk.{OnlyReads};
 ghost use Rattle.disk_store.specs.File.{file_state};
 ghost use Rattle.mot_cli.specs.Options.{geometry_over};
@@ -237,7 +237,8 @@ fn copy_to_new<S: Start, W: Write>(
 
 /// Whether copying was refused, and not only the telling of it.
 fn is_refused(made: &Result<(), Refusal>) -> bool
-    ensures { result ≡ true → IsRefused (fault_of made.now) }
+    ensures refused { result ≡ true → IsRefused (fault_of made.now) }
+    ensures copied { result ≡ false → IsRefused (fault_of made.now) → ⊥ }
 {
     match made {
         Err(refusal) => *refusal != Refusal::WriteFault,

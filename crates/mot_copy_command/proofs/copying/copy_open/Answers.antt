@@ -1,11 +1,14 @@
 use Rattle.mot_playout.specs.Attempts.{fault_of}
-use Rattle.std.proofs.Common.{refl, subst, sym}
+use Rattle.std.proofs.Common.{◌≡◌, ◌∙◌, ◌++◌, ◌∷◌, [], ap, refl, subst, sym}
+use Rattle.std.specs.Prelude.{codes}
 use Rattle.disk_model.specs.Disk.{OnlyReads}
 use Rattle.disk_store.proofs.Laws.{since_opened}
 use Rattle.disk_store.specs.File.{file_state}
+use Rattle.mot_copy_command.specs.Command.{ComesToCopy}
 use Rattle.mot_copy_command.specs.Inner.{CopiesView}
-use Rattle.mot_copy_command.proofs.Lifts.{Known, opened_view}
+use Rattle.mot_copy_command.proofs.Lifts.{Known, comes_kept, opened_view}
 use Rattle.mot_copy_command.proofs.copying.copy_open.Goals as goal
+use Rattle.mot_copy_command.proofs.copying.copy_open.Goals.{then-is_refused, else-is_refused}
 
 pub returns-after-is_refused-clause-reads : goal.returns-after-is_refused-clause-reads
 returns-after-is_refused-clause-reads g c =
@@ -34,3 +37,32 @@ returns-after-is_refused-clause-ended g c =
     (sym c.end_of.ensures.made)
     (opened_view view geometry ids ending old new mid now last.disk refl end.to
     c.end_of.ensures.some c.end_of.ensures.to since))
+
+pub returns-after-is_refused-clause-files : goal.returns-after-is_refused-clause-files
+returns-after-is_refused-clause-files g c =
+    let view = c.args.repository.view in
+    let geometry = c.args.geometry.now in
+    let ids = c.args.task.now.after in
+    let old = g.W.Write.contents c.args.writer.now in
+    let new = g.W.Write.contents c.tell_copy-made.new.writer in
+    let mid = file_state c.args.repository.disk.disk in
+    let now = file_state c.tell_copy-made.new.repository.disk.disk in
+    let last = c.tell_copy-made.new.to in
+    let ending = fault_of c.tell_copy-made.result in
+    let copies = c.tell_copy-made.ensures.copies in
+    let since = since_opened c.in-Ok.to.disk last.disk
+    (Known view geometry ids ending old new mid now) c.in-Ok.ensures.first last.begins copies.keeps
+    copies in
+    let end = c.end_of.result in
+    let path = c.args.task.now.new.now in
+    let before = c.args.host.now.paths.all in
+    let come : c.if-is_refused.host.paths.all ≡ before ++ (codes "disk", path) ∷ [] =
+    elim c.if-is_refused.branch [
+      | then-is_refused w ↦ ap (λ (h : _). h.paths.all) w.host-is ∙ w.clear_side.ensures
+          ∙ c.in-Ok.ensures.paths
+      | else-is_refused w ↦ ap (λ (h : _). h.paths.all) w.host-is ∙ c.in-Ok.ensures.paths
+    ] in
+    subst (λ (r : _). ComesToCopy (fault_of r) path end.to before c.if-is_refused.host.paths.all)
+    (sym c.end_of.ensures.made)
+    (comes_kept view geometry ids ending old new mid now last.disk refl path end.to
+    c.end_of.ensures.some c.end_of.ensures.to since.begun before _ come)

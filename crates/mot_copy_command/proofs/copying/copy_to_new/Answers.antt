@@ -6,7 +6,7 @@ use Rattle.disk_store.proofs.Laws.{since_made}
 use Rattle.disk_store.specs.File.{file_state}
 use Rattle.mot_copy_command.specs.Command.{ComesToCopy}
 use Rattle.mot_copy_command.specs.Inner.{CopiesView}
-use Rattle.mot_copy_command.proofs.Lifts.{Known, comes_kept, comes_removed, made_view}
+use Rattle.mot_copy_command.proofs.Lifts.{Known, comes_copied, comes_removed, made_view}
 use Rattle.mot_copy_command.proofs.copying.copy_to_new.Goals as goal
 use Rattle.mot_copy_command.proofs.copying.copy_to_new.Goals.{then-is_refused, else-is_refused}
 use Rattle.mot_numbers.specs.Geometry.{length_of}
@@ -62,10 +62,11 @@ returns-clause-files g c =
       | then-is_refused w ↦
           let removed : List (List ℕ × List ℕ) = (codes "removed", path) ∷ [] in
           comes_removed view geometry ids ending old new mid now last.disk refl path end.to
-          c.end_of.ensures.some c.end_of.ensures.to (c.is_refused.ensures w.if-is_refused.true)
+          c.end_of.ensures.some c.end_of.ensures.to (c.is_refused.ensures.refused w.if-is_refused.true)
           since.begun before _
           (ap (λ (h : _). h.paths.all) w.host-is ∙ w.take_away.ensures
           ∙ ap (λ l. l ++ removed) c.in-Ok.ensures.paths ∙ append_assoc before _ removed)
-      | else-is_refused w ↦ comes_kept ending path end.to c.end_of.ensures.some before _
+      | else-is_refused w ↦ comes_copied ending path end.to c.end_of.ensures.some
+          (c.is_refused.ensures.copied w.if-is_refused.false) before _
           (ap (λ (h : _). h.paths.all) w.host-is ∙ c.in-Ok.ensures.paths)
     ])
