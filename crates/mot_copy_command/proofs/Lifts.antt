@@ -72,6 +72,7 @@ module _ (start mid now : State) (view : RepositoryView) (opens : OnlySyncs star
       copies_lift first last copies = record {
         keeps = copies.keeps;
         over_a_disk = copies.over_a_disk;
+        behind = copies.behind;
         any_moment = λ honest none. of_standing _ (copies.any_moment honest none);
         told = told_lift first last copies.told;
       }

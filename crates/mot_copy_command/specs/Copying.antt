@@ -2,7 +2,7 @@
 use Rattle.std.specs.Prelude.{◌≡◌, ℕ, List, Option, Some, codes, true, false}
 use Rattle.std.specs.Io.KnownBytes.{Keeps}
 use Rattle.disk_model.specs.Disk.{IsStill, KeepsLength, State, Throughout}
-use Rattle.mot_copying.specs.Copied.{IsCopyOf, IsNotCopied, NoneOrCopyOf}
+use Rattle.mot_copying.specs.Copied.{HasRestOf, IsCopyOf, IsNotCopied, NoneOrCopyOf}
 use Rattle.mot_copying.specs.declared.copying.NotCopied.{NotCopied}
 use Rattle.mot_copying.specs.declared.copying.NotCopied.TheVariants.{Refused, Unreadable}
 use Rattle.mot_journal.specs.Geometry.{has_magic}
@@ -45,6 +45,8 @@ pub record Copies (Of : (Standing → Type 0) → Type 0) (before after : ℕ) (
   pub keeps : KeepsLength start now
   -- a disk that has the magic is synced at most
   pub over_a_disk : now.IsHonest → has_magic start.bytes ≡ true → IsStill start now
+  -- the bytes behind the copy stay, at any moment
+  pub behind : now.IsHonest → Throughout start now (HasRestOf g start)
   -- a crash at any moment leaves no magic, or the copy
   pub any_moment : now.IsHonest
       → ((image : List ℕ) → start.MayLeave image → has_magic image ≡ false)

@@ -12,6 +12,7 @@ returns-in-Ok-clause-copies g c =
     record {
       keeps = done.makes.keeps;
       over_a_disk = done.makes.already;
+      behind = done.makes.rest;
       any_moment = λ honest none s has read. done.any_moment s has read honest none;
       told = made (λ honest s has read. done.ok s has read honest)
           (subst (λ n. Prints (fault_of c.write_number.result) (number_line (codes "copied ") n)
@@ -25,6 +26,7 @@ returns-in-Err-clause-copies g c =
     record {
       keeps = done.makes.keeps;
       over_a_disk = done.makes.already;
+      behind = done.makes.rest;
       any_moment = λ honest none s has read. done.any_moment s has read honest none;
       told = refused c.in-Err.why (ap Some c.refusal_of.ensures) c.args.repository.now.view (λ s has read. has.agrees)
           done.makes.refused (Keeps-refl _);
