@@ -147,12 +147,7 @@ def recorded(room, system, path, without, seed, count):
             other.start()
         while sum(map(len, operator.changes.values())) < count:
             look_once(life, device, program, operator, choices)
-        life.end = device.position()
-        if other:
-            other.goes_on = False
-            other.join()
-        device.unmount()
-        log = device.log
+        log = power_cuts.end_of(life, device, other)
     life.log = devices.read_log(log)
     return life
 

@@ -90,14 +90,19 @@ def recorded(room, system, program, seed, commands):
         given = motcar.Commands(choices, objects)
         while len(life.told) < commands:
             serve_some(life, device, program, given, choices, commands)
-        life.end = device.position()
-        if other:
-            other.goes_on = False
-            other.join()
-        device.unmount()
-        log = device.log
+        log = end_of(life, device, other)
     life.log = devices.read_log(log)
     return life
+
+
+def end_of(life, device, other):
+    """Ends what was recorded of a life: the other work beside it stops first. The log of the device."""
+    life.end = device.position()
+    if other:
+        other.goes_on = False
+        other.join()
+    device.unmount()
+    return device.log
 
 
 def serve_some(life, device, program, given, choices, commands):
