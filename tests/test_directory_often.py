@@ -212,7 +212,7 @@ class Changes(AirCase):
         self.expect("and the turn goes on", fresh + turn[len(before):][:50], after[:53])
 
     def test_looks_within_turns(self):
-        self.comes_within(700)
+        self.comes_within(100)
 
     def test_looks_as_often_as_asked(self):
         self.comes_within(500, "--look", "500")

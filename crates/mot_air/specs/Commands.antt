@@ -36,11 +36,11 @@ abbrev pub played_as : PlayTask → Manner
 played_as p = manner (directory_of p.turns p.directory) (look_of p.turns p.look)
     (unwrap_or p.turns 18446744073709551615)
 
--- the folder that is asked for, by this table of suffixes: 700 packets come between two looks,
+-- the folder that is asked for, by this table of suffixes: 100 packets come between two looks,
 -- where no other number is asked for
 abbrev pub watch_asked : List SuffixType → PlayTask → Option Watch
 watch_asked table p = watched p.folder
-    (λ path. watch_in (played_as p) path.now table p.rules.allow_empty (unwrap_or p.look 700))
+    (λ path. watch_in (played_as p) path.now table p.rules.allow_empty (unwrap_or p.look 100))
 
 -- what is told of playing it: no line has begun, and lines are read at every eighth packet, where
 -- no other number is asked for

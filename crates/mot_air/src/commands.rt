@@ -71,8 +71,8 @@ pub fn play<'a, B: Start, W: Write, E: Write>(
 }
 
 /// How many packets come between two looks, if no other number is asked for and looks come within
-/// turns. So many of 96 bytes take 17 seconds at 32 kbit/s.
-const LOOK_PACKETS: u32 = 700;
+/// turns. So many of 96 bytes take 2.4 seconds at 32 kbit/s.
+const LOOK_PACKETS: u32 = 100;
 
 /// The folder, if one is given, with what is known of suffixes.
 fn followed<'a, 't>(

@@ -256,7 +256,7 @@ const LOOK: Argument = Argument {
     name: "look",
     kind: Kind::Number,
     help: "Look at the folder after so many packets of a turn, too; 0: between turns \
-        [default: 700 without end, else 0]",
+        [default: 100 without end, else 0]",
 };
 
 const STATUS: Argument = Argument {

@@ -42,7 +42,7 @@ pub struct PlayTask<'a> {
     /// number is given: 340 without end, and else 0.
     pub directory: Option<u32>,
     /// After how many packets of a turn the folder is looked at; 0: between turns alone. If no
-    /// number is given: 700 without end, and else 0.
+    /// number is given: 100 without end, and else 0.
     pub look: Option<u32>,
     /// The path of the file that the status is written to, if one is given.
     pub status: Option<&'a str>,
