@@ -1,9 +1,10 @@
 """A folder and the disk that it is played from: after a power cut the folder is not older than the disk.
 
 A life: a new file system, a disk and a folder on it, in every second life other work beside them. Again and again an
-operator changes files and syncs nothing; then `sync` or `play` looks at the folder, at times while the operator goes
-on. In an image of a power cut each file has to be as the disk has it or as the operator made it later, and the next
-`sync` withdraws no object whose file the operator left there.
+operator changes files; then `sync` or `play` looks at the folder, at times while the operator goes on. He syncs each
+new file before he renames it into the folder, or, with `--unsynced`, syncs nothing. In an image of a power cut each
+file has to be as the disk has it or as the operator made it later, and the next `sync` withdraws no object whose file
+the operator left there.
 """
 import collections
 import dataclasses
@@ -25,7 +26,7 @@ GEOMETRY = ["--objects", "12", "--data", "900000"]
 SIZES = [16, 100, 2_000, 4_096, 4_097, 20_000, 60_000]
 # ways that leave a whole file at every moment; the others are for times at which no look runs
 AT_ONCE = ["renamed", "renamed beside", "linked", "moved", "removed"]
-WAYS = [*AT_ONCE, "written", "written", "written over"]
+IN_PLACE = ["written", "written", "written over"]
 
 
 @dataclasses.dataclass(frozen=True)
@@ -42,11 +43,12 @@ class Life(power_cuts.Life):
 
 
 class Operator:
-    """Changes files of the folder, and syncs none of these changes. One file was there before, and stays, since a look
-    at an empty folder withdraws nothing."""
+    """Changes files of the folder, and syncs a new one before its renaming, or with `unsynced` none. One file was there
+    before, and stays, since a look at an empty folder withdraws nothing."""
 
-    def __init__(self, device, choices):
-        self.device, self.choices = device, choices
+    def __init__(self, device, choices, unsynced):
+        self.device, self.choices, self.unsynced = device, choices, unsynced
+        self.ways = [*AT_ONCE, *(IN_PLACE if unsynced else [])]
         self.folder, self.aside = folder_of(device.disk()), device.mounted_at / "aside"
         self.changes = {name: [] for name in (*NAMES, OLD)}
         for it in (self.folder, self.aside):
@@ -89,19 +91,23 @@ class Operator:
         os.close(file)
 
     def renamed(self, name, body):
-        (self.aside / name).write_bytes(body)
+        self.new_file(self.aside / name, body, not self.unsynced)
         os.rename(self.aside / name, self.folder / name)
 
     def renamed_beside(self, name, body):
-        (self.folder / f".{name}").write_bytes(body)
+        self.new_file(self.folder / f".{name}", body, not self.unsynced)
         os.rename(self.folder / f".{name}", self.folder / name)
+
+    def new_file(self, path, body, is_synced):
+        with open(path, "wb") as file:
+            file.write(body)
+            file.flush()
+            if is_synced:
+                os.fsync(file.fileno())
 
     def linked(self, name, body):
         """A file whose bytes were synced long ago; only its name is new."""
-        with open(self.aside / name, "wb") as file:
-            file.write(body)
-            file.flush()
-            os.fsync(file.fileno())
+        self.new_file(self.aside / name, body, True)
         os.link(self.aside / name, self.folder / f".{name}")
         os.unlink(self.aside / name)
         os.rename(self.folder / f".{name}", self.folder / name)
@@ -131,11 +137,11 @@ def done_of(lines, which=(b"put", b"replace", b"withdraw")):
             yield words[1].decode()
 
 
-def recorded(room, system, path, without, seed, count):
+def recorded(room, system, path, without, seed, count, unsynced):
     choices = random.Random(seed)
     life = Life(system, ())
     with devices.Device(room, system) as device:
-        operator = Operator(device, choices)
+        operator = Operator(device, choices, unsynced)
         folder = operator.folder
         program = motcar.Program(path, without, [folder, *(folder / name for name in operator.changes)])
         motcar.Program(path).run("format", device.disk(), *GEOMETRY).check_returncode()
@@ -155,7 +161,7 @@ def recorded(room, system, path, without, seed, count):
 def look_once(life, device, program, operator, choices):
     """Some changes, and then a look; in a third of the looks the operator goes on meanwhile."""
     for _ in range(choices.randint(1, 5)):
-        operator.change(WAYS)
+        operator.change(operator.ways)
     if choices.random() < 0.2:
         time.sleep(choices.random() * 0.4)  # (the file system has timers of its own)
     before = {name: len(it) for name, it in operator.changes.items()}
@@ -225,13 +231,13 @@ def what_is_wrong(changes, least, body, file, moment, notes):
     return f"({changes[held - 1].how if held else 'not there'}) {how}"
 
 
-def campaign(room, system, path, without, seed, lives, images, changes):
+def campaign(room, system, path, without, seed, lives, images, changes, unsynced):
     """The faults, and notes of what was seen."""
     notes, faults = collections.Counter(), []
     program, mounted_at = motcar.Program(path), pathlib.Path(room, "cut")
     mounted_at.mkdir(exist_ok=True)
     for number in range(seed, seed + lives):
-        life = recorded(room, system, path, without, number, changes)
+        life = recorded(room, system, path, without, number, changes, unsynced)
         notes["changes"] += sum(map(len, life.changes.values()))
         notes["acknowledged"] += len(life.told)
         for image, moment in power_cuts.images(room, life, images, random.Random(7_919 * number + 1)):

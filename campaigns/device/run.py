@@ -26,13 +26,14 @@ import full
 import holes
 import power_cuts
 import program as motcar
+import renames
 import systems
 
 
 def words():
     parser = campaign.words(__doc__)
     parser.add_argument("--systems", default="ext4,xfs,btrfs", help=", ".join(systems.SYSTEMS))
-    parser.add_argument("--campaigns", default="cuts,faults,full", help="cuts, faults, full, folder, holes")
+    parser.add_argument("--campaigns", default="cuts,faults,full", help="cuts, faults, full, folder, holes, renames")
     parser.add_argument("--lives", type=int, default=2, help="of power cuts, for each file system")
     parser.add_argument("--images", type=int, default=100, help="for each life")
     parser.add_argument("--commands", type=int, default=40, help="of each life; of folder: changes of files")
@@ -42,6 +43,7 @@ def words():
     parser.add_argument("--trials", type=int, default=2, help="of a full file system")
     parser.add_argument("--without", help="a control: this call of the system does nothing (fdatasync, fadvise64); of "
                         "folder: for the folder and its files (fsync)")
+    parser.add_argument("--unsynced", action="store_true", help="of folder: no file is synced before its renaming")
     parser.add_argument("--torn", action="store_true", help="of cuts: tear btrfs' first superblock, and nothing else")
     parser.add_argument("--show", action="store_true", help="a line for each fault")
     return parser
@@ -85,7 +87,7 @@ def one(what, room, system, given, program):
         return faults.campaign(room, system, program, *which, show)
     if what == "folder":
         sizes = given.lives, given.images, given.commands
-        return folder.campaign(room, system, given.program, given.without, given.seed, *sizes)
+        return folder.campaign(room, system, given.program, given.without, given.seed, *sizes, given.unsynced)
     return full.campaign(room, system, program, given.seed, given.trials)
 
 
@@ -103,7 +105,7 @@ def campaigns(room, given, program):
             row[what] = (notes, *numbers)
             row["bad"] += sum(numbers)
             if sum(numbers) and not given.without:
-                sizes = f"--lives {given.lives} --images {given.images}"
+                sizes = f"--lives {given.lives} --images {given.images}{' --unsynced' if given.unsynced else ''}"
                 campaign.keep("device", f"--systems {name} --campaigns {what} --seed {given.seed} {sizes}")
         rows.append(row)
     return rows
@@ -131,10 +133,11 @@ def main():
     with tempfile.TemporaryDirectory(prefix="motcar-device-", dir=in_memory) as room:
         build(room)
         program = motcar.Program(given.program, given.without)
-        if "holes" in given.campaigns.split(","):
-            mounted = [it for it in given.systems.split(",") if systems.SYSTEMS[it].kind != "bare"]
-            for line in holes.campaign(room, mounted):
-                print(line, flush=True)
+        mounted = [it for it in given.systems.split(",") if systems.SYSTEMS[it].kind != "bare"]
+        for what in (holes, renames):
+            if what.__name__ in given.campaigns.split(","):
+                for line in what.campaign(room, mounted):
+                    print(line, flush=True)
         rows = []
         for row in [] if given.without else campaign.corpus("device"):
             kept = parser.parse_args([given.program, *row.split()])
