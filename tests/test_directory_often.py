@@ -31,7 +31,7 @@ class Often(AirCase):
         self.sync(disk, self.folder({f"{it}.txt": bytes([it]) * 20_000 for it in range(12)}))
         return disk
 
-    def expect_often(self, row, before, packets, every, ended=True):
+    def expect_often(self, row, before, packets, every, ended=True, turn=0):
         """Packets with the directory often: but for whole directories, each between two groups, they read as before."""
         old, new = dab.groups_of(before), dab.groups_of(packets)
         first_body = [it.bytes[0] & 15 for it in old].index(dab.BODY)
@@ -45,6 +45,8 @@ class Often(AirCase):
         waits = [later - earlier for earlier, later in zip(begins, begins[1:] + [len(packets)])]
         self.expect(f"{row}: the directory begins after {most} packets at most", (0, []),
                     (begins[0], [it for it in waits if it > most]))
+        if turn > every:
+            self.expect(f"{row}: and a whole pause goes by", True, max(waits) > every)
         is_tenth = 10 * own * (len(begins) - 3) < len(packets)
         self.expect(f"{row}: and takes a tenth of the packets at most", True, is_tenth)
         self.expect(f"{row}: but comes often", True, len(begins) > 8)
@@ -75,7 +77,7 @@ class Often(AirCase):
             said = player.stderr.read()
         self.expect("without end, until nobody reads", refused(23, "WriteFault", "standard output: Broken pipe"),
                     (player.returncode, b"", plain(said)))
-        self.expect_often("without end", before * 8, whole_packets(stream), every, ended=False)
+        self.expect_often("without end", before * 8, whole_packets(stream), every, ended=False, turn=len(before) // 2)
 
     def test_two_turns_of_few(self):
         self.of_two_turns("96")
@@ -89,6 +91,15 @@ class Often(AirCase):
     def test_without_end_of_many(self):
         self.without_end("24", 340)
 
+    def test_each_340_frames_of_few(self):
+        self.without_end("96", 680, "--rate", "64")
+
+    def test_each_340_frames_of_many(self):
+        self.without_end("24", 680, "--rate", "16")
+
+    def test_as_often_as_asked_at_any_rate(self):
+        self.without_end("96", 400, "--rate", "64", "--directory", "400")
+
     def test_another_number_of_few(self):
         self.without_end("96", 700, "--directory", "700")
 
@@ -97,7 +108,9 @@ class Often(AirCase):
 
 
 for test in (Often.test_two_turns_of_few, Often.test_two_turns_of_many, Often.test_without_end_of_few,
-             Often.test_without_end_of_many, Often.test_another_number_of_few, Often.test_another_number_of_many):
+             Often.test_without_end_of_many, Often.test_another_number_of_few, Often.test_another_number_of_many,
+             Often.test_each_340_frames_of_few, Often.test_each_340_frames_of_many,
+             Often.test_as_often_as_asked_at_any_rate):
     test.takes_long = True
 
 
@@ -144,7 +157,7 @@ class Changes(AirCase):
     """What a change made is sent next, and then the turn goes on with its next segment; or a change begins a turn."""
 
     def playing(self, *more):
-        """A disk of six objects that is played, and 300 packets were heard."""
+        """A disk of six objects that is played, and 300 packets were heard; the pipe holds fewer than 50 more."""
         self.place = self.disk()
         self.objects_of = self.folder({f"{it}.txt": bytes([it]) * 20_000 for it in range(6)})
         self.sync(self.place, self.objects_of)
@@ -212,7 +225,16 @@ class Changes(AirCase):
         self.expect("and the turn goes on", fresh + turn[len(before):][:50], after[:53])
 
     def test_looks_within_turns(self):
-        self.comes_within(100)
+        self.comes_within(400)
+
+    def test_looks_each_hundred_frames(self):
+        self.comes_within(600, "--rate", "96")
+
+    def test_looks_if_no_frame_holds_a_packet(self):
+        self.comes_within(400, "--rate", "8")
+
+    def test_looks_as_often_as_asked_at_any_rate(self):
+        self.comes_within(500, "--rate", "96", "--look", "500")
 
     def test_looks_as_often_as_asked(self):
         self.comes_within(500, "--look", "500")

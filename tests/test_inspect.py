@@ -75,7 +75,8 @@ class Inspect(AirCase):
             self.expect(f"at {rate} kbit/s", (0, wanted, b""), (status, printed.decode().splitlines(), said))
         for rate in ("0", "7", "12", "1832", "4294967295"):
             wanted = refused(8, "BadNumber", f"--rate {rate}: a multiple of 8, 8 to 1824")
-            self.expect(f"no sub-channel has {rate} kbit/s", wanted, self.motcar("inspect", self.place, "--rate", rate))
+            for words in (["inspect", self.place], ["play", self.place, "-"]):
+                self.expect(f"no sub-channel has {rate} kbit/s", wanted, self.motcar(*words, "--rate", rate))
 
     def test_short_packets(self):
         small = self.new_disk("small", "--objects", "40", "--data", "600000", "--packet", "24", "--segment", "64")

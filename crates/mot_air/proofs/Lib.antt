@@ -1,4 +1,5 @@
 pub mod Begun
+pub mod Behind
 pub mod Endings
 pub mod Kept
 pub mod Opened

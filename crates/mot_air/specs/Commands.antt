@@ -7,7 +7,7 @@ use Rattle.clap.specs.Words.{Text}
 use Rattle.disk_model.specs.Disk.{State}
 use Rattle.disk_store.specs.Beginning.{SinceOpened}
 use Rattle.disk_store.specs.declared.file.start.Start.{Ghosts}
-use Rattle.mot_air.specs.Directory.{directory_of, look_of}
+use Rattle.mot_air.specs.Directory.{IsFrame, directory_of, look_of}
 use Rattle.mot_air.specs.Playing.{Manner, Plays, Tale, manner}
 use Rattle.mot_air.specs.Syncing.{Syncs}
 use Rattle.mot_air.specs.Telling.{tale_with, watch_in, watched}
@@ -30,23 +30,24 @@ use Rattle.mot_suffixes.specs.Types.{SuffixType}
 use Rattle.mot_cli.specs.declared.playing.LookRules.{LookRules}
 use Rattle.mot_cli.specs.declared.playing.PlayTask.{PlayTask}
 
+-- In these a frame holds so many packets.
+
 -- how it is played with the numbers that are asked for: as good as without end, where no number of
 -- turns is
-abbrev pub played_as : PlayTask → Manner
-played_as p = manner (directory_of p.turns p.directory) (look_of p.turns p.look)
+abbrev pub played_as : PlayTask → (frame : ℕ) → Manner
+played_as p frame = manner (directory_of p.turns p.directory frame) (look_of p.turns p.look frame)
     (unwrap_or p.turns 18446744073709551615)
 
--- the folder that is asked for, by this table of suffixes: 100 packets come between two looks,
--- where no other number is asked for
-abbrev pub watch_asked : List SuffixType → PlayTask → Option Watch
-watch_asked table p = watched p.folder
-    (λ path. watch_in (played_as p) path.now table p.rules.allow_empty (unwrap_or p.look 100))
+-- the folder that is asked for, by this table of suffixes
+abbrev pub watch_asked : List SuffixType → PlayTask → (frame : ℕ) → Option Watch
+watch_asked table p frame = watched p.folder
+    (λ path. watch_in (played_as p frame) path.now table p.rules.allow_empty)
 
 -- what is told of playing it: no line has begun, and lines are read at every eighth packet, where
 -- no other number is asked for
-abbrev pub tale_asked : List SuffixType → PlayTask → Inputs → (refused : Bool) → Tale
-tale_asked table p = tale_with (watch_asked table p)
-    (option_map (λ path. ([], unwrap_or p.every 8 - 1)) p.lines) (played_as p)
+abbrev pub tale_asked : List SuffixType → PlayTask → (frame : ℕ) → Inputs → (refused : Bool) → Tale
+tale_asked table p frame = tale_with (watch_asked table p frame)
+    (option_map (λ path. ([], unwrap_or p.every 8 - 1)) p.lines) (played_as p frame)
 
 -- The disk was played into this target, up to this ending; or all was played, and the file did not
 -- take its place.
@@ -56,6 +57,13 @@ PlaysInto target tale how ending begun taken start now =
     Plays tale how ending (Some begun) (Some taken) start now
     ⊎ ((target ≡ File) × (ending ≡ Some WriteFault)
     × Plays tale how None (Some begun) (Some taken) start now)
+
+-- the same, as the task asks: by as many packets as a frame holds of the rate that is asked for
+abbrev pub PlaysAsked : Target → ((frame : ℕ) → Tale) → PlayTask → Option Refusal
+    → (begun taken : List (List ℕ)) → (start now : State) → Type 0
+PlaysAsked target tale p ending begun taken start now =
+    (frame : ℕ) × IsFrame p.rate frame ending start now
+    × PlaysInto target (tale frame) (played_as p frame) ending begun taken start now
 
 -- Whether all is done that playing into this target is to do. A file is to show the folder: it does
 -- not where something was refused in a look.
@@ -68,14 +76,14 @@ module _ {S : Type 0} {start : Ghosts S} where
   -- end, true if all is done, and a file took its place. What each write took is told, as a list
   -- that begins with the path by which that was opened; and what was given by the folder in each
   -- look, and by each read of lines. Beside packets on standard output nothing is printed to it.
-  abbrev pub PlaysTo : PlayTask → (Inputs → Bool → Tale) → (all : Bool) → Option Refusal
+  abbrev pub PlaysTo : PlayTask → (ℕ → Inputs → Bool → Tale) → (all : Bool) → Option Refusal
       → (old new : Option (List ℕ)) → UsedDisk S start → Type 0
   PlaysTo p tale all ending old new used =
       (target : Target) × IsTarget p.packets.now target × (target ≡ Output → Keeps old new)
       × (target ≡ File → ending ≡ None → OnFile (λ disk beside. beside.taken.is_placed ≡ true) used)
       × ((refused : Bool) × (ending ≡ None → all ≡ is_all_done target refused)
-      × OnFile (λ disk beside. SinceOpened (PlaysInto target (tale beside.inputs refused)
-      (played_as p) ending (p.packets.now ∷ []) beside.taken.notes.all) disk) used)
+      × OnFile (λ disk beside. SinceOpened (PlaysAsked target (λ frame. tale frame beside.inputs
+      refused) p ending (p.packets.now ∷ []) beside.taken.notes.all) disk) used)
 
   -- the carousel of the disk of a file was made equal to the folder of this path, up to this
   -- ending, by this table of suffixes and these rules

@@ -1,16 +1,37 @@
 -- How often the directory is sent, and when a look may come.
-use Rattle.std.specs.Prelude.{ℕ, ◌==◌, if◌then◌else◌, Option, Some, None}
+use Rattle.std.specs.Prelude.{◌≡◌, ℕ, ◌*◌, ◌-◌, ◌/◌, ◌^◌, ◌⊎◌, max, min, Option, Some, None, IsSomeAnd}
+use Rattle.disk_model.specs.Disk.{State}
+use Rattle.mot_export.specs.Filling.{frame_size}
+use Rattle.mot_export.specs.Opening.{IsUnopened, OfStanding}
+use Rattle.mot_numbers.specs.declared.refusal.Refusal.{Refusal}
+
+-- how many packets of this length a frame of a sub-channel holds, and one at least
+abbrev pub frame_packets : (rate length : ℕ) → ℕ
+frame_packets rate length = max 1 (frame_size rate / length)
+
+-- So many packets a frame holds of a sub-channel of the rate that is asked for, by the packets'
+-- length on the disk, if that was opened; where no rate is asked for it is taken to hold one.
+abbrev pub IsFrame : (rate : Option ℕ) → (frame : ℕ) → (ending : Option Refusal)
+    → (start now : State) → Type 0
+IsFrame None frame ending start now = frame ≡ 1
+IsFrame (Some rate) frame ending start now =
+    IsSomeAnd ending (λ r. IsUnopened r start now)
+    ⊎ OfStanding (λ s. frame ≡ frame_packets rate s.geometry.packet) start now
+
+-- so many for each packet that a frame holds, as far as a word of 32 bits goes
+abbrev pub in_frames : (frame count : ℕ) → ℕ
+in_frames frame count = min (frame * count) (2 ^ 32 - 1)
 
 -- after how many packets the directory is sent again, with 0 for at each turn's beginning alone:
--- where no number is asked for, 340 without end, and 0 where there is an end
-abbrev pub directory_of : (turns packets : Option ℕ) → ℕ
-directory_of turns (Some packets) = packets
-directory_of (Some turns) None = 0
-directory_of None None = 340
+-- where no number is asked for, 340 for each of a frame without end, and 0 where there is an end
+abbrev pub directory_of : (turns packets : Option ℕ) → (frame : ℕ) → ℕ
+directory_of turns (Some packets) frame = packets
+directory_of (Some turns) None frame = 0
+directory_of None None frame = in_frames frame 340
 
--- After how many packets of a turn a look may come: behind each, or 0 for between turns alone. It
--- is behind each where packets between looks are asked for; and, where nothing is, without end.
-abbrev pub look_of : (turns packets : Option ℕ) → ℕ
-look_of turns (Some packets) = if packets == 0 then 0 else 1
-look_of (Some turns) None = 0
-look_of None None = 1
+-- after how many packets of a turn the folder is looked at, with 0 for between turns alone: where no
+-- number is asked for, 100 for each of a frame without end, and 0 where there is an end
+abbrev pub look_of : (turns packets : Option ℕ) → (frame : ℕ) → ℕ
+look_of turns (Some packets) frame = packets
+look_of (Some turns) None frame = 0
+look_of None None frame = in_frames frame 100

@@ -1,5 +1,5 @@
 -- What playing a disk writes, and what it leaves of the disk.
-use Rattle.std.specs.Prelude.{◌≡◌, ℕ, Bool, true, false, List, [], ◌++◌, Option}
+use Rattle.std.specs.Prelude.{◌≡◌, ℕ, min, Bool, true, false, List, [], ◌++◌, Option}
 use Rattle.std.specs.Option.{option_map_or}
 use Rattle.disk_model.specs.Disk.{State}
 use Rattle.mot_air.specs.Opening.{EndsBy, Leaves}
@@ -25,7 +25,7 @@ use Rattle.mot_update.specs.declared.moment.Moment.{Moment}
 
 -- How a disk is played: after how many packets the directory is sent again, where changes are
 -- followed, or 0 for at each turn's beginning alone, where a change begins the turn anew; after how
--- many packets of a turn a look may come, or 0 for only between turns; and how many turns.
+-- many packets of a turn a look comes, or 0 for only between turns; and how many turns.
 pub record Manner : Type 0 where
   pub directory : ℕ
   pub look : ℕ
@@ -34,9 +34,9 @@ pub record Manner : Type 0 where
 abbrev pub manner : (directory look turns : ℕ) → Manner
 manner directory look turns = record { directory = directory; look = look; turns = turns }
 
--- the looks of a feed that is so
+-- the looks of a feed that is so: one may come in front of each packet, or only between turns
 abbrev pub look_of_feed : Manner → ℕ
-look_of_feed how = look_in how.directory how.look
+look_of_feed how = look_in how.directory (min how.look 1)
 
 -- What is told of the events of a feed, up to a stage: with room for so many objects they lead from
 -- one carousel to the other, by these commands with their marks, which come of something beside the

@@ -20,11 +20,11 @@ use Rattle.mot_update.specs.declared.moment.Moment.{Moment}
 abbrev pub looks_within : Manner → Bool
 looks_within how = nat_lt 0 how.directory && nat_lt 0 how.look
 
--- The folder of this path is looked at while a disk is played so. Where looks come within turns so
--- many packets come between two of them, and else 1,000.
-abbrev pub watch_in : Manner → List ℕ → List SuffixType → (allows : Bool) → (every : ℕ) → Watch
-watch_in how path types allows every =
-    watch path types allows (if looks_within how then every else 1000) (looks_within how)
+-- The folder of this path is looked at while a disk is played so: where looks come only between
+-- turns, at most once in 1,000 packets.
+abbrev pub watch_in : Manner → List ℕ → List SuffixType → (allows : Bool) → Watch
+watch_in how path types allows =
+    watch path types allows (if looks_within how then how.look else 1000) (looks_within how)
 
 -- the same of a folder, if there is one
 abbrev pub watched : {F : Type 0} → Option F → (F → Watch) → Option Watch

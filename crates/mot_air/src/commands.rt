@@ -1,5 +1,5 @@
 //! The commands on air, over any streams.
-ghost use Rattle.std.specs.Prelude.{◌≡◌, ◌⊎◌, ◌++◌, ◌∷◌, [], codes, false, option_map, unwrap_or};
+ghost use Rattle.std.specs.Prelude.{◌≡◌, ◌⊎◌, ◌++◌, ◌∷◌, [], codes, false, option_map};
 ghost use Rattle.std.specs.Result.{result_unwrap_or};
 ghost use Rattle.mot_air.specs.Commands.{Concludes, ExportsFile, InspectsFile, IsUnplayed, IsUnsynced};
 ghost use Rattle.mot_air.specs.Commands.{PlaysTask, SyncsTask, SyncsTo, played_with, synced_with};
@@ -59,7 +59,7 @@ pub fn play<'a, B: Start, W: Write, E: Write>(
         Ok(lines) => lines,
         Err(unbegun) => return Finished::unbegun(unbegun.refusal, unbegun.cause, start),
     };
-    let folder = followed(host, task.folder, &types, task.rules, task.look);
+    let folder = followed(host, task.folder, &types, task.rules);
     let status = status_file(host, task.status, disk);
     let airing = Airing {
         task,
@@ -70,22 +70,16 @@ pub fn play<'a, B: Start, W: Write, E: Write>(
     play_file(host, alloc, airing, start, writer, errors)
 }
 
-/// How many packets come between two looks, if no other number is asked for and looks come within
-/// turns. So many of 96 bytes take 2.4 seconds at 32 kbit/s.
-const LOOK_PACKETS: u32 = 100;
-
 /// The folder, if one is given, with what is known of suffixes.
 fn followed<'a, 't>(
     host: &mut Host<'a>,
     folder: Option<&'a str>,
     types: &'t FileTypes,
     rules: LookRules,
-    look: Option<u32>,
 ) -> Option<Followed<'t, SystemShelf<'a, HostSystem<'a, HostRuntime>>>>
     ensures given { (how : Manner) → watched result (λ followed. watch_in how
-        followed.shelf.path.now followed.types.now followed.allows_empty followed.every)
-        ≡ watched folder.entry (λ path. watch_in how path.now types.now rules.allow_empty
-        (unwrap_or look LOOK_PACKETS)) }
+        followed.shelf.path.now followed.types.now followed.allows_empty)
+        ≡ watched folder.entry (λ path. watch_in how path.now types.now rules.allow_empty) }
     ensures opens { host.new.paths.all ≡ host.old.paths.all ++ named (codes "folder") folder.entry }
 {
     match folder {
@@ -93,7 +87,6 @@ fn followed<'a, 't>(
             shelf: host.folder(path, rules.at_once),
             types,
             allows_empty: rules.allow_empty,
-            every: look.unwrap_or(LOOK_PACKETS),
         }),
         None => None,
     }

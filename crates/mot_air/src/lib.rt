@@ -5,6 +5,7 @@
 mod answered;
 mod commands;
 mod copying;
+mod frames;
 mod lives;
 mod missing;
 mod on_air;

@@ -1,14 +1,14 @@
 //! Playing the disk of a file into what a path names.
-ghost use Rattle.std.specs.Prelude.{◌≡◌, ◌≢◌, ◌⊎◌, ◌-◌, [], ◌∷◌, false, true, Some, None, Err, Ok, codes};
+ghost use Rattle.std.specs.Prelude.{◌≡◌, ◌≢◌, ◌⊎◌, ◌-◌, ℕ, [], ◌∷◌, false, true, Some, None, Err, Ok, codes};
 ghost use Rattle.std.specs.Prelude.{◌++◌, IfErr, IfOk, List, MatchResult, option_map, unwrap_or};
 ghost use Rattle.std.specs.Io.KnownBytes.{Keeps};
 ghost use Rattle.clap.specs.Words.{Text};
 ghost use Rattle.disk_store.specs.Beginning.{IsFirst};
-ghost use Rattle.mot_air.specs.Directory.{directory_of, look_of};
+ghost use Rattle.mot_air.specs.Directory.{IsFrame, directory_of, look_of};
 ghost use Rattle.mot_air.specs.Commands.{Concludes};
 ghost use Rattle.mot_air.specs.Inner.Unbegun.{IsUnbegun};
 ghost use Rattle.mot_air.specs.Playing.{Plays};
-ghost use Rattle.mot_air.specs.Commands.{PlaysInto, PlaysTo, is_all_done, played_as};
+ghost use Rattle.mot_air.specs.Commands.{PlaysAsked, PlaysTo, is_all_done, played_as};
 ghost use Rattle.mot_outcome.specs.Outcome.{Opens};
 ghost use Rattle.mot_air.specs.Telling.{EndsAs, tale_told, tale_with, watch_in, watched};
 ghost use Rattle.mot_endpoints.specs.Opened.{BeginsTo};
@@ -19,6 +19,7 @@ ghost use Rattle.mot_status.specs.Teller.{TellerView, starts};
 
 use crate::Ended;
 use crate::answered::answered;
+use crate::frames::frame_on;
 use crate::missing::folder_cause;
 use crate::playing::{Aired, Followed, play_and_answer, play_disk};
 use disk_model::Disk;
@@ -36,9 +37,12 @@ use mot_status::Telling;
 use std::alloc::Global;
 use std::io::{self, Write};
 
-/// After how many packets the directory is sent again if playing has no end. So many of 96 bytes
-/// take 8.2 seconds at 32 kbit/s: with the group under way and itself it is there within ten.
+/// After how many packets the directory is sent again if playing has no end, and a frame holds one. So
+/// many take 8.2 seconds: with the group under way and itself it is there within ten.
 const DIRECTORY_PACKETS: u32 = 340;
+
+/// After how many packets of a turn the folder is looked at likewise. So many take 2.4 seconds.
+const LOOK_PACKETS: u32 = 100;
 
 /// How a disk is played: what the words ask for, and what may change the carousel.
 #[derive(Drop)]
@@ -77,9 +81,9 @@ pub(crate) fn play_file<'a, B: Start, Y: System + Drop, W: Write, E: Write>(
     errors: &mut E,
 ) -> Finished<B, bool>
     ensures ended { Concludes (λ r. (r ≡ DeviceFault) ⊎ (r ≡ WriteFault)) (λ all ending.
-        let how = played_as airing.entry.task in PlaysTo airing.entry.task
-        (tale_with (watched airing.entry.folder (λ followed. watch_in how followed.shelf.path.now
-        followed.types.now followed.allows_empty followed.every))
+        PlaysTo airing.entry.task (λ frame. let how = played_as airing.entry.task frame in
+        tale_with (watched airing.entry.folder (λ followed. watch_in how followed.shelf.path.now
+        followed.types.now followed.allows_empty))
         (option_map (λ lines. (lines.hand, lines.every - 1)) airing.entry.lines) how)
         all ending (W.contents writer.old) (W.contents writer.new) result.disk)
         result.result result.disk (W.contents writer.old) (W.contents writer.new) }
@@ -142,9 +146,9 @@ fn play_both<B: Start, P: System + Drop, F: Shelf + Drop, Y: System + Drop, W: W
     ensures ended { IsTarget airing.entry.task.packets.now (target_of opened.entry)
         → begun_of opened.entry ≡ airing.entry.task.packets.now ∷ [] → IsFirst false disk.disk
         → Concludes (λ r. (r ≡ DeviceFault) ⊎ (r ≡ WriteFault)) (λ all ending.
-        let how = played_as airing.entry.task in PlaysTo airing.entry.task
-        (tale_with (watched airing.entry.folder (λ followed. watch_in how (F.path followed.shelf)
-        followed.types.now followed.allows_empty followed.every))
+        PlaysTo airing.entry.task (λ frame. let how = played_as airing.entry.task frame in
+        tale_with (watched airing.entry.folder (λ followed. watch_in how (F.path followed.shelf)
+        followed.types.now followed.allows_empty))
         (option_map (λ lines. (lines.hand, lines.every - 1)) airing.entry.lines) how)
         all ending (W.contents writer.old) (W.contents writer.new) result.disk)
         result.result result.disk (W.contents writer.old) (W.contents writer.new) }
@@ -188,11 +192,12 @@ fn play_into<D: Disk, P: System + Drop, F: Shelf + Drop, Y: System + Drop, W: Wr
     writer: &mut W,
     errors: &mut E,
 ) -> Played<D>
-    ensures played { let how = played_as airing.entry.task in PlaysInto (target_of opened.entry)
-        (tale_with (watched airing.entry.folder (λ followed. watch_in how (F.path followed.shelf)
-        followed.types.now followed.allows_empty followed.every))
+    ensures played { PlaysAsked (target_of opened.entry)
+        (λ frame. let how = played_as airing.entry.task frame in
+        tale_with (watched airing.entry.folder (λ followed. watch_in how (F.path followed.shelf)
+        followed.types.now followed.allows_empty))
         (option_map (λ lines. (lines.hand, lines.every - 1)) airing.entry.lines) how
-        result.inputs result.any_refused) how (fault_of result.ended.result)
+        result.inputs result.any_refused) airing.entry.task (fault_of result.ended.result)
         (begun_of opened.entry) result.taken.notes.all
         (D.state disk) (D.state result.ended.disk) }
     ensures quiet { target_of opened.entry ≡ Target.Output
@@ -216,12 +221,44 @@ fn air<D: Disk, F: Shelf + Drop, Y: System + Drop, O: Outlet, L: Write + Drop>(
     airing: Airing<'_, '_, F, Y>,
     log: L,
 ) -> Aired<D, L>
-    ensures { let how = played_as airing.entry.task in
+    ensures { let same = ⟦<LookEvent as PartialEq>⟧.eq in
+        let reads = option_map (λ lines. (lines.hand, lines.every - 1)) airing.entry.lines in
+        (frame : ℕ) × IsFrame airing.entry.task.rate frame (fault_of result.ended.result)
+        (D.state disk) (D.state result.ended.disk)
+        × (let how = played_as airing.entry.task frame in
+        (last : TellerView) × Plays (tale_told same
+        (watched airing.entry.folder (λ followed. watch_in how (F.path followed.shelf)
+        followed.types.now followed.allows_empty)) reads how result.inputs
+        result.any_refused (starts Y.calls (L.contents log) (record {
+          disk = airing.entry.task.disk;
+          status = airing.entry.status;
+          levels = airing.entry.task.levels;
+        })) last) how (fault_of result.ended.result)
+        (O.writes outlet.old) (O.writes outlet.new)
+        (D.state disk) (D.state result.ended.disk)
+        × EndsAs reads (fault_of result.ended.result) how.turns last (L.contents result.log)) }
+{
+    match frame_on(alloc, disk, airing.task.rate) {
+        Ok((frame, disk)) => air_in_frames(alloc, disk, outlet, airing, log, frame),
+        Err(refused) => Aired::unopened(refused, log),
+    }
+}
+
+/// The same if a frame holds so many packets.
+fn air_in_frames<D: Disk, F: Shelf + Drop, Y: System + Drop, O: Outlet, L: Write + Drop>(
+    alloc: Global,
+    disk: D,
+    outlet: &mut O,
+    airing: Airing<'_, '_, F, Y>,
+    log: L,
+    frame: u32,
+) -> Aired<D, L>
+    ensures { let how = played_as airing.entry.task frame in
         let same = ⟦<LookEvent as PartialEq>⟧.eq in
         let reads = option_map (λ lines. (lines.hand, lines.every - 1)) airing.entry.lines in
         (last : TellerView) × Plays (tale_told same
         (watched airing.entry.folder (λ followed. watch_in how (F.path followed.shelf)
-        followed.types.now followed.allows_empty followed.every)) reads how result.inputs
+        followed.types.now followed.allows_empty)) reads how result.inputs
         result.any_refused (starts Y.calls (L.contents log) (record {
           disk = airing.entry.task.disk;
           status = airing.entry.status;
@@ -237,8 +274,8 @@ fn air<D: Disk, F: Shelf + Drop, Y: System + Drop, O: Outlet, L: Write + Drop>(
         lines,
         status,
     } = airing;
-    let directory = directory_of(task.turns, task.directory);
-    let look = look_of(task.turns, task.look);
+    let directory = directory_of(task.turns, task.directory, frame);
+    let look = look_of(task.turns, task.look, frame);
     let turns = turns_of(task.turns);
     let telling = Telling {
         disk: task.disk,
@@ -264,11 +301,12 @@ fn play_opened<D: Disk, P: System + Drop, F: Shelf + Drop, Y: System + Drop, L: 
     airing: Airing<'_, '_, F, Y>,
     log: &mut L,
 ) -> Played<D>
-    ensures played { let how = played_as airing.entry.task in PlaysInto (target_of opened.entry)
-        (tale_with (watched airing.entry.folder (λ followed. watch_in how (F.path followed.shelf)
-        followed.types.now followed.allows_empty followed.every))
+    ensures played { PlaysAsked (target_of opened.entry)
+        (λ frame. let how = played_as airing.entry.task frame in
+        tale_with (watched airing.entry.folder (λ followed. watch_in how (F.path followed.shelf)
+        followed.types.now followed.allows_empty))
         (option_map (λ lines. (lines.hand, lines.every - 1)) airing.entry.lines) how
-        result.inputs result.any_refused) how (fault_of result.ended.result)
+        result.inputs result.any_refused) airing.entry.task (fault_of result.ended.result)
         (begun_of opened.entry) result.taken.notes.all
         (D.state disk) (D.state result.ended.disk) }
     ensures placed { target_of opened.entry ≡ Target.File
@@ -342,26 +380,25 @@ fn turns_of(turns: Option<u32>) -> u64
 }
 
 /// After how many packets the directory is sent again, 0 for at each turn's beginning alone; if no
-/// number is given, 340 without end, and else 0.
-fn directory_of(turns: Option<u32>, directory: Option<u32>) -> u32
-    ensures { result ≡ directory_of turns directory }
+/// number is given, 340 for each packet of a frame without end, and else 0.
+fn directory_of(turns: Option<u32>, directory: Option<u32>, frame: u32) -> u32
+    ensures { result ≡ directory_of turns directory frame }
 {
     match (directory, turns) {
         (Some(packets), _) => packets,
         (None, Some(_)) => 0,
-        (None, None) => DIRECTORY_PACKETS,
+        (None, None) => frame.saturating_mul(DIRECTORY_PACKETS),
     }
 }
 
-/// After how many packets of a turn a look may come, 0 for between turns alone; if no number is
-/// given, it may after each without end, and else between turns.
-fn look_of(turns: Option<u32>, look: Option<u32>) -> u32
-    ensures { result ≡ look_of turns look }
+/// After how many packets of a turn a look comes, 0 for between turns alone; if no number is given,
+/// 100 for each packet of a frame without end, and else 0.
+fn look_of(turns: Option<u32>, look: Option<u32>, frame: u32) -> u32
+    ensures { result ≡ look_of turns look frame }
 {
     match (look, turns) {
-        (Some(0), _) => 0,
-        (Some(_), _) => 1,
+        (Some(packets), _) => packets,
         (None, Some(_)) => 0,
-        (None, None) => 1,
+        (None, None) => frame.saturating_mul(LOOK_PACKETS),
     }
 }

@@ -56,8 +56,6 @@ pub struct Followed<'a, S: Shelf + Drop> {
     pub types: &'a FileTypes,
     /// Whether all objects go where none of its files is one.
     pub allows_empty: bool,
-    /// How many packets come between two looks, if looks come within turns.
-    pub every: u32,
 }
 
 /// What playing came to.
@@ -101,6 +99,17 @@ impl<D: Disk, L: Write + Drop> Aired<D, L> {
         }
     }
 
+    /// The disk was not opened: nothing was given, and the log is as it was.
+    pub(crate) fn unopened(refused: Refused<D>, log: L) -> Self
+        ensures ended { (fault_of result.ended.result ≡ Some refused.refusal)
+            × (result.ended.disk ≡ refused.disk) }
+        ensures log { result.log ≡ log }
+        ensures inputs { (result.inputs.looks.all ≡ []) × (result.inputs.lines.notes.all ≡ []) }
+        ensures refused { result.any_refused ≡ false }
+    {
+        Aired::unwatched(Ended::unopened(refused), log, LineNotes::new())
+    }
+
     /// Playing ended so, without a folder, with what these reads of lines gave.
     fn unwatched(ended: Ended<D, ()>, log: L, lines: LineNotes) -> Self
         ensures ended { result.ended ≡ ended }
@@ -123,8 +132,8 @@ impl<D: Disk, L: Write + Drop> Aired<D, L> {
 }
 
 /// Opens the disk and plays it into the outlet, so many turns, with looks at the folder if there is
-/// one. The directory is sent again after so many packets, and a look may come after so many, as
-/// `feed_every` does. The lines of the looks, of the start and of the end are written to the log,
+/// one. The directory is sent again after so many packets, as `feed_every` does, and after so many of
+/// a turn a look comes; with 0 it comes between turns alone. The lines of the looks, of the start and of the end are written to the log,
 /// and the status to its file.
 pub fn play_disk<S: Shelf + Drop, F: System + Drop, D: Disk, O: Outlet, L: Write + Drop>(
     alloc: Global,
@@ -141,7 +150,7 @@ pub fn play_disk<S: Shelf + Drop, F: System + Drop, D: Disk, O: Outlet, L: Write
         let same = ⟦<LookEvent as PartialEq>⟧.eq in
         (last : TellerView) × Plays (tale_told same
         (watched folder.entry (λ followed. watch_in how (S.path followed.shelf)
-        followed.types.now followed.allows_empty followed.every)) None how result.inputs
+        followed.types.now followed.allows_empty)) None how result.inputs
         result.any_refused (starts F.calls (L.contents log) telling.entry) last)
         how (fault_of result.ended.result) (O.writes outlet.old) (O.writes outlet.new)
         (D.state disk) (D.state result.ended.disk)
@@ -185,7 +194,7 @@ pub fn play_and_answer<S: Shelf + Drop, F: System + Drop, D: Disk, O: Outlet, L:
         let same = ⟦<LookEvent as PartialEq>⟧.eq in
         (last : TellerView) × Plays (tale_told same
         (watched folder.entry (λ followed. watch_in how (S.path followed.shelf)
-        followed.types.now followed.allows_empty followed.every))
+        followed.types.now followed.allows_empty))
         (Some (lines.entry.hand, lines.entry.every - 1)) how result.inputs result.any_refused
         (starts F.calls (L.contents log) telling.entry) last)
         how (fault_of result.ended.result) (O.writes outlet.old) (O.writes outlet.new)
@@ -307,8 +316,7 @@ fn feed_lines<D: Disk, R: Inlet + Drop, U: Update + Facts + Drop, T: Watch + Dro
     feed_disk(alloc, disk, lines, outlet, turns, directory, look)
 }
 
-/// Looks at the folder while a disk is played so: behind so many packets, if looks come within
-/// turns.
+/// Looks at the folder while a disk is played so: after so many packets, if looks come within turns.
 fn looks_at<'a, S: Shelf + Drop>(
     alloc: Global,
     followed: Followed<'a, S>,
@@ -318,7 +326,7 @@ fn looks_at<'a, S: Shelf + Drop>(
     ensures watch { (turns : ℕ) → watch (S.path result.folder.shelf) result.folder.types.now
         result.folder.allows_empty result.every result.within
         ≡ watch_in (manner directory look turns) (S.path followed.entry.shelf)
-        followed.entry.types.now followed.entry.allows_empty followed.entry.every }
+        followed.entry.types.now followed.entry.allows_empty }
     ensures none { so_far result.left result.looks.all result.any_refused
         (looks_known result.count result.folder.report.events.items result.before.items)
         ≡ no_looks }
@@ -327,12 +335,11 @@ fn looks_at<'a, S: Shelf + Drop>(
         shelf,
         types,
         allows_empty,
-        every,
     } = followed;
     let folder = Folder::new(alloc, shelf, types, allows_empty);
     let mut looks = Looks::new(alloc, folder);
     if directory > 0 && look > 0 {
-        looks.every = u64::from(every);
+        looks.every = u64::from(look);
         looks.within = true;
     }
     looks
@@ -460,8 +467,8 @@ fn finish<'a, F: System + Drop, U: Update + Facts + Drop, T: Watch + Drop>(
 }
 
 /// Opens the disk and plays it into the outlet, so many turns, with one of these updates in front
-/// of each packet. The directory is sent again after so many packets, and a look may come after so
-/// many, as `feed_every` does.
+/// of each packet. The directory is sent again after so many packets, as `feed_every` does. A look
+/// may come in front of each packet of a turn, or with 0 between turns alone.
 pub fn play_with<D: Disk, U: Update, O: Outlet>(
     alloc: Global,
     disk: D,
@@ -521,7 +528,15 @@ fn feed_disk<D: Disk, U: Update, O: Outlet>(
     };
     // Its sizes are in their ranges: each packet has room. (The line is there for the proof.)
     let _ = server.geometry();
-    let result = feed_every(&mut server, alloc, update, outlet, turns, directory, look);
+    let result = feed_every(
+        &mut server,
+        alloc,
+        update,
+        outlet,
+        turns,
+        directory,
+        look.min(1),
+    );
     Fed::Open(server, result)
 }
 

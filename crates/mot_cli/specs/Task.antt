@@ -36,6 +36,10 @@ abbrev pub is_rate : Option ℕ → Bool
 is_rate None = true
 is_rate (Some rate) = nat_le 8 rate && nat_le rate 1824 && rate % 8 == 0
 
+-- the words give this rate, or none
+abbrev pub GiveRate : List Row → Option ℕ → Type 0
+GiveRate rows rate = IsGiven (first_of (codes "rate") rows) rate × (is_rate rate ≡ true)
+
 -- a command of this name, with these words behind it, is this task
 abbrev pub IsTask : Text → List Row → Task → Type 0
 IsTask name rows (Memory geometry) = (name ≡ codes "memory") × GiveGeometry rows geometry
@@ -57,7 +61,7 @@ IsTask name rows (Play p) =
     × IsGiven (first_of (codes "every") rows) p.every
     × IsGiven (first_of (codes "turns") rows) p.turns
     × IsGiven (first_of (codes "directory") rows) p.directory
-    × IsGiven (first_of (codes "look") rows) p.look
+    × IsGiven (first_of (codes "look") rows) p.look × GiveRate rows p.rate
     × NameOption rows (codes "status") p.status × (p.levels ≡ is_set rows (codes "levels"))
     × (is_whole rows ≡ true)
 IsTask name rows (Sync disk folder types rules) =
@@ -81,7 +85,7 @@ IsTask name rows (GetBody disk object) =
 IsTask name rows (Export disk) = (name ≡ codes "export") × NameWord rows (codes "DISK") disk.now
 IsTask name rows (Inspect disk rate) =
     (name ≡ codes "inspect") × NameWord rows (codes "DISK") disk.now
-    × IsGiven (first_of (codes "rate") rows) rate × (is_rate rate ≡ true)
+    × GiveRate rows rate
 
 -- the refusal of a number that no task of a command of this name takes: of the sizes of a disk, or
 -- of another one

@@ -40,6 +40,7 @@ const VERBS: &[Verb] = &[
             TURNS,
             DIRECTORY,
             LOOK,
+            PLAY_RATE,
             STATUS,
             LEVELS,
         ],
@@ -257,6 +258,13 @@ const LOOK: Argument = Argument {
     kind: Kind::Number,
     help: "Look at the folder after so many packets of a turn, too; 0: between turns \
         [default: 100 without end, else 0]",
+};
+
+const PLAY_RATE: Argument = Argument {
+    name: "rate",
+    kind: Kind::Number,
+    help: "Multiply both defaults by the packets that a frame holds at N kbit/s, a multiple of 8 \
+        up to 1824",
 };
 
 const STATUS: Argument = Argument {

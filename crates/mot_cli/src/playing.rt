@@ -1,8 +1,8 @@
 //! What the commands on air are asked for.
-ghost use Rattle.std.specs.Prelude.{◌≡◌, IfNone, IfSome, codes};
+ghost use Rattle.std.specs.Prelude.{◌≡◌, ℕ, IfNone, IfSome, Option, codes};
 ghost use Rattle.clap.specs.Words.{found_of, rows_of};
 ghost use Rattle.mot_cli.specs.Given.{NameWord};
-ghost use Rattle.mot_cli.specs.Task.{AreRules, IsTask, is_rate};
+ghost use Rattle.mot_cli.specs.Task.{AreRules, GiveRate, IsTask, is_rate};
 ghost use Rattle.mot_cli.specs.declared.task.Task.{Task};
 
 use crate::given::{is_set, number_of, option_of, word_of};
@@ -39,11 +39,14 @@ pub struct PlayTask<'a> {
     /// How many whole turns. If no number is given: without end, and into no file.
     pub turns: Option<u32>,
     /// After how many packets the directory is sent again; 0: at each turn's beginning alone. If no
-    /// number is given: 340 without end, and else 0.
+    /// number is given: without end 340 for each packet that a frame holds, and else 0.
     pub directory: Option<u32>,
     /// After how many packets of a turn the folder is looked at; 0: between turns alone. If no
-    /// number is given: 100 without end, and else 0.
+    /// number is given: without end 100 for each packet that a frame holds, and else 0.
     pub look: Option<u32>,
+    /// The rate in kbit/s of the sub-channel that the packets are for, by which a frame holds one
+    /// packet or several; if none is given, a frame is taken to hold one.
+    pub rate: Option<u32>,
     /// The path of the file that the status is written to, if one is given.
     pub status: Option<&'a str>,
     /// Whether lines of the log begin with their level.
@@ -61,6 +64,7 @@ pub(crate) fn play_of<'m, 'a>(disk: &'a str, words: &'m ArgMatches<'a>) -> Optio
     if !is_whole(words) {
         return None;
     }
+    let rate = rate_of(words)?;
     Some(Task::Play(PlayTask {
         disk,
         packets: word_of(words, "PACKETS")?,
@@ -72,6 +76,7 @@ pub(crate) fn play_of<'m, 'a>(disk: &'a str, words: &'m ArgMatches<'a>) -> Optio
         turns: number_of(words, "turns")?,
         directory: number_of(words, "directory")?,
         look: number_of(words, "look")?,
+        rate,
         status: option_of(words, "status"),
         levels: is_set(words, "levels"),
     }))
@@ -122,11 +127,20 @@ pub(crate) fn inspect_of<'m, 'a>(disk: &'a str, words: &'m ArgMatches<'a>) -> Op
     ensures none { IfNone result ((task : Task)
         → IsTask (codes "inspect") (rows_of (found_of words.now)) task → ⊥) }
 {
+    Some(Task::Inspect {
+        disk,
+        rate: rate_of(words)?,
+    })
+}
+
+/// The rate that is given, if one is; `None` if no sub-channel has it.
+fn rate_of(words: &ArgMatches<'_>) -> Option<Option<u32>>
+    ensures some { IfSome result (GiveRate (rows_of (found_of words.now))) }
+    ensures none { IfNone result ((rate : Option ℕ)
+        → GiveRate (rows_of (found_of words.now)) rate → ⊥) }
+{
     let rate = number_of(words, "rate")?;
-    if !is_rate(rate) {
-        return None;
-    }
-    Some(Task::Inspect { disk, rate })
+    if is_rate(rate) { Some(rate) } else { None }
 }
 
 /// Whether a sub-channel has this rate in kbit/s, if one is given: a multiple of 8, at most 1,824.

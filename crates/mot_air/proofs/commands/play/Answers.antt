@@ -2,14 +2,18 @@ use Rattle.std.proofs.Common.{◌≡◌, ◌⊎◌, ◌∙◌, ◌-◌, ℕ, Lis
 use Rattle.std.proofs.Common.{sym}
 use Rattle.std.specs.Prelude.{IfSome, codes, option_map, unwrap_or}
 use Rattle.std.specs.Borrow.{Bor}
+use Rattle.disk_model.specs.Disk.{State}
+use Rattle.disk_store.specs.Beginning.{SinceOpened}
 use Rattle.disk_store.specs.declared.file.start.Start.{Ghosts}
 use Rattle.mot_air.specs.Commands.{Concludes, IsUnplayed, PlaysTask, PlaysTo, played_as, played_with}
-use Rattle.mot_air.specs.Commands.{watch_asked}
+use Rattle.mot_air.specs.Commands.{PlaysAsked, PlaysInto, watch_asked}
 use Rattle.mot_air.specs.Telling.{tale_with}
 use Rattle.mot_folder.specs.Looked.{Watch}
 use Rattle.mot_numbers.specs.declared.refusal.Refusal.{Refusal}
-use Rattle.mot_outcome.specs.Outcome.{Opens}
+use Rattle.mot_outcome.specs.Outcome.{OnFile, Opens}
+use Rattle.mot_outcome.specs.declared.used.Beside.{Beside}
 use Rattle.mot_outcome.specs.declared.used.UsedDisk.{UsedDisk}
+use Rattle.mot_outcome.specs.declared.used.UsedDisk.TheVariants.{InMemory, OfCopy, OfFile, Untouched}
 use Rattle.mot_cli.specs.declared.playing.PlayTask.{PlayTask}
 use Rattle.std.proofs.KnownBytes.{Keeps-refl}
 use Rattle.mot_air.proofs.Begun.{concludes_more}
@@ -21,15 +25,48 @@ use Rattle.mot_endpoints.specs.Types.{IsTyped}
 use Rattle.mot_suffixes.specs.Types.{SuffixType}
 use Rattle.mot_numbers.specs.declared.refusal.Refusal.TheVariants.{DeviceFault, WriteFault}
 
+-- what holds of a file's disk since it was opened, told otherwise
+since_as : {S : Type 0} {start : Ghosts S} (P Q : Beside → State → State → Type 0)
+    → ((beside : Beside) (opened now : State) → P beside opened now → Q beside opened now)
+    → (used : UsedDisk S start) → OnFile (λ disk beside. SinceOpened (P beside) disk) used
+    → OnFile (λ disk beside. SinceOpened (Q beside) disk) used
+since_as P Q told (OfFile disk beside) is =
+    record { begun = is.begun; since = told beside _ _ is.since }
+since_as P Q told (Untouched start) is = absurd is
+since_as P Q told (InMemory disk value) is = absurd is
+since_as P Q told (OfCopy from to) is = absurd is
+
 -- the same folder and lines, told of the words
 asked : {S : Type 0} {start : Ghosts S} (task : PlayTask) (used : UsedDisk S start)
-    (old new : Option (List ℕ)) {w v : Option Watch} {h k : Option (List ℕ × ℕ)} (all : Bool)
-    (ending : Option Refusal) → w ≡ v → h ≡ k
-    → PlaysTo task (tale_with w h (played_as task)) all ending old new used
-    → PlaysTo task (tale_with v k (played_as task)) all ending old new used
-asked task used old new {w} {v} {h} {k} all ending same held plays =
-    subst (λ x. PlaysTo task (tale_with x k (played_as task)) all ending old new used) same
-    (subst (λ x. PlaysTo task (tale_with w x (played_as task)) all ending old new used) held plays)
+    (old new : Option (List ℕ)) (w v : ℕ → Option Watch) (h k : Option (List ℕ × ℕ)) (all : Bool)
+    (ending : Option Refusal) → ((frame : ℕ) → w frame ≡ v frame) → h ≡ k
+    → PlaysTo task (λ frame. tale_with (w frame) h (played_as task frame)) all ending old new used
+    → PlaysTo task (λ frame. tale_with (v frame) k (played_as task frame)) all ending old new used
+asked task used old new w v h k all ending same held
+    (target, is, quiet, placed, (refused, whole, so)) = (
+      target,
+      is,
+      quiet,
+      placed,
+      (
+        refused,
+        whole,
+        since_as (λ beside. PlaysAsked target (λ frame. tale_with (w frame) h (played_as task frame)
+            beside.inputs refused) task ending (task.packets.now ∷ []) beside.taken.notes.all)
+            (λ beside. PlaysAsked target (λ frame. tale_with (v frame) k (played_as task frame)
+            beside.inputs refused) task ending (task.packets.now ∷ []) beside.taken.notes.all)
+            (λ beside opened now plays. (
+              plays.0,
+              plays.1,
+              subst (λ x. PlaysInto target (tale_with x k (played_as task plays.0) beside.inputs refused)
+                  (played_as task plays.0) ending (task.packets.now ∷ []) beside.taken.notes.all opened
+                  now) (same plays.0)
+                  (subst (λ x. PlaysInto target (tale_with (w plays.0) x (played_as task plays.0)
+                  beside.inputs refused) (played_as task plays.0) ending (task.packets.now ∷ [])
+                  beside.taken.notes.all opened now) held plays.2),
+            )) used so,
+      ),
+    )
 
 pub returns-in-Err-clause-ended : goal.returns-in-Err-clause-ended
 returns-in-Err-clause-ended g c =
@@ -67,26 +104,32 @@ reads_asked eight every (Some path) (Some lines) same is =
 -- what was played is told of the words
 played : {S : Type 0} {start : Ghosts S} (task : PlayTask) (table : List SuffixType)
     (used : UsedDisk S start) (old new : Option (List ℕ)) (result : Result Bool Refusal)
-    (w : Option Watch) (hand : Option (List ℕ × ℕ)) → IsTyped task.types table
-    → w ≡ watch_asked table task
+    (w : ℕ → Option Watch) (hand : Option (List ℕ × ℕ)) → IsTyped task.types table
+    → ((frame : ℕ) → w frame ≡ watch_asked table task frame)
     → hand ≡ option_map (λ path. ([], unwrap_or task.every 8 - 1)) task.lines
     → Concludes (λ r. (r ≡ DeviceFault) ⊎ (r ≡ WriteFault)) (λ all ending.
-    PlaysTo task (tale_with w hand (played_as task)) all ending old new used) result used old new
+    PlaysTo task (λ frame. tale_with (w frame) hand (played_as task frame)) all ending old new used)
+    result used old new
     → Concludes (IsUnplayed task) (λ all ending. PlaysTask task all ending used old new) result
     used old new
 played task table used old new result w hand typed same held plays =
     concludes_more (λ r. (r ≡ DeviceFault) ⊎ (r ≡ WriteFault)) (IsUnplayed task) (λ all ending.
-    PlaysTo task (tale_with w hand (played_as task)) all ending old new used)
+    PlaysTo task (λ frame. tale_with (w frame) hand (played_as task frame)) all ending old new used)
     (λ all ending. PlaysTask task all ending used old new) used old new result
     (λ r early. inr (inr early))
-    (λ all ending so. (table, typed, asked task used old new all ending same held so)) plays
+    (λ all ending so. (
+      table,
+      typed,
+      asked task used old new w (watch_asked table task) hand _ all
+          ending same held so,
+    )) plays
 
 pub returns-clause-ended : goal.returns-clause-ended
 returns-clause-ended g c =
     played c.args.task c.in-Ok.types c.play_file.result.disk
     (g.W.Write.contents c.args.writer.now) (g.W.Write.contents c.play_file.new.writer)
     c.play_file.result.result _ _ c.in-Ok.ensures.typed
-    (c.followed-folder.ensures.given (played_as c.args.task)) (reads_asked 8 c.args.task.every
+    (λ frame. c.followed-folder.ensures.given (played_as c.args.task frame)) (reads_asked 8 c.args.task.every
     c.args.task.lines c.in-Ok-line_folder.lines c.in-Ok-line_folder.ensures.hand
     c.in-Ok-line_folder.ensures.every)
     c.play_file.ensures.ended

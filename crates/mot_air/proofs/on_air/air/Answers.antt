@@ -1,59 +1,90 @@
-use Rattle.std.proofs.Common.{◌≡◌, ◌-◌, ℕ, Bool, List, Option, ap, subst, sym}
-use Rattle.std.specs.Prelude.{option_map}
-use Rattle.disk_model.specs.Disk.{State}
-use Rattle.mot_air.specs.Playing.{Manner, Plays, manner}
-use Rattle.mot_air.specs.Telling.{EndsAs, Same, tale_told, watch_in, watched}
+use Rattle.std.proofs.Common.{◌≡◌, ◌-◌, List, [], ℕ, Option, Some, None, ap, inl, refl, subst, sym}
+use Rattle.std.specs.Prelude.{IsSomeAnd, option_map}
+use Rattle.disk_model.specs.Disk.{KeepsLength, State}
+use Rattle.mot_air.proofs.Behind.{frame_behind, none_ends, none_told, plays_behind}
 use Rattle.mot_air.proofs.on_air.air.Goals as goal
+use Rattle.mot_air.specs.Commands.{played_as}
+use Rattle.mot_air.specs.Directory.{IsFrame}
+use Rattle.mot_air.specs.Playing.{Manner, Plays, Tale}
+use Rattle.mot_air.specs.Telling.{watch_in, watched}
+use Rattle.mot_export.specs.Opening.{IsUnopened}
+use Rattle.mot_feed.proofs.Laws.{grows_nil}
+use Rattle.mot_feed.specs.Feeding.Stage.{Ready}
 use Rattle.mot_line_folder.specs.declared.folder.LineFolder.{LineFolder}
-use Rattle.mot_folder.specs.Looked.{Watch}
 use Rattle.mot_numbers.specs.declared.refusal.Refusal.{Refusal}
-use Rattle.mot_outcome.specs.declared.used.Inputs.{Inputs}
+use Rattle.mot_objects.specs.Carousel.{Carousel}
 use Rattle.mot_playout.specs.Attempts.{fault_of}
-use Rattle.mot_status.specs.Teller.{TellerView}
+use Rattle.mot_status.specs.Teller.{starts}
+use Rattle.mot_update.proofs.Laws.{not_none}
 
--- the same of equal numbers, and of an equal hand
-same_numbers : (P : ℕ → ℕ → ℕ → Option (List ℕ × ℕ) → Type 0) {d e l m t u : ℕ}
-    {h k : Option (List ℕ × ℕ)} → d ≡ e → l ≡ m → t ≡ u → h ≡ k → P d l t h → P e m u k
-same_numbers P {d} {e} {l} {m} {t} {u} {h} {k} ds ls ts hs p =
-    subst (λ x. P e m u x) hs (subst (λ x. P e m x h) ts (subst (λ x. P e x t h) ls
-    (subst (λ x. P x l t h) ds p)))
+pub returns-in-Ok : goal.returns-in-Ok
+returns-in-Ok g c =
+    let state = g.D.Disk.state in
+    let found = c.in-Ok.ensures in
+    let told = c.air_in_frames.ensures in
+    let start = state c.args.disk in
+    let mid = state c.in-Ok.disk in
+    let now = state c.air_in_frames.result.ended.disk in
+    let how = played_as c.args.airing.task c.in-Ok.frame in
+    let ending = fault_of c.air_in_frames.result.ended.result in (
+      c.in-Ok.frame,
+      frame_behind c.args.airing.task.rate c.in-Ok.frame ending start mid now
+          told.1.keeps.was_honest found.frame,
+      (
+        told.0,
+        plays_behind start mid now found.syncs found.calm (g.met.D.Disk.sound c.args.disk) _ how
+            ending (g.O.Outlet.writes c.args.outlet.now)
+            (g.O.Outlet.writes c.air_in_frames.new.outlet) told.1,
+        told.2,
+      ),
+    )
 
-module _ (same : Same) (w : Manner → Option Watch) (first : TellerView) (given : Inputs)
-    (refused : Bool) (ending : Option Refusal) (before after : Option (List (List ℕ)))
-    (start now : State) (log : Option (List ℕ)) where
-  abbrev AirsSo : ℕ → ℕ → ℕ → Option (List ℕ × ℕ) → Type 0
-  AirsSo directory look turns reads = (last : TellerView)
-      × Plays (tale_told same (w (manner directory look turns)) reads
-      (manner directory look turns) given refused first last) (manner directory look turns) ending
-      before after start now
-      × EndsAs reads ending turns last log
+-- a disk that was not opened has any frame
+any_frame : (rate : Option ℕ) (ending : Option Refusal) (start now : State)
+    → IsSomeAnd ending (λ r. IsUnopened r start now) → IsFrame rate 1 ending start now
+any_frame None ending start now none = refl
+any_frame (Some rate) ending start now none = inl none
 
-  airs_so : {d e l m t u : ℕ} {h k : Option (List ℕ × ℕ)} → d ≡ e → l ≡ m → t ≡ u → h ≡ k
-      → AirsSo d l t h → AirsSo e m u k
-  airs_so ds ls ts hs is = same_numbers AirsSo ds ls ts hs is
+-- and is played so
+unplayed : (tale : Tale) (how : Manner) (ending : Option Refusal)
+    (writes : Option (List (List ℕ))) (start now : State) → KeepsLength start now
+    → IsSomeAnd ending (λ r. IsUnopened r start now)
+    → ((limit : ℕ) (c : Carousel) → tale limit c Ready [] [] [] c)
+    → Plays tale how ending writes writes start now
+unplayed tale how ending writes start now keeps none told =
+    record { keeps = keeps; came = inl (none, (grows_nil writes, told)) }
 
-pub returns-in-Some : goal.returns-in-Some
-returns-in-Some g c =
-    airs_so _ (λ (how : Manner). watched c.args.airing.folder
-    (λ followed. watch_in how (g.F.Shelf.path followed.shelf) followed.types.now
-    followed.allows_empty followed.every)) _
-    c.play_and_answer.result.inputs c.play_and_answer.result.any_refused (fault_of c.play_and_answer.result.ended.result)
-    (g.O.Outlet.writes c.args.outlet.now) (g.O.Outlet.writes c.play_and_answer.new.outlet)
-    (g.D.Disk.state c.args.disk) (g.D.Disk.state c.play_and_answer.result.ended.disk)
-    (g.L.Write.contents c.play_and_answer.result.log)
-    c.directory_of-directory.ensures c.look_of-look.ensures c.turns_of-turns.ensures
-    (sym (ap (λ (o : Option (LineFolder _)). option_map (λ l. (l.hand, l.every - 1)) o) c.in-Some.is))
-    c.play_and_answer.ensures
-
-pub returns-in-None : goal.returns-in-None
-returns-in-None g c =
-    airs_so _ (λ (how : Manner). watched c.args.airing.folder
-    (λ followed. watch_in how (g.F.Shelf.path followed.shelf) followed.types.now
-    followed.allows_empty followed.every)) _
-    c.play_disk.result.inputs c.play_disk.result.any_refused (fault_of c.play_disk.result.ended.result)
-    (g.O.Outlet.writes c.args.outlet.now) (g.O.Outlet.writes c.play_disk.new.outlet)
-    (g.D.Disk.state c.args.disk) (g.D.Disk.state c.play_disk.result.ended.disk)
-    (g.L.Write.contents c.play_disk.result.log)
-    c.directory_of-directory.ensures c.look_of-look.ensures c.turns_of-turns.ensures
-    (sym (ap (λ (o : Option (LineFolder _)). option_map (λ l. (l.hand, l.every - 1)) o) c.in-None.is))
-    c.play_disk.ensures
+pub returns-in-Err : goal.returns-in-Err
+returns-in-Err g c =
+    let state = g.D.Disk.state in
+    let refused = c.in-Err.refused in
+    let out = c.unopened.result in
+    let is = c.unopened.ensures in
+    let start = state c.args.disk in
+    let now = state out.ended.disk in
+    let ending = fault_of out.ended.result in
+    let reads = option_map (λ (l : LineFolder _). (l.hand, l.every - 1)) c.args.airing.lines in
+    let how = played_as c.args.airing.task 1 in
+    let first = starts g.Y.System.calls (g.L.Write.contents c.args.log) (record {
+      disk = c.args.airing.task.disk;
+      status = c.args.airing.status;
+      levels = c.args.airing.task.levels;
+    }) in
+    let none = subst (λ e. IsSomeAnd e (λ r. IsUnopened r start now)) (sym is.ended.0)
+    (subst (λ d. IsUnopened refused.refusal start (state d)) (sym is.ended.1)
+    c.in-Err.ensures.refused) in
+    let keeps = subst (λ d. KeepsLength start (state d)) (sym is.ended.1)
+    c.in-Err.ensures.syncs.keeps in (
+      1,
+      any_frame c.args.airing.task.rate ending start now none,
+      (
+        first,
+        unplayed _ how ending (g.O.Outlet.writes c.args.outlet.now) start now keeps none
+            (none_told _ (watched c.args.airing.folder (λ followed. watch_in how
+            (g.F.Shelf.path followed.shelf) followed.types.now followed.allows_empty)) reads how
+            out.inputs out.any_refused first is.inputs.0 is.inputs.1 is.refused),
+        none_ends reads ending how.turns first (g.L.Write.contents out.log)
+            (subst (λ e. e ≡ None → ⊥) (sym is.ended.0) (not_none refused.refusal))
+            (ap (λ l. g.L.Write.contents l) is.log),
+      ),
+    )

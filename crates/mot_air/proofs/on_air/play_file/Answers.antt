@@ -20,13 +20,13 @@ returns-in-Ok-clause-opens g c =
 pub returns-in-Err-clause-ended : goal.returns-in-Err-clause-ended
 returns-in-Err-clause-ended g c =
     let task = c.args.airing.task in
-    let how = played_as task in
     let log = g.W.Write.contents c.args.writer.now in
     let used = c.in-Err.unbegun.disk in
-    unbegun_so _ (λ all ending. PlaysTo task (tale_with (watched c.args.airing.folder
-    (λ followed. watch_in how followed.shelf.path.now followed.types.now followed.allows_empty
-    followed.every)) (option_map (λ (lines : LineFolder _). (lines.hand, lines.every - 1))
-    c.args.airing.lines) how) all ending log log used) c.in-Err.unbegun.result used log
+    unbegun_so _ (λ all ending. PlaysTo task (λ frame. let how = played_as task frame in
+    tale_with (watched c.args.airing.folder
+    (λ followed. watch_in how followed.shelf.path.now followed.types.now followed.allows_empty))
+    (option_map (λ (lines : LineFolder _). (lines.hand, lines.every - 1)) c.args.airing.lines) how)
+    all ending log log used) c.in-Err.unbegun.result used log
     c.in-Err.ensures.refused
 
 pub returns-in-Err-clause-opens : goal.returns-in-Err-clause-opens

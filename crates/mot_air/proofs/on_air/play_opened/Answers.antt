@@ -1,8 +1,10 @@
 use Rattle.std.proofs.Common.{◌≡◌, ◌∙◌, ◌⊎◌, true, List, ℕ, Result, Ok, Err, ap, inl, inr, subst, sym}
-use Rattle.std.proofs.Common.{Some}
+use Rattle.std.proofs.Common.{Option, Some}
 use Rattle.disk_model.specs.Disk.{State}
+use Rattle.mot_air.specs.Directory.{IsFrame}
 use Rattle.mot_air.specs.Playing.{Manner, Plays, Tale}
 use Rattle.mot_air.specs.Commands.{PlaysInto}
+use Rattle.mot_air.proofs.Behind.{frame_behind}
 use Rattle.mot_air.proofs.Retold.{plays_as, whoever}
 use Rattle.mot_air.proofs.on_air.play_opened.Goals as goal
 use Rattle.mot_endpoints.specs.Packets.{target_of}
@@ -32,13 +34,29 @@ placed target tale how begun taken later start now a b same came plays =
       )
     ])
 
+-- and so its frame is that of playing
+frame_placed : (rate : Option ℕ) (target : Target) (frame : ℕ) (start now : State)
+    (a b : Result Unit Refusal) → (b ≡ a) ⊎ ((target ≡ File) × (a ≡ Ok tt) × (b ≡ Err WriteFault))
+    → IsFrame rate frame (fault_of a) start now → IsFrame rate frame (fault_of b) start now
+frame_placed rate target frame start now a b (inl is) found =
+    subst (λ (r : Result Unit Refusal). IsFrame rate frame (fault_of r) start now) (sym is) found
+frame_placed rate target frame start now a b (inr lost) found =
+    frame_behind rate frame (fault_of b) start now now (λ honest. honest)
+    (subst (λ (r : Result Unit Refusal). IsFrame rate frame (fault_of r) start now) lost.1 found)
+
 pub returns-clause-played : goal.returns-clause-played
 returns-clause-played g c =
-    placed (target_of c.args.opened) _ _ _ _ _ _ _ c.air-ended.result.ended.result
-    c.placed-result.result.0
-    (ap (λ (t : Taken). t.notes.all) c.hand_out-taken.ensures ∙ c.placed-result.ensures.same)
-    c.placed-result.ensures.came
-    (plays_as _ _ (whoever _ _ _ _ _ _ _ c.air-ended.ensures.0) _ _ _ _ _ _ c.air-ended.ensures.1)
+    let told = c.air-ended.ensures in
+    let came = c.placed-result.ensures.came in (
+      told.0,
+      frame_placed c.args.airing.task.rate (target_of c.args.opened) told.0 _ _
+          c.air-ended.result.ended.result c.placed-result.result.0 came told.1,
+      placed (target_of c.args.opened) _ _ _ _ _ _ _ c.air-ended.result.ended.result
+          c.placed-result.result.0
+          (ap (λ (t : Taken). t.notes.all) c.hand_out-taken.ensures ∙ c.placed-result.ensures.same)
+          came
+          (plays_as _ _ (whoever _ _ _ _ _ _ _ told.2.0) _ _ _ _ _ _ told.2.1),
+    )
 
 pub returns-clause-placed : goal.returns-clause-placed
 returns-clause-placed g c = λ file none.

@@ -1,4 +1,4 @@
-use Rattle.std.proofs.Common.{inl}
+use Rattle.std.proofs.Common.{ℕ, inl, subst}
 use Rattle.mot_air.specs.Playing.{Plays, manner, tale_of}
 use Rattle.mot_air.proofs.Kept.{lives}
 use Rattle.mot_air.proofs.Played.{plays}
@@ -6,7 +6,9 @@ use Rattle.mot_air.proofs.playing.feed_disk.Given as given
 use Rattle.mot_air.proofs.playing.feed_disk.Goals as goal
 use Rattle.mot_air.proofs.playing.feed_disk.Goals.{After-feed_every-result}
 use Rattle.mot_feed.proofs.Laws.{grows_nil}
+use Rattle.mot_feed.specs.Feeding.{Feeds}
 use Rattle.mot_feed.specs.Feeding.AreTold.{no_call}
+use Rattle.mot_feed.specs.Often.{look_in, server_for}
 use Rattle.mot_export.proofs.Laws.{unopened_is}
 use Rattle.mot_playout.specs.Attempts.{fault_of}
 
@@ -38,7 +40,13 @@ by g c =
     g.U.Update.tells c.args.update.now
     c.feed_every-result.new.update (manner c.args.directory c.args.look c.args.turns) _ _
     c.feed_every-result.result feeds.calm feeds.fault
-    (λ s holds honest. (feeds.fed s holds honest).0)
+    (λ s holds honest. subst (λ (l : ℕ). Feeds g.U.Update.tells (look_in c.args.directory l)
+    c.args.turns (fault_of c.feed_every-result.result) c.args.update.now
+    c.feed_every-result.new.update (server_for c.args.directory c.in-Ok.server)
+    c.feed_every-result.new.server (g.D.Disk.state c.in-Ok.server.disk)
+    (g.D.Disk.state c.feed_every-result.new.server.disk) s (g.O.Outlet.writes c.args.outlet.now)
+    (g.O.Outlet.writes c.feed_every-result.new.outlet)) c.min.ensures
+    (feeds.fed s holds honest).0)
 
 pub returns-clause-ended : goal.returns-clause-ended
 returns-clause-ended g c = by g (goal.at.returns-clause-ended g c).After-feed_every-result

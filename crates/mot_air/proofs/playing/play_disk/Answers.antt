@@ -25,7 +25,7 @@ returns-in-Some g c =
           (λ (u : _). so_far u.left u.looks.all u.any_refused
           (looks_known u.count u.folder.report.events.items u.before.items))
           (watch_in how (g.S.Shelf.path c.in-Some.followed.shelf) c.in-Some.followed.types.now
-          c.in-Some.followed.allows_empty c.in-Some.followed.every)
+          c.in-Some.followed.allows_empty)
           out.any_refused (c.looks_at-update.ensures.watch c.args.turns)
           c.looks_at-update.ensures.none (ap (λ (l : _). l.all) (sym c.looking.ensures.looks))
           (sym c.looking.ensures.refused)
