@@ -42,18 +42,17 @@ class Case(typing.NamedTuple):
     all_change: bool = False
 
 
-LOOKS = ("--look", "100")
-AT_ONCE = (*LOOKS, "--at-once")
+AT_ONCE, SELDOM = ("--at-once",), ("--look", "700")
 SLOW = {"rate": 8, "length": 24, "files": 10, "bytes": 2000}
 CASES = (
     Case("32 kbit/s, a pipe of 65,536 bytes", pipe=65_536),
     Case("32 kbit/s"),
-    Case("32 kbit/s, `--look 100`", options=LOOKS),
-    Case("32 kbit/s, `--look 100 --at-once`", options=AT_ONCE),
+    Case("32 kbit/s, `--at-once`", options=AT_ONCE),
+    Case("32 kbit/s, `--look 700`", options=SELDOM),
     Case("8 kbit/s, a pipe of 65,536 bytes", pipe=65_536, **SLOW),
     Case("8 kbit/s", **SLOW),
-    Case("8 kbit/s, `--look 100`", options=LOOKS, **SLOW),
-    Case("8 kbit/s, `--look 100 --at-once`", options=AT_ONCE, **SLOW),
+    Case("8 kbit/s, `--at-once`", options=AT_ONCE, **SLOW),
+    Case("8 kbit/s, `--look 700`", options=SELDOM, **SLOW),
     Case("32 kbit/s, a new disk", is_new=True),
     Case("32 kbit/s, all files changed", all_change=True),
 )
@@ -248,7 +247,7 @@ def judge(station, timed, expect):
 
 def longest_silence(room, program):
     """The longest time without a packet for a reader that takes each at once, while a large folder is looked at: after
-    each 700 packets, ten times."""
+    each 100 packets, seventy times."""
     folder, disk = room / "large", room / "large.disk"
     folder.mkdir()
     for it in range(FILES):
