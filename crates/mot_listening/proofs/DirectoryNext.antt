@@ -6,7 +6,6 @@ use Rattle.std.proofs.lemmas.List.Elements.{filter-append}
 use Rattle.std.proofs.Math.Nat.{mul-le-mul_right}
 use Rattle.std.proofs.lemmas.Bool.{cases_lt}
 use Rattle.std.proofs.lemmas.Grind.{div_ceil_times}
-use Rattle.std.proofs.lemmas.List.Sums.{sum_by-cons}
 use Rattle.std.proofs.lemmas.Option.{none-some, same_Some, some_pair_parts}
 use Rattle.std.specs.Prelude.{◌==◌, ◌||◌, if◌then◌else◌}
 use Rattle.std.specs.Int.{div_ceil}
@@ -17,7 +16,7 @@ use Rattle.mot_packets.specs.Cut.{piece_at}
 use Rattle.mot_packets.specs.Packet.{PacketFields}
 use Rattle.mot_player.specs.Place.{Place, Sent, Step, Request, NewTurn, Directory, Follow, UnderWay}
 use Rattle.mot_player.specs.Place.{directory_segments, first_sent, group_for, hear_directory}
-use Rattle.mot_player.specs.Place.{next_sent, of_bodies, packet_sent, packets_of_segments}
+use Rattle.mot_player.specs.Place.{next_sent, of_bodies, packet_sent}
 use Rattle.mot_player.specs.Place.{request, sent_by}
 use Rattle.mot_player.specs.Place.{to_send, with_begun}
 use Rattle.mot_player.specs.Repeats.{is_same_segment}
@@ -28,6 +27,7 @@ use Rattle.mot_player.proofs.Laws.{any-front, bodies-bodies, first_request, grou
 use Rattle.mot_player.proofs.Laws.{is_empty-append, is_last, is_more, keep_turn}
 use Rattle.mot_player.proofs.Laws.{packets_of, same-self, some-directory, some_bytes-group}
 use Rattle.mot_listening.proofs.Collected.{all-filter, all-had, had-holds}
+use Rattle.mot_listening.proofs.Counts.{packets-append, packets-bodies, packets_for}
 use Rattle.mot_listening.proofs.Heard.{Hears, IsInside, IsOnAir, hears-heard, hears-next, hears-none}
 use Rattle.mot_listening.proofs.Heard.{heard-on, sent-on}
 use Rattle.mot_listening.proofs.OfTurn.{all-of, any-append, bodies-of_turn, or-right}
@@ -38,19 +38,6 @@ use Rattle.mot_listening.proofs.OfTurn.{all-of, any-append, bodies-of_turn, or-r
 abbrev pub group_left : ℕ → Option UnderWay → ℕ
 group_left room None = 0
 group_left room (Some u) = div_ceil (length u.group - u.sent) room
-
--- how many packets the groups of segments take
-unfoldable pub packets_for : ℕ → List Segment → ℕ
-packets_for room [] = 0
-packets_for room (s ∷ segments) = div_ceil (length s.bytes + 11) room + packets_for room segments
-
-pub packets-are : (room : ℕ) (segments : List Segment) →
-    packets_for room segments ≡ packets_of_segments room segments
-unfolding packets_for
-packets-are room [] = refl
-packets-are room (s ∷ segments) =
-    ap (λ (n : ℕ). div_ceil (length s.bytes + 11) room + n) (packets-are room segments)
-    ∙ sym (sum_by-cons (λ (s : Segment). div_ceil (length s.bytes + 11) room) s segments)
 
 pub some-packets : (n room : ℕ) → 0 < room → 0 < n → 0 < div_ceil n room
 some-packets n room some more = count-cases (div_ceil n room) (div_ceil_times n room some).0
@@ -152,7 +139,7 @@ next-room place None s e = room-cases (to_send place) e
 next-room place (Some u) s e =
     ap (λ (x : Sent). x.place.room) (sym (same_Some (packet_sent place u.group u.sent) s e))
 
-room-kept : (place : Place) (s : Sent) → request place ≡ Some s → s.place.room ≡ place.room
+pub room-kept : (place : Place) (s : Sent) → request place ≡ Some s → s.place.room ≡ place.room
 room-kept place s e = next-room place place.under_way s (asked-next place s e)
 
 -- ---- segments that come next
@@ -302,28 +289,6 @@ heard-comes whole directory after place heard (others, e) =
             (sym (append-nil (of_bodies after))),
       );
     }
-
-pub packets-append : (room : ℕ) (xs ys : List Segment) →
-    packets_for room (xs ++ ys) ≡ packets_for room xs + packets_for room ys
-unfolding packets_for
-packets-append room [] ys = omega arith
-packets-append room (x ∷ xs) ys =
-    omega (arith, packets-append room xs ys)
-
-fewer-bodies : (room n k : ℕ) (b : Bool) (x : Segment) (ys : List Segment) →
-    packets_for room ys ≤ k → n ≡ div_ceil (length x.bytes + 11) room →
-    packets_for room (if b then x ∷ ys else ys) ≤ n + k
-unfolding packets_for
-fewer-bodies room n k true x ys l e = omega (arith, l, e)
-fewer-bodies room n k false x ys l e = omega (arith, l)
-
-packets-bodies : (room : ℕ) (xs : List Segment) →
-    packets_for room (of_bodies xs) ≤ packets_for room xs
-unfolding packets_for
-packets-bodies room [] = omega arith
-packets-bodies room (x ∷ xs) =
-    fewer-bodies room (div_ceil (length x.bytes + 11) room) (packets_for room xs) (x.kind == 4) x
-    (of_bodies xs) (packets-bodies room xs) refl
 
 -- the packets of the directories that are asked for among steps
 abbrev pub asked_packets : ℕ → List Step → ℕ

@@ -29,6 +29,8 @@ use Rattle.mot_player.proofs.Laws.{begun-keeps, first_request, front_of, group-i
 use Rattle.mot_player.proofs.Laws.{had-all, heard-left, is_group, keep_turn, packets_of}
 use Rattle.mot_player.proofs.Laws.{some_bytes-group}
 use Rattle.mot_listening.proofs.Collected.{all-filter, had-holds}
+use Rattle.mot_listening.proofs.Counts.{front-all, front-append, front-bodies, front-nil}
+use Rattle.mot_listening.proofs.Counts.{front-rest, front-turn, front_for, packets_for}
 
 -- of a group under way a packet was sent, and not all; and it has a segment of this size at most
 abbrev pub IsInside : (room size : ℕ) → Option UnderWay → Type 0
@@ -39,6 +41,11 @@ IsInside room size u = IfSome u (λ (u : UnderWay).
 abbrev pub AreOfTurn : ℕ → Turn → List Segment → Type 0
 AreOfTurn size turn segments = AllByRecursion (IsHad (segments_of_turn turn size)) segments
 
+-- of no body waits more than a directory
+abbrev pub IsFew : ℕ → Turn → (room : ℕ) → List Segment → Type 0
+IsFew size turn room waiting =
+    front_for room waiting ≤ packets_for room (directory_segments turn size)
+
 -- A place of a turn: all that is left behind the group under way is of the turn.
 pub record IsOnAir (size : ℕ) (turn : Turn) (place : Place) : Type 0 where
   pub room : 0 < place.room
@@ -47,6 +54,7 @@ pub record IsOnAir (size : ℕ) (turn : Turn) (place : Place) : Type 0 where
   pub keeps : KeepsIndexes place
   pub inside : IsInside place.room size place.under_way
   pub left : AreOfTurn size turn (left_of place)
+  pub few : IsFew size turn place.room place.waiting
 
 -- ---- it stays so
 
@@ -76,6 +84,7 @@ opened-on address room size turn follows some = record {
   keeps = record { directory = tt; body = tt };
   inside = tt;
   left = had-all (segments_of_turn turn size);
+  few = omega (arith, front-nil room);
 }
 
 inside-cases : (room address index at size : ℕ) (group : List ℕ) (last : Bool) →
@@ -116,8 +125,9 @@ short-turn size turn some =
 packet-on : (size : ℕ) (turn : Turn) (place : Place) (group : List ℕ) (at : ℕ) → 0 < place.room →
     length group ≤ size + 11 → place.segment_size ≡ size → place.turn ≡ turn →
     KeepsIndexes place → AreOfTurn size turn place.waiting →
+    IsFew size turn place.room place.waiting →
     IsOnAir size turn (packet_sent place group at).place
-packet-on size turn place group at some long s t keeps of_turn =
+packet-on size turn place group at some long s t keeps of_turn few =
     let sent : Sent = packet_sent place group at in record {
       room = some;
       size_is = s;
@@ -126,13 +136,15 @@ packet-on size turn place group at some long s t keeps of_turn =
       inside = inside-cases place.room place.address place.index at size group sent.packet.last
           long refl;
       left = left-on size turn sent.place sent.place.under_way s t of_turn;
+      few = few;
     }
 
 first-on : (size : ℕ) (turn : Turn) (place : Place) (segments : List Segment) (s : Sent) →
     0 < size → IsOnAir size turn place → AreOfTurn size turn segments →
-    first_sent place segments ≡ Some s → IsOnAir size turn s.place
-first-on size turn place [] s some on of_turn e = absurd (none-some s e)
-first-on size turn place (t ∷ segments) s some on of_turn e =
+    IsFew size turn place.room segments → first_sent place segments ≡ Some s →
+    IsOnAir size turn s.place
+first-on size turn place [] s some on of_turn few e = absurd (none-some s e)
+first-on size turn place (t ∷ segments) s some on of_turn few e =
     let g : GroupFields = group_for place t in
     let begun : Place = with_begun place g segments in
     let short : length t.bytes ≤ size =
@@ -142,19 +154,36 @@ first-on size turn place (t ∷ segments) s some on of_turn e =
     (same_Some (packet_sent begun (bytes_of_group g) 0) s e)
     (packet-on size turn begun (bytes_of_group g) 0 on.room
     (omega (arith, short, length-bytes_of_group g)) on.size_is on.turn_is
-    (begun-keeps place t segments on.keeps) of_turn.1)
+    (begun-keeps place t segments on.keeps) of_turn.1
+    (omega (arith, few, front-rest place.room t segments)))
+
+-- so it is of what is to be sent
+few-cases : (size : ℕ) (turn : Turn) (room : ℕ) (waiting whole : List Segment) →
+    whole ≡ segments_of_turn turn size → IsFew size turn room waiting →
+    IsFew size turn room (if is_empty waiting then whole else waiting)
+few-cases size turn room [] whole e few =
+    subst (IsFew size turn room) (sym e) (front-turn room size turn)
+few-cases size turn room (t ∷ waiting) whole e few = few
+
+pub few-to_send : (size : ℕ) (turn : Turn) (place : Place) → IsOnAir size turn place →
+    IsFew size turn place.room (to_send place)
+few-to_send size turn place on =
+    few-cases size turn place.room place.waiting
+    (segments_of_turn place.turn place.segment_size)
+    (ap (λ (n : ℕ). segments_of_turn place.turn n) on.size_is
+    ∙ ap (λ (t : Turn). segments_of_turn t size) on.turn_is) on.few
 
 next-on : (size : ℕ) (turn : Turn) (place : Place) (u : Option UnderWay) (s : Sent) → 0 < size →
     IsOnAir size turn place → IsInside place.room size u →
     AreOfTurn size turn (left_with place u) → next_sent place u ≡ Some s →
     IsOnAir size turn s.place
 next-on size turn place None s some on inside of_turn e =
-    first-on size turn place (to_send place) s some on of_turn e
+    first-on size turn place (to_send place) s some on of_turn (few-to_send size turn place on) e
 next-on size turn place (Some u) s some on inside of_turn e =
     subst (λ (x : Sent). IsOnAir size turn x.place)
     (same_Some (packet_sent place u.group u.sent) s e)
     (packet-on size turn place u.group u.sent on.room inside.2 on.size_is on.turn_is on.keeps
-    of_turn)
+    of_turn on.few)
 
 pub sent-on : (size : ℕ) (turn : Turn) (place : Place) (s : Sent) → 0 < size →
     IsOnAir size turn place → request place ≡ Some s → IsOnAir size turn s.place
@@ -175,10 +204,26 @@ heard-on size turn place some has on = record {
   left = heard-cases (heard-left place place.under_way place.waiting (is_empty place.waiting) refl
       (subst (λ (n : ℕ). 0 < n) (sym on.size_is) some)
       (subst HasDirectory (sym on.turn_is) has));
+  few = again-cases (is_empty place.waiting);
 }
   where
     directory : List Segment
     directory = directory_segments place.turn place.segment_size
+
+    again-cases : (b : Bool) → IsFew size turn place.room
+        (if b then [] else directory ++ of_bodies place.waiting)
+    again-cases true = omega (arith, front-nil place.room)
+    again-cases false =
+        let same : directory ≡ directory_segments turn size =
+        ap (λ (n : ℕ). directory_segments place.turn n) on.size_is
+        ∙ ap (λ (t : Turn). directory_segments t size) on.turn_is in
+        omega (
+          arith,
+          front-append place.room directory (of_bodies place.waiting),
+          front-bodies place.room place.waiting,
+          front-all place.room directory,
+          ap (packets_for place.room) same,
+        )
 
     directory-of : AreOfTurn size turn directory
     directory-of =

@@ -1,4 +1,5 @@
 pub mod Collected
+pub mod Counts
 pub mod DirectoryNext
 pub mod Heard
 pub mod Laws

@@ -1,5 +1,5 @@
 -- Where a changed turn is followed, all that is left behind the group under way is of the new turn.
-use Rattle.std.proofs.Common.{◌≡◌, ℕ, ◌+◌, ◌<◌, List, [], ◌∷◌, ◌++◌, Bool, true, false, not}
+use Rattle.std.proofs.Common.{◌≡◌, ℕ, ◌+◌, ◌<◌, arith, List, [], ◌∷◌, ◌++◌, Bool, true, false, not}
 use Rattle.std.proofs.Common.{refl, sym, subst, map, ap, ◌∙◌, eq-eqb}
 use Rattle.std.proofs.lemmas.List.{take-append-drop}
 use Rattle.std.proofs.lemmas.List.Elements.{filter-append}
@@ -23,7 +23,8 @@ use Rattle.mot_player.proofs.Laws.{IsHad, all-append, all-behind, all-front, bet
 use Rattle.mot_player.proofs.Laws.{between-replaced, between-same, between-withdrawn, bodies-bodies}
 use Rattle.mot_player.proofs.Laws.{followed-left, had-all, of_bodies-all, of_bodies-directory}
 use Rattle.mot_player.proofs.Laws.{others-both, renewed}
-use Rattle.mot_listening.proofs.Heard.{AreOfTurn, IsOnAir, left-on}
+use Rattle.mot_listening.proofs.Counts.{front-append, front-behind, front-none, front-turn}
+use Rattle.mot_listening.proofs.Heard.{AreOfTurn, IsFew, IsOnAir, left-on}
 
 abbrev Pair : Type 0
 Pair = ℕ × List ℕ
@@ -346,6 +347,28 @@ module _ (turn : Turn) (place : Place) (some : 0 < place.segment_size) (has : Ha
       (of_turn-bodies (early_after change place) after.0))
       (of_turn-bodies (renewed change place) after.1))
 
+  are-bodies : (segments : List Segment) → AreOfBodies own_size turn.bodies segments →
+      AllByRecursion (λ (s : Segment). s.kind ≡ 4) segments
+  are-bodies segments p =
+      all-had (λ (s : Segment). s.kind ≡ 4) (segments_of_bodies own_size turn.bodies) segments
+      (bodies-bodies own_size turn.bodies) p
+
+  follow-few : (room : ℕ) → IsFew own_size turn room (follow turn place).waiting
+  unfolding follow
+  follow-few room =
+      let change : Change = change_between place.turn.bodies turn.bodies in
+      let directory : List Segment = directory_segments turn own_size in
+      let early : List Segment = early_after change place in
+      let rest : List Segment = renewed change place in
+      let after = after-change place place.turn.bodies turn.bodies own-early own-rest
+      followable.change followable.distinct in
+      omega (
+        arith,
+        front-append room (directory ++ early) rest,
+        front-behind room directory early (are-bodies early after.0),
+        front-none room rest (are-bodies rest after.1),
+      )
+
 followed-on : (size : ℕ) (old turn : Turn) (place : Place) → 0 < size → HasDirectory turn →
     IsFollowable old turn → IsOnAir size old place → IsOnAir size turn (follow turn place)
 unfolding follow
@@ -361,6 +384,9 @@ followed-on size old turn place some has followable on =
       left = subst (λ (n : ℕ). AreOfTurn n turn (left_of (follow turn place))) on.size_is
           (follow-left turn place (subst (λ (n : ℕ). 0 < n) (sym on.size_is) some) has
           (subst (λ (t : Turn). IsFollowable t turn) (sym on.turn_is) followable) here);
+      few = subst (λ (n : ℕ). IsFew n turn place.room (follow turn place).waiting) on.size_is
+          (follow-few turn place (subst (λ (n : ℕ). 0 < n) (sym on.size_is) some) has
+          (subst (λ (t : Turn). IsFollowable t turn) (sym on.turn_is) followable) here place.room);
     }
 
 anew-on : (size : ℕ) (old turn : Turn) (place : Place) → IsOnAir size old place →
@@ -375,6 +401,8 @@ anew-on size old turn place on = record {
   left = left-on size turn (change_turn turn place) place.under_way on.size_is refl
       (subst (λ (n : ℕ). AreOfTurn size turn (segments_of_turn turn n)) (sym on.size_is)
       (had-all (segments_of_turn turn size)));
+  few = subst (λ (n : ℕ). IsFew size turn place.room (segments_of_turn turn n)) (sym on.size_is)
+      (front-turn place.room size turn);
 }
 
 change-cases : (b : Bool) (size : ℕ) (old turn : Turn) (place : Place) → 0 < size →

@@ -3,7 +3,7 @@
 use Rattle.std.proofs.Common.{◌≡◌, ℕ, ◌+◌, ◌<◌, ◌≤◌, List, [], ◌∷◌, ◌++◌, Bool, true, false}
 use Rattle.std.proofs.Common.{Option, Some, None, refl, suc, sym, subst, map, length, ap, ◌∙◌}
 use Rattle.std.specs.Int.{div_ceil}
-use Rattle.std.proofs.lemmas.List.{map-append}
+use Rattle.std.proofs.lemmas.List.{map-append, take-append-drop}
 use Rattle.std.proofs.lemmas.Option.{some_pair_parts}
 use Rattle.std.specs.Prelude.{◌==◌, ◌&&◌, IfSome, if◌then◌else◌}
 use Rattle.std.proofs.Common.{append-nil, append_assoc, arith, not}
@@ -24,7 +24,7 @@ use Rattle.mot_listening.specs.Listening.{collected, from_first}
 use Rattle.mot_listening.specs.Listening.{read_heard, segments_heard}
 use Rattle.mot_player.specs.Place.{Place, Sent, Step, Request, NewTurn, Directory, Follow, UnderWay}
 use Rattle.mot_player.specs.Place.{directory_segments, early_of, hear_directory, left_of}
-use Rattle.mot_player.specs.Place.{left_with, request, rest_of, sent_by, to_send}
+use Rattle.mot_player.specs.Place.{left_with, of_bodies, request, rest_of, sent_by, to_send}
 use Rattle.mot_player.specs.Reading.{read_segments}
 use Rattle.mot_player.specs.Repeats.{ends_at_last, had_with, is_same_segment, received}
 use Rattle.mot_player.specs.Staying.{HasDirectory}
@@ -40,8 +40,10 @@ use Rattle.mot_player.proofs.Laws.{steps-address, steps-go_on, steps-send}
 use Rattle.mot_listening.proofs.Collected.{all-filter, all-had, bodies-once, directory-collected}
 use Rattle.mot_listening.proofs.Collected.{reads-collected}
 use Rattle.mot_listening.proofs.DirectoryNext.{Comes, Gets, asked_packets, asks_once, finds, gets}
-use Rattle.mot_listening.proofs.DirectoryNext.{group_left, packets-append, packets_for, until_asked}
-use Rattle.mot_listening.proofs.Heard.{AreOfTurn, IsOnAir, heard-on, next-begins, segments_in}
+use Rattle.mot_listening.proofs.Counts.{front-all, packets-append, packets_for}
+use Rattle.mot_listening.proofs.DirectoryNext.{group_left, until_asked}
+use Rattle.mot_listening.proofs.Heard.{AreOfTurn, IsOnAir, few-to_send, heard-on, next-begins}
+use Rattle.mot_listening.proofs.Heard.{segments_in}
 use Rattle.mot_listening.proofs.Heard.{sent-on, steps-hear}
 use Rattle.mot_listening.proofs.OfTurn.{all-of, any-append, or-left, or-right}
 use Rattle.mot_listening.proofs.Rest.{IsRest, rest-to_send, to_send-on}
@@ -375,6 +377,39 @@ module _ (size : ℕ) (c : Carousel) (range : (0 < size) × (size ≤ MAX_SEGMEN
       ∙ directory-collected size laws c.directory turn.directory c.objects heard.segments
       playable.directory.some heard.of_turn heard.got
 
+  -- and each body whose segments all are among those that it has heard
+  heard-bodies : (packets : List (List ℕ)) (want : List Segment) (heard : HasHeard packets want)
+      (segments : List Segment) → AllByRecursion (IsHad heard.segments) segments →
+      HearsBodiesIn packets c size segments
+  heard-bodies packets want heard early got =
+      each-body packets heard.segments early c.objects heard.heard heard.of_turn got
+      (bodies-once size laws c.directory turn.directory c.objects heard.segments
+      (distinct-bodies c sound) (bodies-some size laws c.objects playable.bodies) heard.of_turn)
+    where
+      each-body : (packets : List (List ℕ)) (segments early : List Segment)
+          (objects : List Object) → segments_heard packets ≡ Some segments →
+          AreOfTurn size turn segments → AllByRecursion (IsHad segments) early →
+          AllByRecursion (λ (o : Object).
+          AllByRecursion (IsHad segments) (segments_of 4 o.tid size o.body) →
+          entity_of (collected segments) 4 o.tid ≡ Some o.body) objects →
+          AllByRecursion (λ (o : Object).
+          own_segments 4 o.tid early ≡ segments_of 4 o.tid size o.body →
+          HearsEntity packets 4 o.tid o.body) objects
+      each-body packets segments early [] heard of_turn got once = tt
+      each-body packets segments early (o ∷ objects) heard of_turn got once = (
+        λ e. ap (λ (found : Option (List Segment)). found >>= λ (segments : List Segment).
+            entity_of (collected segments) 4 o.tid) heard
+            ∙ once.0 (subst (AllByRecursion (IsHad segments)) e
+            (all-filter (IsHad segments) (λ (s : Segment). s.kind == 4 && s.tid == o.tid) early
+            got)),
+        each-body packets segments early objects heard of_turn got once.1,
+      )
+
+      distinct-bodies : (c : Carousel) → IsSound c → is_distinct (ids_of c.objects) ≡ true
+      distinct-bodies c sound =
+          (and_parts (not (contains (ids_of c.objects) c.directory))
+          (is_distinct (ids_of c.objects)) sound.ids).1
+
   -- A directory that is asked for is heard whole, behind the longest group and the directories that
   -- are asked for.
   pub hears-directory : (place new : Place) (steps : List Step) (sents : List Sent)
@@ -450,6 +485,52 @@ module _ (size : ℕ) (c : Carousel) (range : (0 < size) × (size ≤ MAX_SEGMEN
             (all-front (IsHad heard.segments) next front heard.got) (rest-to_send place)));
       })
 
+  -- So the packets of a directory, of the bodies that come early and of a turn are enough.
+  pub hears-settled : (place new : Place) (steps : List Step) (sents : List Sent)
+      (packets : List (List ℕ)) → IsOnAir size turn place → keep_turn steps ≡ true →
+      sent_by place steps ≡ Some (sents, new) → AreSent sents packets →
+      IsRest size turn place.early (left_of place) →
+      group_left place.room place.under_way
+      + packets_for place.room (directory_segments turn size)
+      + packets_for place.room (early_of place) + packets_for place.room whole
+      + asked_packets (packets_for place.room (directory_segments turn size)) steps
+      ≤ length sents → HearsCarousel packets c size
+  hears-settled place new steps sents packets on keep h are rest enough =
+      settled-cases (is_empty place.waiting) refl
+    where
+      left-waits : (u : Option UnderWay) → is_empty place.waiting ≡ false →
+          left_with place u ≡ to_send place
+      left-waits None e = refl
+      left-waits (Some u) e =
+          ap (λ (b : Bool). if b then segments_of_turn place.turn place.segment_size
+          else place.waiting) (sym e)
+
+      settled-cases : (b : Bool) → is_empty place.waiting ≡ b → HearsCarousel packets c size
+      settled-cases true e =
+          let next : to_send place ≡ whole =
+          ap (λ (b : Bool). if b then segments_of_turn place.turn place.segment_size
+          else place.waiting) e
+          ∙ ap (λ (n : ℕ). segments_of_turn place.turn n) on.size_is
+          ∙ ap (λ (t : Turn). segments_of_turn t size) on.turn_is in
+          heard-carousel packets
+          (hears-coming place new steps sents packets whole on keep h are
+          (whole, ap (λ (ss : List Segment). ss ++ whole) next) (had-all whole)
+          (omega (arith, enough)))
+      settled-cases false e =
+          let left : left_of place ≡ to_send place = left-waits place.under_way e in
+          let cut : of_bodies (to_send place) ≡ early_of place ++ rest_of place =
+          ap of_bodies (sym left)
+          ∙ sym (take-append-drop place.early (of_bodies (left_of place))) in
+          hears-round place new steps sents packets on keep h are rest
+          (omega (
+            arith,
+            enough,
+            front-all place.room (to_send place),
+            few-to_send size turn place on,
+            ap (packets_for place.room) cut,
+            packets-append place.room (early_of place) (rest_of place),
+          ))
+
   -- A change: the directory, and each body that comes early whole, are heard next.
   pub hears-change : (place new : Place) (steps : List Step) (sents : List Sent)
       (packets : List (List ℕ)) (others : List Segment) → IsOnAir size turn place →
@@ -475,43 +556,16 @@ module _ (size : ℕ) (c : Carousel) (range : (0 < size) × (size ≤ MAX_SEGMEN
             ∙ append_assoc (directory ++ early) others whole,
       )
       (all-front (IsHad whole) (directory ++ early) others of_turn)
-      (omega (arith, enough, packets-append place.room directory early)) in
-      let got = all-behind (IsHad heard.segments) directory early heard.got in (
+      (omega (arith, enough, packets-append place.room directory early)) in (
         heard-directory packets (record {
           segments = heard.segments;
           heard = heard.heard;
           of_turn = heard.of_turn;
           got = all-front (IsHad heard.segments) directory early heard.got;
         }),
-        each-body packets heard.segments early c.objects heard.heard heard.of_turn got
-            (bodies-once size laws c.directory turn.directory c.objects heard.segments
-            (distinct-bodies c sound) (bodies-some size laws c.objects playable.bodies)
-            heard.of_turn),
+        heard-bodies packets (directory ++ early) heard early
+            (all-behind (IsHad heard.segments) directory early heard.got),
       )
-    where
-      each-body : (packets : List (List ℕ)) (segments early : List Segment)
-          (objects : List Object) → segments_heard packets ≡ Some segments →
-          AreOfTurn size turn segments → AllByRecursion (IsHad segments) early →
-          AllByRecursion (λ (o : Object).
-          AllByRecursion (IsHad segments) (segments_of 4 o.tid size o.body) →
-          entity_of (collected segments) 4 o.tid ≡ Some o.body) objects →
-          AllByRecursion (λ (o : Object).
-          own_segments 4 o.tid early ≡ segments_of 4 o.tid size o.body →
-          HearsEntity packets 4 o.tid o.body) objects
-      each-body packets segments early [] heard of_turn got once = tt
-      each-body packets segments early (o ∷ objects) heard of_turn got once = (
-        λ e. ap (λ (found : Option (List Segment)). found >>= λ (segments : List Segment).
-            entity_of (collected segments) 4 o.tid) heard
-            ∙ once.0 (subst (AllByRecursion (IsHad segments)) e
-            (all-filter (IsHad segments) (λ (s : Segment). s.kind == 4 && s.tid == o.tid) early
-            got)),
-        each-body packets segments early objects heard of_turn got once.1,
-      )
-
-      distinct-bodies : (c : Carousel) → IsSound c → is_distinct (ids_of c.objects) ≡ true
-      distinct-bodies c sound =
-          (and_parts (not (contains (ids_of c.objects) c.directory))
-          (is_distinct (ids_of c.objects)) sound.ids).1
 
   -- where a turn has ended it is left whole
   within-ended : (place : Place) → IsOnAir size turn place → HasEnded place →
@@ -673,7 +727,15 @@ module _ (size : ℕ) (c : Carousel) (range : (0 < size) × (size ≤ MAX_SEGMEN
           steps-begin (turns ++ after) mid (others ++ more) new ended.under_way
           (keep-append turns after k1 k2) later
 
-  -- so it has the carousel, and its directory
+  -- what comes early is of the turn
+  early-on : (place : Place) → IsOnAir size turn place → AreOfTurn size turn (early_of place)
+  early-on place on =
+      let bodies : List Segment = of_bodies (left_of place) in
+      all-front (IsHad whole) (early_of place) (rest_of place)
+      (subst (AllByRecursion (IsHad whole)) (sym (take-append-drop place.early bodies))
+      (all-filter (IsHad whole) (λ (s : Segment). s.kind == 4) (left_of place) on.left))
+
+  -- so it has the carousel, its directory, and the bodies that come early
   pub hears-two_ends : (place mid end new : Place) (before turns after : List Step)
       (sents others more : List Sent) (packets : List (List ℕ)) → IsOnAir size turn place →
       keep_turn before ≡ true → keep_turn turns ≡ true → keep_turn after ≡ true →
@@ -681,6 +743,7 @@ module _ (size : ℕ) (c : Carousel) (range : (0 < size) × (size ≤ MAX_SEGMEN
       sent_by end after ≡ Some (more, new) → ends_at_last sents ≡ true →
       ends_at_last others ≡ true → AreSent (sents ++ (others ++ more)) packets →
       HearsCarousel packets c size × HearsEntity packets 6 turn.tid turn.directory
+      × HearsBodiesIn packets c size (early_of place)
   hears-two_ends place mid end new before turns after sents others more packets on k0 k1 k2 h0 h1 h2
       e0 e1 are =
       let heard = ends-heard place mid end new before turns after sents others more packets on k0 k1
@@ -693,4 +756,6 @@ module _ (size : ℕ) (c : Carousel) (range : (0 < size) × (size ≤ MAX_SEGMEN
           got = all-front (IsHad heard.segments) (directory_segments turn size)
               (segments_of_bodies size turn.bodies) heard.got;
         }),
+        heard-bodies packets whole heard (early_of place)
+            (all-had (IsHad heard.segments) whole (early_of place) heard.got (early-on place on)),
       )
