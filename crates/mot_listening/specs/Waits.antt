@@ -28,21 +28,26 @@ abbrev pub with_directories : ℕ → ℕ
 with_directories packets = div_ceil (10 * packets + 1) 9
 
 -- The directory, where no pause is longer: it may be asked for twice more, once as a turn ends.
+abbrev pub soon_for : (pause group directory : ℕ) → ℕ
+soon_for pause group directory = with_directories (pause + group + 2 * directory)
+
 abbrev pub soon_packets : (pause : ℕ) → Place → ℕ
-soon_packets pause place =
-    with_directories (pause + longest_group place + 2 * directory_packets place)
+soon_packets pause place = soon_for pause (longest_group place) (directory_packets place)
 
--- the directory of a change, and the bodies that come early with it
-abbrev pub change_packets : Place → ℕ
-change_packets place = with_directories
-    (longest_group place + early_packets place + 3 * directory_packets place)
+-- the carousel, in a turn in which no command was accepted, behind bodies that come early
+abbrev pub round_for : (group early turn directory : ℕ) → ℕ
+round_for group early turn directory = with_directories (group + early + turn + 3 * directory)
 
--- the carousel, in a turn in which no command was accepted
 abbrev pub round_packets : Place → ℕ
-round_packets place = with_directories
-    (longest_group place + early_packets place + turn_packets place + 3 * directory_packets place)
+round_packets place = round_for (longest_group place) (early_packets place) (turn_packets place)
+    (directory_packets place)
 
 -- and wherever one may have been: what is left, and one more turn
 abbrev pub all_packets : Place → ℕ
 all_packets place = with_directories
     (longest_group place + left_packets place + turn_packets place + 2 * directory_packets place)
+
+-- the directory of a change, and the bodies that come early with it
+abbrev pub change_packets : Place → ℕ
+change_packets place = with_directories
+    (longest_group place + early_packets place + 3 * directory_packets place)
