@@ -76,13 +76,13 @@ left-cases place group at true some l e = sym (is_last place group at l e)
 left-cases place group at false some l e = sym (is_more place group at some e)
 
 -- a packet, and what is left then
-record Leaves (room left : ℕ) (waiting : List Segment) (turn : Turn) (size : ℕ) (s : Sent) :
+pub record Leaves (room left : ℕ) (waiting : List Segment) (turn : Turn) (size : ℕ) (s : Sent) :
     Type 0 where
-  room_is : s.place.room ≡ room
-  left_is : suc (group_left room s.place.under_way) ≡ left
-  waiting_is : s.place.waiting ≡ waiting
-  turn_is : s.place.turn ≡ turn
-  size_is : s.place.segment_size ≡ size
+  pub room_is : s.place.room ≡ room
+  pub left_is : suc (group_left room s.place.under_way) ≡ left
+  pub waiting_is : s.place.waiting ≡ waiting
+  pub turn_is : s.place.turn ≡ turn
+  pub size_is : s.place.segment_size ≡ size
 
 packet-leaves : (place : Place) (group : List ℕ) (at : ℕ) → 0 < place.room → at < length group →
     Leaves place.room (div_ceil (length group - at) place.room) place.waiting place.turn
@@ -95,7 +95,7 @@ packet-leaves place group at some l = record {
   size_is = refl;
 }
 
-group-leaves : (place : Place) (u : UnderWay) (s : Sent) → 0 < place.room →
+pub group-leaves : (place : Place) (u : UnderWay) (s : Sent) → 0 < place.room →
     u.sent < length u.group → next_sent place (Some u) ≡ Some s →
     Leaves place.room (group_left place.room (Some u)) place.waiting place.turn
     place.segment_size s
@@ -105,7 +105,7 @@ group-leaves place u s some l e =
     (same_Some (packet_sent place u.group u.sent) s e)
     (packet-leaves place u.group u.sent some l)
 
-first-leaves : (place : Place) (t : Segment) (segments : List Segment) (s : Sent) →
+pub first-leaves : (place : Place) (t : Segment) (segments : List Segment) (s : Sent) →
     0 < place.room → first_sent place (t ∷ segments) ≡ Some s →
     Leaves place.room (div_ceil (length t.bytes + 11) place.room) segments place.turn
     place.segment_size s
@@ -120,7 +120,7 @@ first-leaves place t segments s some e =
     (packet-leaves begun (bytes_of_group g) 0 some (some_bytes-group g)))
 
 -- a request keeps the room
-asked-next : (place : Place) (s : Sent) → request place ≡ Some s →
+pub asked-next : (place : Place) (s : Sent) → request place ≡ Some s →
     next_sent place place.under_way ≡ Some s
 unfolding request
 asked-next place s e = e

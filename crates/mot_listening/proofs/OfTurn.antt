@@ -369,7 +369,7 @@ module _ (turn : Turn) (place : Place) (some : 0 < place.segment_size) (has : Ha
         front-none room rest (are-bodies rest after.1),
       )
 
-followed-on : (size : ℕ) (old turn : Turn) (place : Place) → 0 < size → HasDirectory turn →
+pub followed-on : (size : ℕ) (old turn : Turn) (place : Place) → 0 < size → HasDirectory turn →
     IsFollowable old turn → IsOnAir size old place → IsOnAir size turn (follow turn place)
 unfolding follow
 followed-on size old turn place some has followable on =

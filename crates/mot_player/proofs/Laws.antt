@@ -41,8 +41,12 @@ pub use Rattle.mot_player.proofs.FreshReads.{own-respects, own-whole, read-own, 
 pub use Rattle.mot_player.proofs.FreshTurns.{next-ended}
 pub use Rattle.mot_player.proofs.Indexes.{some_bytes-group}
 pub use Rattle.mot_player.proofs.Left.{is_empty-append, own-directory, some-directory}
+pub use Rattle.mot_player.proofs.Followed.{own-followed, place-of_gone}
+pub use Rattle.mot_player.proofs.Renewed.{AreOthers, without-place}
 pub use Rattle.mot_player.proofs.Repeated.{IsHad, any-front, had-new, heard-left, of_bodies-all}
 pub use Rattle.mot_player.proofs.Repeated.{same-self}
+pub use Rattle.mot_player.proofs.Staying.{FirstBegun, KeepsTurn, begun_none, first_begun}
+pub use Rattle.mot_player.proofs.Staying.{next-keeps, own-heard}
 pub use Rattle.mot_player.proofs.Requests.{FirstRequest, first_request, no_steps, packets_of}
 pub use Rattle.mot_player.proofs.Rounds.{group-count, is_last, is_more, kept}
 pub use Rattle.mot_player.proofs.TurnOnce.{IsWithin, bodies-bodies, front-fit, steps-send}
