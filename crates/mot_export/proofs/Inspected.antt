@@ -24,7 +24,8 @@ use Rattle.mot_player.specs.Place.{Place, directory_packets}
 use Rattle.mot_player.specs.Turn.{turn_of_carousel}
 use Rattle.mot_export.specs.Inspecting.{Inspects, IsUncounted, PrintsFigures, TellsOfDisk}
 use Rattle.mot_export.specs.Inspecting.{bytes_of_all, bytes_of_bodies, inspection_text, rates_of}
-use Rattle.mot_export.specs.Inspecting.{sizes_text, turn_lengths_text, turn_text, use_text, waits_text}
+use Rattle.mot_export.specs.Inspecting.{sizes_text, turn_lengths_text, turn_text, use_text}
+use Rattle.mot_export.specs.Inspecting.{waits_text}
 use Rattle.mot_export.specs.Inner.Inspected.{HasInspected, IsCountingFault, IsInspectingFault}
 use Rattle.mot_export.specs.Opening.{OfStanding, first_place}
 use Rattle.mot_export.proofs.Opened.{openable, read_so}

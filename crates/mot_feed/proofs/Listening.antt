@@ -734,7 +734,8 @@ module _ (limit size : ℕ) (now : Carousel) (place : Place) (before during : Li
       ∙ sym (packets-are place.room (directory_segments turn size))
 
   turn-is : turn_packets place ≡ packets_for place.room (segments_of_turn turn size)
-  turn-is = ap (packets_of_segments place.room) whole-is ∙ sym (packets-are place.room (segments_of_turn turn size))
+  turn-is = ap (packets_of_segments place.room) whole-is
+      ∙ sym (packets-are place.room (segments_of_turn turn size))
 
   count-is : length packets ≡ length (sents_in during)
   count-is = ap length w.are.bytes

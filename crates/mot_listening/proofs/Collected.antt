@@ -399,7 +399,8 @@ module _ (size : ℕ) (laws : EntityLaws size) where
       each-read objects some (each-had objects distinct (λ tid body e.
       own-among tid body (subst (λ (o : Option (List ℕ)).
       IsOwn size tid o (own_segments 4 tid (cut size objects))) e
-      (own-whole tid size (bodies_with_ids objects) (ap is_distinct (map-ids objects) ∙ distinct)))))
+      (own-whole tid size (bodies_with_ids objects)
+      (ap is_distinct (map-ids objects) ∙ distinct)))))
     where
       whole : List Segment
       whole = segments_of 6 id size bytes ++ cut size objects

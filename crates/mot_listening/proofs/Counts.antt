@@ -109,7 +109,8 @@ front-bodies room (x ∷ xs) =
 
 -- of a turn they take no more than the directory
 pub front-behind : (room : ℕ) (xs ys : List Segment) →
-    AllByRecursion (λ (s : Segment). s.kind ≡ 4) ys → front_for room (xs ++ ys) ≤ packets_for room xs
+    AllByRecursion (λ (s : Segment). s.kind ≡ 4) ys →
+    front_for room (xs ++ ys) ≤ packets_for room xs
 front-behind room xs ys k =
     omega (arith, front-append room xs ys, front-none room ys k, front-all room xs)
 

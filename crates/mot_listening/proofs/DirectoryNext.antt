@@ -1,6 +1,7 @@
 -- What comes next is heard whole: after how many packets.
 use Rattle.std.proofs.Common.{◌≡◌, ℕ, zero, suc, ◌+◌, ◌*◌, ◌-◌, ◌<◌, ◌≤◌, List, [], ◌∷◌, ◌++◌}
-use Rattle.std.proofs.Common.{Bool, true, false, Option, Some, None, inl, inr, refl, sym, subst, length}
+use Rattle.std.proofs.Common.{Bool, true, false, Option, Some, None, inl, inr, refl, sym, subst}
+use Rattle.std.proofs.Common.{length}
 use Rattle.std.proofs.Common.{ap, ◌∙◌, arith, take, drop, append-nil, append_assoc, eq-eqb}
 use Rattle.std.proofs.lemmas.List.Elements.{filter-append}
 use Rattle.std.proofs.Math.Nat.{mul-le-mul_right}
@@ -28,7 +29,8 @@ use Rattle.mot_player.proofs.Laws.{is_empty-append, is_last, is_more, keep_turn}
 use Rattle.mot_player.proofs.Laws.{packets_of, same-self, some-directory, some_bytes-group}
 use Rattle.mot_listening.proofs.Collected.{all-filter, all-had, had-holds}
 use Rattle.mot_listening.proofs.Counts.{packets-append, packets-bodies, packets_for}
-use Rattle.mot_listening.proofs.Heard.{Hears, IsInside, IsOnAir, hears-heard, hears-next, hears-none}
+use Rattle.mot_listening.proofs.Heard.{Hears, IsInside, IsOnAir, hears-heard, hears-next}
+use Rattle.mot_listening.proofs.Heard.{hears-none}
 use Rattle.mot_listening.proofs.Heard.{heard-on, sent-on}
 use Rattle.mot_listening.proofs.OfTurn.{all-of, any-append, bodies-of_turn, or-right}
 
@@ -326,7 +328,8 @@ none-under room size (Some u) some inside e =
     ))
 
 -- of a turn's segments, one of no body is the directory's
-not-both-kinds : (x : Segment) (xs ys : List Segment) → AllByRecursion (λ (s : Segment). s.kind ≡ 4) ys →
+not-both-kinds : (x : Segment) (xs ys : List Segment) →
+    AllByRecursion (λ (s : Segment). s.kind ≡ 4) ys →
     (x.kind == 4) ≡ false → IsHad (xs ++ ys) x → IsHad xs x
 not-both-kinds x xs ys k e h = both-cases (list_any (is_same_segment x) xs) refl
   where
@@ -636,7 +639,8 @@ module _ (size : ℕ) (turn : Turn) (some : 0 < size) (has : HasDirectory turn)
       subst (AllByRecursion (IsHad whole)) (sym then_comes.is)
       (all-append (IsHad whole) whole_directory (of_bodies xs ++ ys) directory-of_turn
       (all-append (IsHad whole) (of_bodies xs) ys
-      (all-filter (IsHad whole) (λ (s : Segment). s.kind == 4) xs (all-front (IsHad whole) xs ys both))
+      (all-filter (IsHad whole) (λ (s : Segment). s.kind == 4) xs
+      (all-front (IsHad whole) xs ys both))
       (all-behind (IsHad whole) xs ys both))) in
       let within : AllByRecursion (IsHad then_comes.behind) after =
       subst (AllByRecursion (IsHad then_comes.behind)) (sym then_comes.cut)

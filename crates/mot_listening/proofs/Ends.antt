@@ -12,11 +12,13 @@ use Rattle.mot_groups.specs.Group.{GroupFields, Segment, bytes_of_group}
 use Rattle.mot_numbers.specs.Reading.{is_empty}
 use Rattle.mot_objects.specs.Ids.{is_distinct}
 use Rattle.mot_player.specs.Followable.{IsFollowable, IsOneChange, put, replaced, same, withdrawn}
-use Rattle.mot_player.specs.Place.{Change, Place, Put, Replaced, Same, Sent, Step, UnderWay, Withdrawn}
+use Rattle.mot_player.specs.Place.{Change, Place, Put, Replaced, Same, Sent, Step, UnderWay}
+use Rattle.mot_player.specs.Place.{Withdrawn}
 use Rattle.mot_player.specs.Place.{Directory, Follow, NewTurn, Request, change_between}
 use Rattle.mot_player.specs.Place.{directory_segments, early_after, early_of, first_sent, follow}
 use Rattle.mot_player.specs.Place.{fresh_segments, group_for, hear_directory, in_its_place, left_of}
-use Rattle.mot_player.specs.Place.{left_with, next_sent, of_bodies, opened_place, packet_sent, request}
+use Rattle.mot_player.specs.Place.{left_with, next_sent, of_bodies, opened_place, packet_sent}
+use Rattle.mot_player.specs.Place.{request}
 use Rattle.mot_player.specs.Place.{rest_after, rest_of, sent_by, that_stay, to_send, with_begun}
 use Rattle.mot_player.specs.Staying.{HasDirectory, none_ends}
 use Rattle.mot_player.specs.Turn.{Turn, segments_of_bodies, segments_of_turn}
@@ -397,7 +399,8 @@ heard-adds : (room : ℕ) (place : Place) → 0 < place.segment_size → HasDire
     + packets_for room (directory_segments place.turn place.segment_size)
 unfolding hear_directory
 heard-adds room place some has =
-    heard-cases (heard-left place place.under_way place.waiting (is_empty place.waiting) refl some has)
+    heard-cases
+    (heard-left place place.under_way place.waiting (is_empty place.waiting) refl some has)
   where
     directory : List Segment
     directory = directory_segments place.turn place.segment_size

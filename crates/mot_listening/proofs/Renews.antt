@@ -1,5 +1,4 @@
--- What a change leaves of the rest of a turn: the end of the new turn's bodies, and no more than the
--- old rest and the new body.
+-- What a change leaves of the rest of a turn: the end of the new turn's bodies.
 use Rattle.std.proofs.Common.{◌≡◌, ℕ, ◌+◌, ◌<◌, List, [], ◌∷◌, ◌++◌, Bool, true}
 use Rattle.std.proofs.Common.{false, refl, sym, subst, map, length, ap, ◌∙◌, append-nil}
 use Rattle.std.proofs.Common.{append_assoc}
@@ -58,7 +57,8 @@ others-stay size old fresh (b ∷ bodies) o =
     (others-stay size old fresh bodies o.1)
 
 -- of all bodies
-whole-in_place : (size : ℕ) (fresh : List Segment) (before after : List Pair) (g : Pair) → 0 < size →
+whole-in_place : (size : ℕ) (fresh : List Segment) (before after : List Pair) (g : Pair) →
+    0 < size →
     0 < length g.1 → AreOthers g.0 before × AreOthers g.0 after →
     flat_map (in_its_place g.0 fresh) (segments_of_bodies size (before ++ g ∷ after))
     ≡ segments_of_bodies size before ++ (fresh ++ segments_of_bodies size after)
@@ -73,7 +73,8 @@ whole-in_place size fresh before after g some body (first, behind) =
     (others-stay size g.0 fresh before first)
     ∙ ap (λ (ss : List Segment). front ++ ss)
     (flat_map-append f own back
-    ∙ ap (λ (ss : List Segment). ss ++ flat_map f back) (place-of_gone g.0 0 size g.1 fresh some body)
+    ∙ ap (λ (ss : List Segment). ss ++ flat_map f back)
+    (place-of_gone g.0 0 size g.1 fresh some body)
     ∙ ap (λ (ss : List Segment). fresh ++ ss) (others-stay size g.0 fresh after behind))
 
 -- each body has bytes

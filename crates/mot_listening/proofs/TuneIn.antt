@@ -370,7 +370,8 @@ module _ (size : ℕ) (c : Carousel) (range : (0 < size) × (size ≤ MAX_SEGMEN
       (bodies-some size laws c.objects playable.bodies) heard.of_turn heard.got
 
   pub heard-directory : (packets : List (List ℕ)) →
-      HasHeard packets (directory_segments turn size) → HearsEntity packets 6 turn.tid turn.directory
+      HasHeard packets (directory_segments turn size) →
+      HearsEntity packets 6 turn.tid turn.directory
   heard-directory packets heard =
       ap (λ (o : Option (List Segment)). o >>= λ (segments : List Segment).
       entity_of (collected segments) 6 turn.tid) heard.heard

@@ -10,7 +10,8 @@ use Rattle.mot_groups.specs.Group.{GroupFields, Segment, bytes_of_group}
 use Rattle.mot_listening.specs.Ends.{BodiesComeWhole}
 use Rattle.mot_numbers.specs.Reading.{is_empty}
 use Rattle.mot_player.specs.Place.{Place, Sent, Step, Request, NewTurn, Directory, Follow, UnderWay}
-use Rattle.mot_player.specs.Place.{first_sent, follow, group_for, hear_directory, left_of, left_with}
+use Rattle.mot_player.specs.Place.{first_sent, follow, group_for, hear_directory, left_of}
+use Rattle.mot_player.specs.Place.{left_with}
 use Rattle.mot_player.specs.Place.{next_sent, packet_sent, request, sent_by, to_send, with_begun}
 use Rattle.mot_player.specs.Repeats.{ends_at_last}
 use Rattle.mot_player.specs.Staying.{HasDirectory, Stays, begun_by, begun_with}

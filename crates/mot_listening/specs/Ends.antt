@@ -48,8 +48,8 @@ turn_behind turn (NewTurn next ∷ steps) = turn_behind next steps
 turn_behind turn (Follow next ∷ steps) = turn_behind next steps
 turn_behind turn (step ∷ steps) = turn_behind turn steps
 
--- Of a player that follows all changes a turn ends before so many packets: the longest group's, those
--- of what is to be sent, and those that are added meanwhile.
+-- Of a player that follows all changes a turn ends before so many packets: the longest group's,
+-- those of what is to be sent, and those that are added meanwhile.
 abbrev pub TurnsEndSoon : Type 0
 TurnsEndSoon =
     (address room size : ℕ) (first : Turn) (before during : List Step) (earlier sents : List Sent)
@@ -61,9 +61,9 @@ TurnsEndSoon =
     length sents < longest_group place + left_packets place
     + added_packets room size (turn_behind first before) during
 
--- Up to the packet that ends a turn, each body that stays is begun and sent with all of its segments
--- that are left, in their order, whatever directories and changes come between: from the beginning
--- of the turn on, the whole body.
+-- Up to the packet that ends a turn, each body that stays is sent with all of its segments that are
+-- left, in their order and each once, whatever directories and changes come between: from the
+-- beginning of the turn on, the whole body.
 abbrev pub BodiesComeWhole : Type 0
 BodiesComeWhole =
     (place new : Place) (steps : List Step) (sents : List Sent) (begun : List Segment) (id : ℕ) →

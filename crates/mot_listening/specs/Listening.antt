@@ -40,9 +40,9 @@ in_order (suc count) number segments =
 abbrev pub collected : List Segment → List Segment
 collected segments = in_order (suc (highest segments)) 0 (received [] segments)
 
--- What a receiver reads that heard these packets, whole groups or not: a directory, each object that
--- it lists, and no other segment. Two segments that differ in more than their type, id and number
--- are no entity's.
+-- What a receiver reads that heard these packets, whole groups or not: a directory, each object
+-- that it lists, and no other segment. Two segments that differ in more than their type, id and
+-- number are no entity's.
 unfoldable pub read_heard : List (List ℕ) → Option TurnFields
 read_heard packets = segments_heard packets >>= λ segments. read_segments (collected segments)
 

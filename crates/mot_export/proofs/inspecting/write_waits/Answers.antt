@@ -4,7 +4,6 @@ use Rattle.std.proofs.lemmas.Result.{on_ok_weaker}
 use Rattle.std.specs.Io.KnownBytes.{Appends}
 use Rattle.std.specs.Prelude.{codes, ◌++◌}
 use Rattle.mot_export.specs.Inspecting.{heard_line, number_line, usually_heard, waits_text}
-use Rattle.mot_listening.specs.Waits.{round_for}
 use Rattle.mot_export.proofs.inspecting.write_waits.Goals as goal
 
 pub returns : goal.returns
