@@ -33,6 +33,22 @@ def lengths_told(groups, segment, rates):
     return lines + [seconds(rate) for rate in rates]
 
 
+def waits_told(groups, segment, length):
+    """What `inspect` prints of how long a receiver has to listen: to a turn of these groups, in packets of this length."""
+    def packets(size):
+        return len(dab.cut_lengths(size, length))
+
+    def with_directories(count):
+        return -(-(10 * count + 1) // 9)
+
+    longest = packets(segment + 11)
+    directory = sum(packets(len(it)) for it in groups if it[0] & 15 == dab.DIRECTORY)
+    turn = sum(packets(len(it)) for it in groups)
+    carousel = with_directories(longest + turn + 3 * directory)
+    soon = min(carousel, with_directories(max(340, 10 * directory) + longest + 2 * directory))
+    return [f"group {longest}", f"directory {directory}", f"heard {soon} directory {carousel} carousel"]
+
+
 class Inspect(AirCase):
     """What is printed of a disk is what its lines show, and of a turn what its packets do."""
 
@@ -45,6 +61,9 @@ class Inspect(AirCase):
         """The packets of the first turn, and the sizes of its groups."""
         packets = self.turns(disk, 1)
         return packets, [len(it.bytes) for it in dab.groups_of(packets)]
+
+    def waits(self, disk, segment, length):
+        return waits_told([it.bytes for it in dab.groups_of(self.turns(disk, 1))], segment, length)
 
     def expect_cut(self, row, disk, length):
         packets, groups = self.turn(disk)
@@ -61,7 +80,7 @@ class Inspect(AirCase):
         before, groups = self.place.read_bytes(), self.turn(self.place)[1]
         self.expect_cut("packets are cut as they are counted", self.place, 96)
         status, printed, said = self.motcar("inspect", self.place)
-        wanted = self.first_lines() + lengths_told(groups, 1024, USUAL)
+        wanted = self.first_lines() + lengths_told(groups, 1024, USUAL) + self.waits(self.place, 1024, 96)
         self.expect("a disk inspected", (0, wanted, b""), (status, printed.decode().splitlines(), said))
         self.expect("stays as it was", before, self.place.read_bytes())
         self.expect("and has so many slots left", b"done", self.serve(self.place, "period 1\n")[1][:4])
@@ -71,7 +90,7 @@ class Inspect(AirCase):
         groups = self.turn(self.place)[1]
         for rate in (8, 72, 1824):
             status, printed, said = self.motcar("inspect", self.place, "--rate", str(rate))
-            wanted = self.first_lines() + lengths_told(groups, 1024, [rate])
+            wanted = self.first_lines() + lengths_told(groups, 1024, [rate]) + self.waits(self.place, 1024, 96)
             self.expect(f"at {rate} kbit/s", (0, wanted, b""), (status, printed.decode().splitlines(), said))
         for rate in ("0", "7", "12", "1832", "4294967295"):
             wanted = refused(8, "BadNumber", f"--rate {rate}: a multiple of 8, 8 to 1824")
@@ -83,7 +102,8 @@ class Inspect(AirCase):
         self.serve(small, [f"put o{it} 1 0 - {'5a' * 90}" for it in range(40)])
         self.expect_cut("short packets are cut as they are counted", small, 24)
         printed = self.motcar("inspect", small)[1].decode().splitlines()
-        self.expect("small objects", lengths_told(self.turn(small)[1], 64, USUAL), printed[8:])
+        wanted = lengths_told(self.turn(small)[1], 64, USUAL) + self.waits(small, 64, 24)
+        self.expect("small objects", wanted, printed[8:])
 
     def test_a_full_output(self):
         wanted = 1, b"", b"motcar: 23 WriteFault\n"

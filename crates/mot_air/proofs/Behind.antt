@@ -131,6 +131,8 @@ module _ (start mid now : State) (opens : OnlySyncs start mid)
     are = is.are;
     continuous = is.continuous;
     turns_read = is.turns_read;
+    often = is.often;
+    listens = is.listens;
   }
 
 -- what is played of it is played of it as it was before

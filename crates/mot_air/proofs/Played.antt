@@ -1,6 +1,6 @@
 -- Playing a disk, from its opening on.
-use Rattle.std.proofs.Common.{◌≡◌, ◌<◌, arith, ℕ, Bool, true, List, Option}
-use Rattle.std.proofs.Common.{Result, Ok, Err, inl, inr, subst, sym, ◌++◌}
+use Rattle.std.proofs.Common.{◌≡◌, ◌∙◌, ◌<◌, arith, ℕ, Bool, true, List, Option, Some}
+use Rattle.std.proofs.Common.{Result, Ok, Err, ap, append_assoc, inl, inr, subst, sym, ◌++◌}
 use Rattle.std.specs.Prelude.{IsFalse, OnOk, IfErr, MatchResult}
 use Rattle.std.proofs.lemmas.Bool.Decides.{nat_tests}
 use Rattle.disk_model.proofs.Laws.{keeps_on}
@@ -12,7 +12,8 @@ use Rattle.mot_endpoints.specs.declared.packets.Target.{Target}
 use Rattle.mot_feed.specs.Feeding.{AreOf, AreTold, Event, FedPacketsAreContinuous}
 use Rattle.mot_feed.specs.Feeding.{Feeds, Happen, HasFed, IsFeedFault, RulesAreKept, Stage}
 use Rattle.mot_feed.specs.Feeding.{fault_at}
-use Rattle.mot_feed.specs.Often.{place_for, server_for}
+use Rattle.mot_feed.specs.Listening.{ListenersHear}
+use Rattle.mot_feed.specs.Often.{IsOften, is_often, place_for, server_for}
 use Rattle.mot_feed.specs.OnAir.{ChangedTurnsOnAirRead, TurnsOnAirRead}
 use Rattle.mot_journal.specs.Image.{Standing}
 use Rattle.mot_numbers.specs.Geometry.{IsValid, packet_room}
@@ -24,7 +25,7 @@ use Rattle.mot_objects.specs.declared.command.Command.{Command}
 use Rattle.mot_player.specs.Place.{Place}
 use Rattle.mot_player.specs.Turn.{turn_of_carousel}
 use Rattle.mot_export.proofs.Laws.{AllAre, all_hold, openable}
-use Rattle.mot_feed.proofs.Laws.{rules_behind, rules_of_turn}
+use Rattle.mot_feed.proofs.Laws.{often-front, rules_behind, rules_of_turn, rules_of_window}
 use Rattle.mot_export.specs.Opening.{IsOpenable, first_place}
 use Rattle.mot_repository.proofs.Laws.{standings-are_sound}
 use Rattle.mot_repository.specs.Opening.{IsOpened}
@@ -55,7 +56,7 @@ module _ {D : Type 0} (state : D → State) (disk : D) (server new : ServerView 
     (valid : is_valid server.view.journal.geometry ≡ true)
     (keeps : KeepsLength (state server.disk) (state new.disk))
     (continuous : FedPacketsAreContinuous) (turns_read : TurnsOnAirRead)
-    (changed_read : ChangedTurnsOnAirRead) where
+    (changed_read : ChangedTurnsOnAirRead) (listeners : ListenersHear) where
   holds_opened : (s : Standing) → (state new.disk).IsHonest → AllAre s (state disk)
       → Holds server.view s (state server.disk)
   holds_opened s honest all =
@@ -102,8 +103,9 @@ module _ {D : Type 0} (state : D → State) (disk : D) (server new : ServerView 
         → AreOf events packets
         → AreTold tells (look_of_feed how) s.geometry.objects first s.carousel stage events commands
         marks last fed.leaves.last.carousel
+        → (0 < how.directory → IsOften how.directory events)
         → HasAired s tale how stage events packets (state disk) (state new.disk)
-    has_played s stage events commands marks packets honest all fed are told =
+    has_played s stage events commands marks packets honest all fed are told often =
         let was = keeps.was_honest honest in
         let holds = holds_opened s honest all in
         let made : Standing = fed.leaves.last in
@@ -149,6 +151,33 @@ module _ {D : Type 0} (state : D → State) (disk : D) (server new : ServerView 
                     is_valid.1 (is_valid.4, is_valid.5) (room s holds.agrees)
                     (sound_carousel s honest all) came ended rules goes is_one are_of),
               );
+          often = often;
+          listens = λ before during others all_of c then place after of came goes quiet are_of some.
+              let is_valid = sizes s holds.agrees in
+              let limit = s.geometry.objects in
+              let rules = rules_of_window limit c during others of quiet are_of some
+              (rules_behind limit s.geometry.segment s.carousel c
+              (place_for how.directory (first_place s)) place before (during ++ others)
+              (subst (λ l. RulesAreKept limit s.carousel l) (sym all_of) fed.rules) came) in
+              listeners limit s.geometry.segment how.directory c place before during of (record {
+                first = s.carousel;
+                address = s.geometry.address;
+                room = packet_room s.geometry;
+                follows = (place_for how.directory (first_place s)).follows;
+                few = is_valid.1;
+                range = (is_valid.4, is_valid.5);
+                some = room s holds.agrees;
+                sound = sound_carousel s honest all;
+                came = came;
+                rules = rules;
+                last = then;
+                new = after;
+                happened = goes;
+                quiet = quiet;
+                are = are_of;
+              }) (λ asked. often-front how.directory true (Some 0) (before ++ during) others
+              (ap (λ (es : List Event). is_often how.directory true (Some 0) es)
+              (append_assoc before during others ∙ all_of) ∙ often asked));
         }
 
     -- what is fed of an open server plays the disk, from its opening on, up to the feed's ending
@@ -156,8 +185,9 @@ module _ {D : Type 0} (state : D → State) (disk : D) (server new : ServerView 
         → OnOk result (StaysCalm server new (state server.disk) (state new.disk))
         → IfErr result (λ r. IsFeedFault server (state server.disk) (state new.disk) r)
         → ((s : Standing) → Holds server.view s (state server.disk) → (state new.disk).IsHonest
-        → Feeds tells (look_of_feed how) how.turns (fault_of result) first last
+        → (feeds : Feeds tells (look_of_feed how) how.turns (fault_of result) first last
         (server_for how.directory server) new (state server.disk) (state new.disk) s before after)
+        × (0 < how.directory → IsOften how.directory feeds.events))
         → Plays tale how (fault_of result) before after (state disk) (state new.disk)
     plays before after result stays why feeds = record {
       keeps = keeps_from;
@@ -166,14 +196,15 @@ module _ {D : Type 0} (state : D → State) (disk : D) (server new : ServerView 
         ends_off server new (state disk) (state server.disk) (state new.disk) result going calm
             (both (StaysCalm server new (state server.disk) (state new.disk))
             (λ r. IsFeedFault server (state server.disk) (state new.disk) r) result stays why),
-        λ s honest all. let fed = feeds s (holds_opened s honest all) honest in record {
-          stage = fed.stage;
-          events = fed.events;
-          packets = fed.packets;
-          played = has_played s fed.stage fed.events fed.commands fed.marks fed.packets honest all
-              fed.fed fed.are fed.told;
-          ends = fed.ends;
-        },
+        λ s honest all. let found = feeds s (holds_opened s honest all) honest in
+            let fed = found.0 in record {
+              stage = fed.stage;
+              events = fed.events;
+              packets = fed.packets;
+              played = has_played s fed.stage fed.events fed.commands fed.marks fed.packets honest
+                  all fed.fed fed.are fed.told found.1;
+              ends = fed.ends;
+            },
       );
     }
 

@@ -94,6 +94,8 @@ module _ (tale other : Tale) (retells : Retells tale other) (how : Manner) where
     are = is.are;
     continuous = is.continuous;
     turns_read = is.turns_read;
+    often = is.often;
+    listens = is.listens;
   }
 
   pub plays_as : (ending : Option Refusal) (before after : Option (List (List ℕ)))

@@ -1,12 +1,13 @@
 -- What playing a disk writes, and what it leaves of the disk.
-use Rattle.std.specs.Prelude.{◌≡◌, ℕ, min, Bool, true, false, List, [], ◌++◌, Option}
+use Rattle.std.specs.Prelude.{◌≡◌, ℕ, ◌<◌, min, Bool, true, false, List, [], ◌++◌, length, Option}
 use Rattle.std.specs.Option.{option_map_or}
 use Rattle.disk_model.specs.Disk.{State}
 use Rattle.mot_air.specs.Opening.{EndsBy, Leaves}
 use Rattle.mot_feed.specs.Feeding.{AreOf, AreTold, EndsFeed, Event, Happen, Stage}
 use Rattle.mot_feed.specs.Feeding.{commands_among, fault_at, is_between_turns}
 use Rattle.mot_feed.specs.Feeding.Stage.{Ready}
-use Rattle.mot_feed.specs.Often.{look_in, place_for}
+use Rattle.mot_feed.specs.Listening.{IsHeard, IsHeardInTime, is_quiet}
+use Rattle.mot_feed.specs.Often.{IsOften, look_in, place_for}
 use Rattle.mot_feed.specs.OnAir.{asks, begins_turn, is_turn}
 use Rattle.mot_journal.specs.Image.{Standing}
 use Rattle.mot_numbers.specs.Refusal.{is_device_fault}
@@ -63,6 +64,19 @@ TurnReads s how before during =
     → ReadAsTurn (asks during) packets c s.geometry.segment)
     × (is_between_turns true before ≡ true → ReadsOnceAs packets c s.geometry.segment)
 
+-- Who begins to listen behind these events of a server just opened at any packet, and hears the
+-- packets of these, among which no command is accepted, has what is on air.
+abbrev pub Listens : Standing → Manner → (before during : List Event) → Type 0
+Listens s how before during =
+    (c made : Carousel) (place new : Place) (packets : List (List ℕ))
+    → Happen s.geometry.objects s.geometry.segment s.carousel
+    (place_for how.directory (first_place s)) before c place
+    → Happen s.geometry.objects s.geometry.segment c place during made new
+    → is_quiet during ≡ true → AreOf during packets → 0 < length packets
+    → IsHeard how.directory s.geometry.segment c place before during packets
+    × (0 < how.directory
+    → IsHeardInTime how.directory s.geometry.segment c place before during packets)
+
 -- These happened on a server that was opened of a disk that stood for s: the commands, of which
 -- this is told, left this of the disk, and the packets are these, with their continuity indexes.
 pub record HasAired (s : Standing) (tale : Tale) (how : Manner) (stage : Stage)
@@ -84,6 +98,10 @@ pub record HasAired (s : Standing) (tale : Tale) (how : Manner) (stage : Stage)
   pub continuous : IsContinuous packets
   pub turns_read : (before during others : List Event) → before ++ (during ++ others) ≡ events
       → TurnReads s how before during
+  -- the directory is asked for often, and who listens from any packet on has what is on air
+  pub often : 0 < how.directory → IsOften how.directory events
+  pub listens : (before during others : List Event) → before ++ (during ++ others) ≡ events
+      → Listens s how before during
 
 -- The packets were written up to this ending: where a write failed, the last of them is cut or
 -- missing, and no command was in flight.

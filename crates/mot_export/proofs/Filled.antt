@@ -6,9 +6,9 @@ use Rattle.std.proofs.Common.{inl, inr}
 use Rattle.std.proofs.Math.Nat.{mul-le-mul_right}
 use Rattle.std.proofs.lemmas.Bool.{cases_lt}
 use Rattle.std.proofs.lemmas.Grind.{div_ceil_times}
-use Rattle.std.proofs.lemmas.List.{length-drop, length-replicate, length-take}
+use Rattle.std.proofs.lemmas.List.{length-append, length-drop, length-replicate, length-take}
 use Rattle.std.proofs.lemmas.List.Concat.{flat_map-append}
-use Rattle.std.proofs.lemmas.List.Sums.{fold-append}
+use Rattle.std.proofs.lemmas.List.Sums.{fold-append, sum_by-cons}
 use Rattle.std.specs.Prelude.{flat_map}
 use Rattle.std.specs.Int.{div_ceil}
 use Rattle.std.specs.List.{fold}
@@ -21,6 +21,7 @@ use Rattle.mot_objects.specs.declared.carousel.Carousel.{Carousel}
 use Rattle.mot_objects.specs.declared.object.Object.{Object}
 use Rattle.mot_packets.specs.Cut.{pieces_from}
 use Rattle.mot_packets.specs.Packet.{PacketFields}
+use Rattle.mot_player.specs.Place.{packets_of_segments}
 use Rattle.mot_player.specs.Turn.{Turn, bodies_with_ids, segments_of_bodies, turn_of_carousel}
 use Rattle.mot_export.specs.Filling.{lengths_of_group, lengths_of_segments, lengths_of_turn}
 use Rattle.mot_export.specs.Inspecting.{seconds_line}
@@ -52,6 +53,22 @@ group-lengths room n =
     pieces-lengths (div_ceil (length (replicate n 0)) room) room 0 (replicate n 0) 0
     ∙ ap (λ m. packet_lengths (div_ceil m room) room (m - 0)) zeros
     ∙ ap (packet_lengths (div_ceil n room) room) (minus-zero n)
+
+-- as many as the group has
+count-lengths : (n room rest : ℕ) → length (packet_lengths n room rest) ≡ n
+count-lengths zero room rest = refl
+count-lengths (suc n) room rest = ap suc (count-lengths n room (rest - room))
+
+pub count-segments : (room : ℕ) (segments : List Segment)
+    → length (lengths_of_segments room segments) ≡ packets_of_segments room segments
+count-segments room [] = refl
+count-segments room (s ∷ segments) =
+    let bytes : ℕ = length s.bytes + 11 in
+    length-append (lengths_of_group room bytes) (lengths_of_segments room segments)
+    ∙ ap (λ n. n + length (lengths_of_segments room segments))
+    (ap length (group-lengths room bytes) ∙ count-lengths (div_ceil bytes room) room bytes)
+    ∙ ap (λ n. div_ceil bytes room + n) (count-segments room segments)
+    ∙ sym (sum_by-cons (λ (s : Segment). div_ceil (length s.bytes + 11) room) s segments)
 
 segments-lengths : (n room size kind tid number : ℕ) (bytes : List ℕ)
     → lengths_of_segments room (numbered_segments kind tid number (first_pieces n size bytes))

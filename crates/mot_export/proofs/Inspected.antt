@@ -3,12 +3,15 @@ use Rattle.std.proofs.Common.{◌≡◌, ◌∙◌, ◌⊎◌, ℕ, suc, ◌+◌
 use Rattle.std.proofs.Common.{Some, Result, Ok, Err, refl, sym, ap, subst, arith, inl, inr}
 use Rattle.std.proofs.lemmas.List.Sums.{sum_by-append}
 use Rattle.std.specs.Prelude.{IfErr, IsFalse, OnOk}
+use Rattle.std.specs.Int.{div_ceil}
 use Rattle.std.specs.List.{fold, sum_by}
 use Rattle.std.specs.Io.KnownBytes.{Appends, Keeps}
 use Rattle.disk_model.specs.Disk.{IsHonestDisk, State, OnlyReads, OnlySyncs}
 use Rattle.disk_model.specs.Failures.{Rises}
 use Rattle.mot_journal.specs.Image.{Standing, stands_for}
 use Rattle.mot_journal.specs.Journal.{with_records}
+use Rattle.mot_journal.specs.declared.layout.Layout.{Layout}
+use Rattle.mot_numbers.specs.Geometry.{packet_room}
 use Rattle.mot_numbers.specs.declared.geometry.Geometry.{Geometry}
 use Rattle.mot_numbers.specs.declared.refusal.Refusal.{Refusal}
 use Rattle.mot_numbers.specs.declared.refusal.Refusal.TheVariants.{BadNumber, OutOfMemory}
@@ -17,11 +20,12 @@ use Rattle.mot_objects.specs.Carousel.{Object}
 use Rattle.mot_objects.specs.Carousel as whole
 use Rattle.mot_objects.specs.declared.object.Object as beside
 use Rattle.mot_objects.specs.Stands.{carousel_of, objects_of}
-use Rattle.mot_player.specs.Place.{Place}
+use Rattle.mot_player.specs.Place.{Place, directory_packets}
 use Rattle.mot_player.specs.Turn.{turn_of_carousel}
 use Rattle.mot_export.specs.Inspecting.{Inspects, IsUncounted, PrintsFigures, TellsOfDisk}
 use Rattle.mot_export.specs.Inspecting.{bytes_of_all, bytes_of_bodies, inspection_text, rates_of}
 use Rattle.mot_export.specs.Inspecting.{sizes_text, turn_lengths_text, turn_text, use_text}
+use Rattle.mot_export.specs.Inspecting.{waits_text}
 use Rattle.mot_export.specs.Inner.Inspected.{HasInspected, IsCountingFault, IsInspectingFault}
 use Rattle.mot_export.specs.Opening.{OfStanding, first_place}
 use Rattle.mot_export.proofs.Opened.{openable, read_so}
@@ -75,6 +79,27 @@ same_text : (text : Geometry → Geometry → ℕ → ℕ → ℕ → ℕ → Ge
     → text a b n u k m e c ≡ text g g n' u' k' m' g c'
 same_text text a b e g n n' u u' k k' m m' c c' first second ns us ks ms third cs = cc
 
+-- what is told in front of how long a receiver has to listen
+abbrev pub front_text : Standing → Layout → (records gap : ℕ) → List (List ℕ) → List ℕ → List ℕ
+front_text s layout records gap packets rates =
+    sizes_text s.geometry
+    ++ use_text s.geometry layout (length s.carousel.objects) (bytes_of_bodies s.carousel.objects)
+    gap records
+    ++ turn_text (length packets) (bytes_of_all packets)
+    ++ turn_lengths_text rates s.geometry.segment
+    (turn_of_carousel s.carousel s.geometry.segment)
+
+-- and that
+pub waits_so : (front : List ℕ) (a b g : Geometry) (d directory t turn : ℕ) → a ≡ b → b ≡ g
+    → d ≡ directory → t ≡ turn
+    → front ++ waits_text (div_ceil (a.segment + 11) (packet_room a)) d t
+    ≡ front ++ waits_text (div_ceil (g.segment + 11) (packet_room g)) directory turn
+waits_so front a b g d directory t turn first then ds ts =
+    ap (λ (h : Geometry). front ++ waits_text (div_ceil (h.segment + 11) (packet_room h)) d t)
+    (first ∙ then)
+    ∙ ap (λ n. front ++ waits_text (div_ceil (g.segment + 11) (packet_room g)) n t) ds
+    ∙ ap (λ n. front ++ waits_text (div_ceil (g.segment + 11) (packet_room g)) directory n) ts
+
 module _ (view : RepositoryView) (s : Standing) (agrees : Agrees view s) where
   abbrev items : List beside.Object
   items = view.carousel.objects.items
@@ -97,7 +122,7 @@ module _ (view : RepositoryView) (s : Standing) (agrees : Agrees view s) where
       ++ turn_text count bytes ++ turn_lengths_text rates view.journal.geometry.segment
       (turn_of_carousel (carousel_of view.carousel agrees.bodies)
       view.journal.geometry.segment)
-      ≡ inspection_text s view.journal.layout view.journal.count gap packets rates
+      ≡ front_text s view.journal.layout view.journal.count gap packets rates
   told_text g gap count bytes packets rates sizes counted all =
       same_text (λ a b n u k m e c. sizes_text a
       ++ use_text b view.journal.layout n u gap view.journal.count
@@ -145,10 +170,12 @@ module _ {D : Type 0} (state : D → State) (disk : D) (server new : ServerView 
         place = so.last;
         turn = subst (λ (p : Place). HasPlayedTurn p so.packets so.last)
             (at_start s is.agrees) so.turn;
-        printed = subst (λ n. is_printed
-            (inspection_text s server.view.journal.layout n so.gap so.packets (rates_of rate)))
-            first.count
-            so.printed;
+        printed = subst (λ (p : Place). is_printed (inspection_text s server.view.journal.layout
+            (length first.records) so.gap so.packets (directory_packets p) (rates_of rate)))
+            (at_start s is.agrees)
+            (subst (λ n. is_printed (inspection_text s server.view.journal.layout n so.gap
+            so.packets (directory_packets (place_in server s)) (rates_of rate))) first.count
+            so.printed);
       }
 
   -- this ended it

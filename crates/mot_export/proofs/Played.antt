@@ -4,7 +4,7 @@ use Rattle.std.proofs.Common.{inl, inr, Bool, true, false, ◌&&◌, Option, Som
 use Rattle.std.proofs.Common.{replicate, refl, sym, ap, subst, arith, add-one, length-append}
 use Rattle.std.proofs.Math.Nat.{mul-le-mul_right}
 use Rattle.std.proofs.lemmas.Bool.{cases_lt, leb-false, leb-true}
-use Rattle.std.proofs.lemmas.List.{length-drop, length-replicate, length-take}
+use Rattle.std.proofs.lemmas.List.{length-drop, length-map, length-replicate, length-take}
 use Rattle.std.proofs.lemmas.Option.{none-some, same_Some, some_pair_parts}
 use Rattle.std.specs.Prelude.{IfSome, if◌then◌else◌, nat_le}
 use Rattle.std.specs.Int.{to_be_bytes, w16}
@@ -20,7 +20,9 @@ use Rattle.mot_player.specs.Place.{Place, Request, Sent, Step, UnderWay, first_s
 use Rattle.mot_player.specs.Place.{next_sent, packet_sent, request, sent_by, to_send, with_begun}
 use Rattle.mot_player.specs.Sending.{packets_sent}
 use Rattle.mot_player.specs.Turn.{segments_of_turn}
+use Rattle.mot_export.proofs.Filled.{count-segments}
 use Rattle.mot_export.specs.Filling.{TurnsHaveTheirLengths, lengths_of_segments}
+use Rattle.mot_export.specs.Inspecting.{TurnsHaveTheirPackets}
 use Rattle.mot_export.specs.Inner.Lengths.{group_lengths, packet_length, packet_lengths}
 use Rattle.mot_export.proofs.Filled.{group-lengths}
 
@@ -344,3 +346,10 @@ turns-have-their-lengths place new packets some short is turn =
     turn.ends
     ∙ ap (due place) is.under_way
     ∙ ap (lengths_of_segments place.room) (to-send place is)
+
+-- so they are as many as its groups take
+pub turns-have-their-packets : TurnsHaveTheirPackets
+turns-have-their-packets place new packets some short is turn =
+    sym (length-map packets (λ (p : List ℕ). length p))
+    ∙ ap (length {A = ℕ}) (turns-have-their-lengths place new packets some short is turn)
+    ∙ count-segments place.room (segments_of_turn place.turn place.segment_size)

@@ -1,7 +1,7 @@
 -- The lines about a disk's sizes, what is free of them, and its turn.
 use Rattle.std.specs.Prelude.{◌≡◌, ◌⊎◌, ℕ, ◌+◌, ◌-◌, ◌*◌, ◌/◌, ◌%◌, ◌&&◌, nat_le, if◌then◌else◌}
 use Rattle.std.specs.Prelude.{List, [], ◌∷◌, ◌++◌, length, flat_map, Option, Some, None, IsSomeAnd}
-use Rattle.std.specs.Prelude.{◌≤◌, Ok, codes}
+use Rattle.std.specs.Prelude.{◌<◌, ◌≤◌, Ok, codes, max, min}
 use Rattle.std.specs.Fmt.{decimal}
 use Rattle.std.specs.List.{sum_by}
 use Rattle.std.specs.Io.KnownBytes.{Appends, Keeps}
@@ -16,7 +16,9 @@ use Rattle.mot_numbers.specs.declared.refusal.Refusal.{Refusal}
 use Rattle.mot_numbers.specs.declared.refusal.Refusal.TheVariants.{BadNumber, DeviceFault}
 use Rattle.mot_numbers.specs.declared.refusal.Refusal.TheVariants.{OutOfMemory, WriteFault}
 use Rattle.mot_objects.specs.Carousel.{Object}
-use Rattle.mot_player.specs.Place.{Place}
+use Rattle.mot_listening.specs.Waits.{longest_group, round_for, soon_for, turn_packets}
+use Rattle.mot_player.specs.Laws.{IsAtTurnsBeginning}
+use Rattle.mot_player.specs.Place.{Place, directory_packets}
 use Rattle.mot_player.specs.Turn.{Turn, turn_of_carousel}
 use Rattle.mot_export.specs.Filling.{frame_size, frames_of, lengths_of_turn, tenths_of}
 use Rattle.mot_export.specs.declared.filling.Frames.{Frames}
@@ -122,15 +124,47 @@ turn_lengths_text rates size turn =
     lengths_text rates size (lengths_of_turn 19 size turn) (lengths_of_turn 43 size turn)
     (lengths_of_turn 67 size turn) (lengths_of_turn 91 size turn)
 
--- all that is told, with the longest gap, the packets of a turn, and the rates of sub-channels
-abbrev pub inspection_text : Standing → Layout → ℕ → ℕ → List (List ℕ) → List ℕ → List ℕ
-inspection_text s layout records gap packets rates =
+-- after how many packets `play` sends the directory again, if it is not told otherwise
+abbrev pub usual_pause : ℕ
+usual_pause = 340
+
+-- the directory is heard after so many packets, as it usually is sent again, or with the carousel
+abbrev pub usually_heard : (group directory turn : ℕ) → ℕ
+usually_heard group directory turn =
+    min (soon_for (max usual_pause (10 * directory)) group directory)
+    (round_for group 0 turn directory)
+
+abbrev pub heard_line : (directory carousel : ℕ) → List ℕ
+heard_line directory carousel =
+    codes "heard " ++ decimal directory ++ codes " directory " ++ decimal carousel
+    ++ codes " carousel" ++ 10 ∷ []
+
+-- After how many packets at most a receiver that begins to listen at any packet has the directory,
+-- and the carousel, if no command is accepted.
+abbrev pub waits_text : (group directory turn : ℕ) → List ℕ
+waits_text group directory turn =
+    number_line (codes "group") group ++ number_line (codes "directory") directory
+    ++ heard_line (usually_heard group directory turn) (round_for group 0 turn directory)
+
+-- The packets of a turn that is played from its beginning are as many as its groups take.
+abbrev pub TurnsHaveTheirPackets : Type 0
+TurnsHaveTheirPackets =
+    (place new : Place) (packets : List (List ℕ)) → 0 < place.room → place.room ≤ 91
+    → IsAtTurnsBeginning place → HasPlayedTurn place packets new
+    → length packets ≡ turn_packets place
+
+-- all that is told, with the longest gap, the packets of a turn, those of its directory, and the
+-- rates of sub-channels
+abbrev pub inspection_text : Standing → Layout → (records gap : ℕ) → List (List ℕ)
+    → (directory : ℕ) → List ℕ → List ℕ
+inspection_text s layout records gap packets directory rates =
     sizes_text s.geometry
     ++ use_text s.geometry layout (length s.carousel.objects) (bytes_of_bodies s.carousel.objects)
     gap records
     ++ turn_text (length packets) (bytes_of_all packets)
     ++ turn_lengths_text rates s.geometry.segment
     (turn_of_carousel s.carousel s.geometry.segment)
+    ++ waits_text (longest_group (first_place s)) directory (length packets)
 
 -- In these the disk was in a state start and is in a state now, and the writer's known bytes were
 -- old and are new.
@@ -146,7 +180,7 @@ pub record TellsOfDisk (rates : List ℕ) (s : Standing) (bytes : List ℕ)
   pub place : Place
   pub turn : HasPlayedTurn (first_place s) packets place
   pub printed : is_printed (inspection_text s journal.layout (length journal.records) gap packets
-      rates)
+      (directory_packets (first_place s)) rates)
 
 -- a turn from this place on has more packets than a number of 64 bits counts
 abbrev pub IsUncounted : Place → Type 0

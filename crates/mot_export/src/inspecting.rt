@@ -1,18 +1,23 @@
 //! Printing a disk's sizes, what is free of them, and its turn.
-ghost use Rattle.std.specs.Prelude.{◌≡◌, ◌≤◌, ◌<◌, ◌^◌, ◌++◌, ℕ, List, IfErr, IfOk, IsFalse, OnOk};
-ghost use Rattle.std.specs.Prelude.{length};
+ghost use Rattle.std.specs.Prelude.{◌≡◌, ◌+◌, ◌≤◌, ◌<◌, ◌^◌, ◌++◌, ℕ, List, IfErr, IfOk, IsFalse};
+ghost use Rattle.std.specs.Prelude.{OnOk, length, true};
+ghost use Rattle.std.specs.Int.{div_ceil};
 ghost use Rattle.std.specs.List.{sum_by};
 ghost use Rattle.std.specs.Io.KnownBytes.{Appends};
 ghost use Rattle.disk_model.specs.Disk.{OnlyReads};
 ghost use Rattle.mot_journal.specs.Image.{Standing};
+ghost use Rattle.mot_listening.specs.Waits.{round_for, with_directories};
+ghost use Rattle.mot_numbers.specs.Geometry.{is_valid, packet_room};
 ghost use Rattle.mot_numbers.specs.declared.refusal.Refusal.TheVariants.{BadNumber, WriteFault};
 ghost use Rattle.mot_objects.specs.declared.object.Object.{Object};
 ghost use Rattle.mot_objects.specs.Stands.{AreBodiesOf, carousel_of};
 ghost use Rattle.mot_player.specs.Turn.{turn_of_carousel};
 ghost use Rattle.mot_export.specs.Filling.{TurnsHaveTheirLengths};
 ghost use Rattle.mot_export.specs.Inspecting.{Inspects, IsUncounted, data_text, number_line};
-ghost use Rattle.mot_export.specs.Inspecting.{rates_of, shares_line, sizes_text, turn_text};
-ghost use Rattle.mot_export.specs.Inspecting.{turn_lengths_text, use_text};
+ghost use Rattle.mot_export.specs.Inspecting.{TurnsHaveTheirPackets, heard_line, rates_of};
+ghost use Rattle.mot_export.specs.Inspecting.{shares_line, usually_heard};
+ghost use Rattle.mot_export.specs.Inspecting.{sizes_text, turn_lengths_text, turn_text, use_text};
+ghost use Rattle.mot_export.specs.Inspecting.{waits_text};
 ghost use Rattle.mot_export.specs.Inner.Inspected.{HasInspected, IsCountingFault};
 ghost use Rattle.mot_export.specs.Inner.Inspected.{IsInspectingFault, IsTurnSize};
 ghost use Rattle.mot_repository.specs.Gap.{IsLongestGap};
@@ -22,27 +27,34 @@ ghost use Rattle.mot_playout.specs.Server.{place_in};
 ghost use Rattle.mot_session.specs.Served.{WritesFront};
 
 use crate::Ended;
+use crate::filling::GROUP_FRAME;
 use crate::lengths::write_lengths;
 use disk_model::Disk;
 use mot_journal::Layout;
 use mot_numbers::{Geometry, Refusal};
 use mot_objects::Object;
+use mot_packets::packet_count;
 use mot_player::Played;
 use mot_playout::Server;
 use mot_session::write_whole;
 use std::alloc::Global;
 use std::io::Write;
 
-/// How many packets a turn has, and how many bytes these.
+/// After how many packets `play` sends the directory again, if it is not told otherwise.
+const USUAL_PAUSE: u128 = 340;
+
+/// How many packets a turn has, how many bytes these, and how many packets its directory takes.
 #[derive(Clone, Copy)]
 struct TurnSize {
     packets: u64,
     bytes: u128,
+    directory: u128,
 }
 
 /// Opens the disk, plays a turn of it to nobody, and writes its sizes, what is used and free of
 /// them, what the turn takes, and how long it is in packets of each length: in a sub-channel of
-/// this rate in kbit/s or, if none is given, of the usual ones.
+/// this rate in kbit/s or, if none is given, of the usual ones. Behind them comes for how many
+/// packets a receiver has to listen.
 pub fn inspect_disk<D: Disk, W: Write>(
     alloc: Global,
     disk: D,
@@ -54,6 +66,7 @@ pub fn inspect_disk<D: Disk, W: Write>(
 
     // The lengths that are told of the disk's own packets are those of the turn that is played.
     ensures lengths { TurnsHaveTheirLengths }
+    ensures packets { TurnsHaveTheirPackets }
 {
     let mut server = match Server::open(alloc, disk) {
         Ok(server) => server,
@@ -93,9 +106,16 @@ fn write_inspection<D: Disk, W: Write>(
     ensures fault { IfErr result (λ r. IsInspectingFault r (D.state server.old.disk).failures
         (D.state server.new.disk).failures (W.contents writer.old) (W.contents writer.new)) }
 {
-    let TurnSize { packets, bytes } = count_turn(server)?;
+    let TurnSize {
+        packets,
+        bytes,
+        directory,
+    } = count_turn(server)?;
     let mut text = Vec::new(alloc);
     let Ok(()) = tell(alloc, server, packets, bytes, rate, &mut text) else {
+        return Err(Refusal::OutOfMemory);
+    };
+    let Ok(()) = write_waits(&mut text, &server.geometry(), directory, packets) else {
         return Err(Refusal::OutOfMemory);
     };
     print(writer, &text)
@@ -146,7 +166,7 @@ fn print<W: Write>(writer: &mut W, text: &[u8]) -> Result<(), Refusal>
     }
 }
 
-/// Plays a turn, and counts its packets and their bytes. The refusals are `DeviceFault` if a body
+/// Plays a turn, and counts its packets and their bytes, and those of its directory. The refusals are `DeviceFault` if a body
 /// can't be read, and `BadNumber` for more packets than are counted.
 fn count_turn<D: Disk>(server: &mut Server<D>) -> Result<TurnSize, Refusal>
     requires { IsFalse server.old.view.halted }
@@ -154,7 +174,8 @@ fn count_turn<D: Disk>(server: &mut Server<D>) -> Result<TurnSize, Refusal>
     ensures view { server.new.view ≡ server.old.view }
     ensures counted { (s : Standing) → HasStanding server.old.view s (D.state server.old.disk)
         → (D.state server.new.disk).IsHonest → IfOk result
-        (λ size. IsTurnSize (place_in server.old s) size.packets size.bytes) }
+        (λ size. IsTurnSize (place_in server.old s) size.packets size.bytes size.directory) }
+    ensures few { IfOk result (λ size. size.directory < 2 ^ 32) }
     ensures uncounted { (s : Standing) → HasStanding server.old.view s (D.state server.old.disk)
         → (D.state server.new.disk).IsHonest → IfErr result (λ r. r ≡ BadNumber
         → IsUncounted (place_in server.old s)) }
@@ -163,6 +184,7 @@ fn count_turn<D: Disk>(server: &mut Server<D>) -> Result<TurnSize, Refusal>
     ensures fault { IfErr result (λ r. IsCountingFault r (D.state server.old.disk).failures
         (D.state server.new.disk).failures) }
 {
+    let directory = server.directory_packets() as u128;
     let mut bytes: u128 = 0;
     for others in 0..u64::MAX {
         let Played { packet, ends_turn } = server.next_packet()?;
@@ -173,6 +195,7 @@ fn count_turn<D: Disk>(server: &mut Server<D>) -> Result<TurnSize, Refusal>
             return Ok(TurnSize {
                 packets: others + 1,
                 bytes,
+                directory,
             });
         }
     }
@@ -266,6 +289,77 @@ fn write_turn<W: Write>(writer: &mut W, packets: u64, bytes: u128) -> Result<(),
     ensures fault { IfErr result (λ r. r ≡ WriteFault) }
 {
     match writeln!(writer, "turn {packets} packets {bytes} bytes") {
+        Ok(()) => Ok(()),
+        Err(_) => Err(Refusal::WriteFault),
+    }
+}
+
+/// Writes how many packets the longest group and the directory take, and after how many a receiver
+/// that begins to listen at any packet has the directory, and the carousel.
+fn write_waits<W: Write>(
+    writer: &mut W,
+    geometry: &Geometry,
+    directory: u128,
+    packets: u64,
+) -> Result<(), Refusal>
+    requires valid { is_valid geometry.now ≡ true }
+    requires few { directory < 2 ^ 32 }
+    ensures written { OnOk result (Appends (W.contents writer.old) (W.contents writer.new)
+        (waits_text (div_ceil (geometry.now.segment + 11) (packet_room geometry.now)) directory
+        packets)) }
+{
+    let group = longest_group(geometry);
+    let turn = u128::from(packets);
+    let soon = usually_heard(group, directory, turn);
+    let round = round_for(group, directory, turn);
+    write_number(writer, "group", group)?;
+    write_number(writer, "directory", directory)?;
+    write_heard(writer, soon, round)
+}
+
+/// How many packets the longest group takes.
+fn longest_group(geometry: &Geometry) -> u128
+    requires { is_valid geometry.now ≡ true }
+    ensures value { result ≡ div_ceil (geometry.now.segment + 11) (packet_room geometry.now) }
+    ensures few { result < 2 ^ 17 }
+{
+    let bytes = usize::from(geometry.segment) + GROUP_FRAME;
+    packet_count(bytes, geometry.length_of_packets()) as u128
+}
+
+/// After how many packets a receiver has the directory, as it usually is sent again, or with the
+/// carousel.
+fn usually_heard(group: u128, directory: u128, turn: u128) -> u128
+    requires few { (group < 2 ^ 32) × (directory < 2 ^ 32) × (turn < 2 ^ 64) }
+    ensures { result ≡ usually_heard group directory turn }
+{
+    let pause = USUAL_PAUSE.max(10 * directory);
+    let soon = with_directories(pause + group + 2 * directory);
+    soon.min(round_for(group, directory, turn))
+}
+
+/// After how many packets a receiver has the carousel.
+fn round_for(group: u128, directory: u128, turn: u128) -> u128
+    requires few { (group < 2 ^ 32) × (directory < 2 ^ 32) × (turn < 2 ^ 64) }
+    ensures { result ≡ round_for group 0 turn directory }
+{
+    with_directories(group + turn + 3 * directory)
+}
+
+/// So many packets, and those of the directories that are sent again between them.
+fn with_directories(packets: u128) -> u128
+    requires { packets < 2 ^ 100 }
+    ensures { result ≡ with_directories packets }
+{
+    (10 * packets + 1).div_ceil(9)
+}
+
+/// Writes after how many packets the directory is heard, and the carousel.
+fn write_heard<W: Write>(writer: &mut W, directory: u128, carousel: u128) -> Result<(), Refusal>
+    ensures written { OnOk result (Appends (W.contents writer.old) (W.contents writer.new)
+        (heard_line directory carousel)) }
+{
+    match writeln!(writer, "heard {directory} directory {carousel} carousel") {
         Ok(()) => Ok(()),
         Err(_) => Err(Refusal::WriteFault),
     }

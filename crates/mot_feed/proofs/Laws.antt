@@ -4,3 +4,6 @@
 pub use Rattle.mot_feed.proofs.Fed.{rules_behind, rules_of_turn}
 -- nothing was added
 pub use Rattle.mot_feed.proofs.Grown.{grows_nil}
+-- the directory is asked for often up to any of the events; and what is heard of a window keeps the
+-- rules
+pub use Rattle.mot_feed.proofs.Listening.{often-front, rules_of_window}

@@ -6,6 +6,7 @@ use Rattle.std.proofs.lemmas.Option.{none-some}
 use Rattle.std.specs.Prelude.{if◌then◌else◌}
 use Rattle.mot_feed.specs.Feeding.{Event, Happen, is_between_turns, sents_in}
 use Rattle.mot_feed.specs.Feeding.Event.{Accepted, Asked, Played}
+use Rattle.mot_feed.specs.Listening.{is_quiet}
 use Rattle.mot_feed.specs.OnAir.{ChangedTurnsOnAirRead, TurnsOnAirRead, asks, begins_turn, is_turn}
 use Rattle.mot_numbers.specs.Reading.{is_empty}
 use Rattle.mot_numbers.specs.declared.geometry.TheConstants.{MAX_OBJECTS}
@@ -32,7 +33,7 @@ use Rattle.mot_playout.proofs.Laws.{followable}
 
 -- ---- what holds behind whatever events
 
-accepted-cases : (limit : ℕ) (c next : Carousel) (command : Command)
+pub accepted-cases : (limit : ℕ) (c next : Carousel) (command : Command)
     (r : Result (Carousel × Done) Refusal) → change c limit command ≡ r → limit ≤ MAX_OBJECTS →
     IsSound c → carousel_if_accepted r ≡ Some next → IsSound next
 accepted-cases limit c next command (Ok (k, done)) e few sound is =
@@ -42,7 +43,7 @@ accepted-cases limit c next command (Err refusal) e few sound is =
     absurd (none-some next is)
 
 -- accepted commands keep the carousel sound
-sound-behind : (limit size : ℕ) (c last : Carousel) (place new : Place) (events : List Event)
+pub sound-behind : (limit size : ℕ) (c last : Carousel) (place new : Place) (events : List Event)
     → limit ≤ MAX_OBJECTS → IsSound c → Happen limit size c place events last new → IsSound last
 sound-behind limit size c last place new [] few sound is = subst IsSound is.0 sound
 sound-behind limit size c last place new (Played sent ∷ events) few sound is =
@@ -84,21 +85,14 @@ stands-behind limit size c last place new follows between whole (Asked ∷ event
 
 -- ---- a turn
 
--- no command is among these
-abbrev is_quiet : List Event → Bool
-is_quiet [] = true
-is_quiet (Accepted command ∷ events) = false
-is_quiet (Asked ∷ events) = is_quiet events
-is_quiet (Played sent ∷ events) = is_quiet events
-
 -- the steps of events without commands
-record StepsOf (place : Place) (events : List Event) (new : Place) : Type 0 where
-  steps : List Step
-  keep : keep_turn steps ≡ true
-  ask : ask_directory steps ≡ asks events
-  sent : sent_by place steps ≡ Some (sents_in events, new)
+pub record StepsOf (place : Place) (events : List Event) (new : Place) : Type 0 where
+  pub steps : List Step
+  pub keep : keep_turn steps ≡ true
+  pub ask : ask_directory steps ≡ asks events
+  pub sent : sent_by place steps ≡ Some (sents_in events, new)
 
-steps_of : (limit size : ℕ) (c last : Carousel) (place new : Place) (events : List Event)
+pub steps_of : (limit size : ℕ) (c last : Carousel) (place new : Place) (events : List Event)
     → is_quiet events ≡ true → Happen limit size c place events last new
     → StepsOf place events new
 unfolding sent_by
@@ -134,7 +128,7 @@ quiet-cases : (b : Bool) (events : List Event) → (is_turn events ≡ true → 
 quiet-cases true events f e = none-quiet events e
 quiet-cases false events f e = f e
 
-turn-quiet : (events : List Event) → is_turn events ≡ true → is_quiet events ≡ true
+pub turn-quiet : (events : List Event) → is_turn events ≡ true → is_quiet events ≡ true
 turn-quiet [] e = refl
 turn-quiet (Accepted command ∷ events) e = e
 turn-quiet (Asked ∷ events) e = turn-quiet events e
@@ -151,7 +145,7 @@ ends-cases : (b : Bool) (events : List Event)
 ends-cases true events f e = none-sent events e
 ends-cases false events f e = f e
 
-turn-ends : (events : List Event) → is_turn events ≡ true → ends_at_last (sents_in events) ≡ true
+pub turn-ends : (events : List Event) → is_turn events ≡ true → ends_at_last (sents_in events) ≡ true
 turn-ends [] e = e
 turn-ends (Accepted command ∷ events) e = absurd (let f : false ≡ true = e in cc)
 turn-ends (Asked ∷ events) e = turn-ends events e
@@ -182,7 +176,7 @@ turns_read limit size c now last address room follows before during place new pa
 
 -- ---- where a turn has ended
 
-follow-cases : (limit size : ℕ) (c next : Carousel) (command : Command)
+pub follow-cases : (limit size : ℕ) (c next : Carousel) (command : Command)
     (r : Result (Carousel × Done) Refusal) → change c limit command ≡ r → IsSound c →
     carousel_if_accepted r ≡ Some next →
     IsFollowable (turn_of_carousel c size) (turn_of_carousel next size)

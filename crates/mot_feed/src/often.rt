@@ -2,6 +2,7 @@
 ghost use Rattle.std.specs.Prelude.{◌≡◌, ◌==◌, ◌-◌, ◌<◌, if◌then◌else◌, IfErr, OnOk};
 ghost use Rattle.disk_model.specs.Disk.{KeepsLength};
 ghost use Rattle.mot_feed.specs.Feeding.{FedPacketsAreContinuous, Feeds, IsFeedFault};
+ghost use Rattle.mot_feed.specs.Listening.{ListenersHear};
 ghost use Rattle.mot_feed.specs.Often.{IsOften, look_in, pause, server_for};
 ghost use Rattle.mot_feed.specs.OnAir.{ChangedTurnsOnAirRead, TurnsOnAirRead};
 ghost use Rattle.mot_journal.specs.Image.{Standing};
@@ -101,6 +102,9 @@ pub fn feed_every<D: Disk, O: Outlet, U: Update>(
     ensures continuous { FedPacketsAreContinuous }
     ensures turns_read { TurnsOnAirRead }
     ensures changed_turns_read { ChangedTurnsOnAirRead }
+
+    // Who begins to listen at any packet, up to the next command.
+    ensures listeners { ListenersHear }
 {
     if every == 0 {
         return feed(server, alloc, update, outlet, turns);

@@ -45,10 +45,10 @@ IsOwn size id (Some bytes) segments =
 
 -- ---- what a receiver has, of one entity
 
-abbrev Respects : (Segment → Bool) → Type 0
+abbrev pub Respects : (Segment → Bool) → Type 0
 Respects p = (s t : Segment) → is_same_segment s t ≡ true → p s ≡ p t
 
-own-respects : (kind tid : ℕ) → Respects (λ (s : Segment). s.kind == kind && s.tid == tid)
+pub own-respects : (kind tid : ℕ) → Respects (λ (s : Segment). s.kind == kind && s.tid == tid)
 own-respects kind tid s t e =
     let flags : Bool = if s.last then t.last else not t.last in
     let bytes = and_parts (s.kind == t.kind && s.tid == t.tid && s.number == t.number && flags)
@@ -70,7 +70,7 @@ any-cases p s t had true false e f ih = absurd (let g : false ≡ true = f refl 
 any-cases p s t had false true e f ih = rw e ih
 any-cases p s t had false false e f ih = ih
 
-any-filter : (p : Segment → Bool) → Respects p → (s : Segment) → p s ≡ true →
+pub any-filter : (p : Segment → Bool) → Respects p → (s : Segment) → p s ≡ true →
     (had : List Segment) →
     list_any (is_same_segment s) (filter p had) ≡ list_any (is_same_segment s) had
 any-filter p r s is [] = refl
@@ -96,7 +96,7 @@ had-cases had xs s true = refl
 had-cases had xs s false = refl
 
 -- of what is received, an entity's are what is received of the entity's
-filter-received : (p : Segment → Bool) → Respects p → (had ss : List Segment) →
+pub filter-received : (p : Segment → Bool) → Respects p → (had ss : List Segment) →
     filter p (received had ss) ≡ received (filter p had) (filter p ss)
 filter-received p r had [] = refl
 filter-received p r had (s ∷ ss) =
@@ -114,7 +114,7 @@ had-wider x had (y ∷ ys) h = (
   had-wider x had ys h.1,
 )
 
-had-all : (xs : List Segment) → AllByRecursion (IsHad xs) xs
+pub had-all : (xs : List Segment) → AllByRecursion (IsHad xs) xs
 had-all [] = tt
 had-all (x ∷ xs) = (rw (same-self x) refl, had-wider x xs xs (had-all xs))
 
@@ -134,7 +134,7 @@ with-front : (b : Bool) (had : List Segment) (s : Segment) →
 with-front true had s = ([], sym (append-nil had))
 with-front false had s = (s ∷ [], refl)
 
-received-front : (had ss : List Segment) →
+pub received-front : (had ss : List Segment) →
     (xs : List Segment) × (received had ss ≡ had ++ xs)
 received-front had [] = ([], sym (append-nil had))
 received-front had (s ∷ ss) =
@@ -146,22 +146,22 @@ received-front had (s ∷ ss) =
 
 -- ---- what holds of all of them
 
-all-append : (P : Segment → Type 0) (xs ys : List Segment) → AllByRecursion P xs →
+pub all-append : (P : Segment → Type 0) (xs ys : List Segment) → AllByRecursion P xs →
     AllByRecursion P ys → AllByRecursion P (xs ++ ys)
 all-append P [] ys p q = q
 all-append P (x ∷ xs) ys p q = (p.0, all-append P xs ys p.1 q)
 
-all-front : (P : Segment → Type 0) (xs ys : List Segment) → AllByRecursion P (xs ++ ys) →
+pub all-front : (P : Segment → Type 0) (xs ys : List Segment) → AllByRecursion P (xs ++ ys) →
     AllByRecursion P xs
 all-front P [] ys p = tt
 all-front P (x ∷ xs) ys p = (p.0, all-front P xs ys p.1)
 
-all-behind : (P : Segment → Type 0) (xs ys : List Segment) → AllByRecursion P (xs ++ ys) →
+pub all-behind : (P : Segment → Type 0) (xs ys : List Segment) → AllByRecursion P (xs ++ ys) →
     AllByRecursion P ys
 all-behind P [] ys p = p
 all-behind P (x ∷ xs) ys p = all-behind P xs ys p.1
 
-all-copies : (P : Segment → Type 0) (n : ℕ) (xs : List Segment) → AllByRecursion P xs →
+pub all-copies : (P : Segment → Type 0) (n : ℕ) (xs : List Segment) → AllByRecursion P xs →
     AllByRecursion P (copies n xs)
 all-copies P zero xs p = tt
 all-copies P (suc n) xs p = all-append P xs (copies n xs) p (all-copies P n xs p)
@@ -171,20 +171,20 @@ with-all : (P : Segment → Type 0) (b : Bool) (had : List Segment) (s : Segment
 with-all P true had s p q = p
 with-all P false had s p q = all-append P had (s ∷ []) p (q, tt)
 
-all-received : (P : Segment → Type 0) (had ss : List Segment) → AllByRecursion P had →
+pub all-received : (P : Segment → Type 0) (had ss : List Segment) → AllByRecursion P had →
     AllByRecursion P ss → AllByRecursion P (received had ss)
 all-received P had [] p q = p
 all-received P had (s ∷ ss) p q =
     all-received P (had_with had s) ss
     (with-all P (list_any (is_same_segment s) had) had s p q.0) q.1
 
-listed : (p : Segment → Bool) (xs : List Segment) → list_all p xs ≡ true →
+pub listed : (p : Segment → Bool) (xs : List Segment) → list_all p xs ≡ true →
     AllByRecursion (λ (s : Segment). p s ≡ true) xs
 listed p [] e = tt
 listed p (x ∷ xs) e =
     let parts = and_parts (p x) (list_all p xs) e in (parts.0, listed p xs parts.1)
 
-all-list : (p : Segment → Bool) (xs : List Segment) →
+pub all-list : (p : Segment → Bool) (xs : List Segment) →
     AllByRecursion (λ (s : Segment). p s ≡ true) xs → list_all p xs ≡ true
 all-list p [] h = refl
 all-list p (x ∷ xs) h = rw (h.0, all-list p xs h.1) refl
@@ -302,7 +302,7 @@ own-whole id size (b ∷ bodies) d =
 
 -- ---- reading
 
-later-id : (id : ℕ) (o : Object) (objects : List Object) (bytes : List ℕ) (t : Bool) →
+pub later-id : (id : ℕ) (o : Object) (objects : List Object) (bytes : List ℕ) (t : Bool) →
     (id == o.tid) ≡ t → body_of o.tid (bodies_with_ids objects) ≡ None →
     body_of id (bodies_with_ids objects) ≡ Some bytes →
     (if t then Some o.body else body_of id (bodies_with_ids objects)) ≡ Some bytes
@@ -316,7 +316,7 @@ pub map-ids : (objects : List Object) →
 map-ids [] = refl
 map-ids (o ∷ objects) = ap (λ ids. o.tid ∷ ids) (map-ids objects)
 
-each-own : (size : ℕ) (all : List Segment) (objects : List Object) →
+pub each-own : (size : ℕ) (all : List Segment) (objects : List Object) →
     is_distinct (ids_of objects) ≡ true →
     ((id : ℕ) (bytes : List ℕ) → body_of id (bodies_with_ids objects) ≡ Some bytes →
     own_segments 4 id all ≡ segments_of 4 id size bytes) →
@@ -350,7 +350,7 @@ received-own id size bytes (Some body) segments e is =
     ∙ ap (λ (b : List ℕ). segments_of 4 id size b) (same_Some body bytes e)
 
 module _ (size : ℕ) (laws : EntityLaws size) where
-  read-own : (all : List Segment) (objects : List Object) → AreSome objects →
+  pub read-own : (all : List Segment) (objects : List Object) → AreSome objects →
       AllByRecursion (λ (o : Object).
       own_segments 4 o.tid all ≡ segments_of 4 o.tid size o.body) objects →
       read_each (object_in all) (map entry_of objects) ≡ Some objects

@@ -139,7 +139,7 @@ first-ended place (t ∷ segments) s e f =
     subst (λ (x : Sent). HasEnded x.place) is
     (packet-ended begun (bytes_of_group g) 0 (ap (λ (x : Sent). x.ends_turn) is ∙ f))
 
-next-ended : (place : Place) (u : Option UnderWay) (s : Sent) → next_sent place u ≡ Some s →
+pub next-ended : (place : Place) (u : Option UnderWay) (s : Sent) → next_sent place u ≡ Some s →
     s.ends_turn ≡ true → HasEnded s.place
 next-ended place None s e f = first-ended place _ s e f
 next-ended place (Some u) s e f =

@@ -26,3 +26,33 @@ pub use Rattle.mot_player.proofs.FreshTurns.{fresh-heard, fresh-opened, fresh-pl
 pub use Rattle.mot_player.proofs.FreshTurns.{fresh-sent, has-directory}
 -- a sound carousel that keeps the rules can be played
 pub use Rattle.mot_player.proofs.Ruled.{plays-carousel}
+-- What who begins to listen at any packet stands on (`mot_listening`): what a request sends,
+-- what a receiver has of segments, and what reads as a turn.
+pub use Rattle.mot_player.proofs.Addresses.{one_address, steps-address}
+pub use Rattle.mot_player.proofs.Continuous.{AreKinds-turn, IsKind}
+pub use Rattle.mot_player.proofs.Followed.{AreBodies, followed-left, of_bodies-directory, renewed}
+pub use Rattle.mot_player.proofs.FollowedTurn.{between-put, between-replaced, between-same}
+pub use Rattle.mot_player.proofs.FollowedTurn.{between-withdrawn, others-both}
+pub use Rattle.mot_player.proofs.FreshReads.{IsOwn, Respects, all-append, all-behind, all-copies}
+pub use Rattle.mot_player.proofs.FreshReads.{all-front, all-list, all-received, any-filter}
+pub use Rattle.mot_player.proofs.FreshReads.{body-absent, body_of, copies, each-own}
+pub use Rattle.mot_player.proofs.FreshReads.{filter-received, had-all, later-id, listed, map-ids}
+pub use Rattle.mot_player.proofs.FreshReads.{own-respects, own-whole, read-own, received-front}
+pub use Rattle.mot_player.proofs.FreshTurns.{next-ended}
+pub use Rattle.mot_player.proofs.Indexes.{some_bytes-group}
+pub use Rattle.mot_player.proofs.Left.{is_empty-append, own-directory, some-directory}
+pub use Rattle.mot_player.proofs.Followed.{own-followed, place-of_gone}
+pub use Rattle.mot_player.proofs.Renewed.{AreOthers, without-place}
+pub use Rattle.mot_player.proofs.Repeated.{IsHad, any-front, had-new, heard-left, of_bodies-all}
+pub use Rattle.mot_player.proofs.Repeated.{same-self}
+pub use Rattle.mot_player.proofs.Staying.{FirstBegun, KeepsTurn, begun_none, first_begun}
+pub use Rattle.mot_player.proofs.Staying.{next-keeps, own-heard}
+pub use Rattle.mot_player.proofs.Requests.{FirstRequest, first_request, no_steps, packets_of}
+pub use Rattle.mot_player.proofs.Rounds.{group-count, is_last, is_more, kept}
+pub use Rattle.mot_player.proofs.TurnOnce.{IsWithin, bodies-bodies, front-fit, steps-send}
+pub use Rattle.mot_player.proofs.TurnReads.{AreSome, EntityLaws, belongs-cut, belongs-entity}
+pub use Rattle.mot_player.proofs.TurnReads.{bodies-some, cut, entry_ids, foreign-directory, ids_of}
+pub use Rattle.mot_player.proofs.TurnReads.{own-append, own-numbered_segments}
+pub use Rattle.mot_player.proofs.UnderWay.{front_of, group_of}
+pub use Rattle.mot_player.proofs.WholeTurn.{IsFit, KeepsIndexes, are_fit-turn, begun-keeps}
+pub use Rattle.mot_player.proofs.WholeTurn.{entity-laws, group-index_fits, groups-read, is_group}

@@ -41,7 +41,7 @@ same-self s =
       (bytes_eq-Decides s.bytes s.bytes).1 refl,
     ) refl
 
-any-front : (p : Segment → Bool) (xs ys : List Segment) → list_any p xs ≡ true →
+pub any-front : (p : Segment → Bool) (xs ys : List Segment) → list_any p xs ≡ true →
     list_any p (xs ++ ys) ≡ true
 any-front p [] ys e = absurd (let f : false ≡ true = e in cc)
 any-front p (x ∷ xs) ys e = front-cases (p x) (λ f. any-front p xs ys f) e
@@ -71,7 +71,7 @@ all_had-more had s [] h = tt
 all_had-more had s (x ∷ xs) h = (had-more had s x h.0, all_had-more had s xs h.1)
 
 -- and so is what came
-had-new : (had : List Segment) (s : Segment) → IsHad (had_with had s) s
+pub had-new : (had : List Segment) (s : Segment) → IsHad (had_with had s) s
 had-new had s = new-cases (list_any (is_same_segment s) had) refl
   where
     new-cases : (b : Bool) → list_any (is_same_segment s) had ≡ b →

@@ -89,14 +89,14 @@ record Leaves (front group : List ℕ) (at : ℕ) (segments : List Segment) (pla
   count : length packets ≡ div_ceil (length group - at) place.room + packets_for place.room segments
   between : IsBetween place new
 
-is_last : (place : Place) (group : List ℕ) (at : ℕ) → at < length group →
+pub is_last : (place : Place) (group : List ℕ) (at : ℕ) → at < length group →
     (piece_at place.room place.address place.index group at).last ≡ true →
     div_ceil (length group - at) place.room ≡ 1
 is_last place group at inside last =
     last_count (length group - at) place.room (omega (arith, inside))
     (omega (arith, leb-true (length (drop at group)) place.room last, length-drop at group))
 
-is_more : (place : Place) (group : List ℕ) (at : ℕ) → 0 < place.room →
+pub is_more : (place : Place) (group : List ℕ) (at : ℕ) → 0 < place.room →
     (piece_at place.room place.address place.index group at).last ≡ false →
     div_ceil (length group - at) place.room
     ≡ suc (div_ceil (length group - (at + place.room)) place.room)
@@ -107,7 +107,7 @@ is_more place group at some last =
     more_count (length group - at) place.room some (omega (arith, more))
     ∙ ap (λ (n : ℕ). suc (div_ceil n place.room)) less
 
-group-count : (place : Place) (g : GroupFields) →
+pub group-count : (place : Place) (g : GroupFields) →
     div_ceil (length (bytes_of_group g) - 0) place.room
     ≡ div_ceil (length g.segment.bytes + 11) place.room
 group-count place g =
@@ -287,7 +287,7 @@ turn-gathers old sents new turn r u w =
     (first-gathers n old whole q.first q.others new r u first q.rest
     (ap ends_of (sym q.all) ∙ turn.ends))
 
-kept : {A : Type 0} (b : Bool) (x y : A) → (if b then Some x else None) ≡ Some y
+pub kept : {A : Type 0} (b : Bool) (x y : A) → (if b then Some x else None) ≡ Some y
     → (b ≡ true) × (x ≡ y)
 kept true x y e = (refl, same_Some x y e)
 kept false x y e = absurd (none-some y e)

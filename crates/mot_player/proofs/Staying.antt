@@ -89,7 +89,7 @@ next-takes place (Some u) s e f =
     ∙ packet-left place u.group u.sent (ap (λ (x : Sent). x.ends_turn) same ∙ f)
 
 -- a request keeps the turn and the segment size
-abbrev KeepsTurn : Place → Sent → Type 0
+abbrev pub KeepsTurn : Place → Sent → Type 0
 KeepsTurn place s = (s.place.segment_size ≡ place.segment_size) × (s.place.turn ≡ place.turn)
 
 first-keeps : (place : Place) (segments : List Segment) (s : Sent) →
@@ -100,7 +100,7 @@ first-keeps place (t ∷ segments) s e =
     let first : Sent = packet_sent (with_begun place g segments) (bytes_of_group g) 0 in
     subst (KeepsTurn place) (same_Some first s e) (refl, refl)
 
-next-keeps : (place : Place) (u : Option UnderWay) (s : Sent) → next_sent place u ≡ Some s →
+pub next-keeps : (place : Place) (u : Option UnderWay) (s : Sent) → next_sent place u ≡ Some s →
     KeepsTurn place s
 next-keeps place None s e = first-keeps place (to_send place) s e
 next-keeps place (Some u) s e =
@@ -108,14 +108,14 @@ next-keeps place (Some u) s e =
     subst (KeepsTurn place) (same_Some first s e) (refl, refl)
 
 -- the first request's segment, and those that the others begin
-record FirstBegun (place : Place) (steps : List Step) (begun : List Segment) : Type 0 where
-  first : Sent
-  others : List Segment
-  asked : request place ≡ Some first
-  rest : begun_by first.place steps ≡ Some others
-  all : begun ≡ begun_with place place.under_way ++ others
+pub record FirstBegun (place : Place) (steps : List Step) (begun : List Segment) : Type 0 where
+  pub first : Sent
+  pub others : List Segment
+  pub asked : request place ≡ Some first
+  pub rest : begun_by first.place steps ≡ Some others
+  pub all : begun ≡ begun_with place place.under_way ++ others
 
-first_begun : (place : Place) (steps : List Step) (begun : List Segment) →
+pub first_begun : (place : Place) (steps : List Step) (begun : List Segment) →
     begun_by place (Request ∷ steps) ≡ Some begun → FirstBegun place steps begun
 unfolding begun_by
 first_begun place steps begun e =
@@ -132,7 +132,7 @@ first_begun place steps begun e =
       all = sym (same_Some (begun_with place place.under_way ++ two.0) begun two.2);
     }
 
-begun_none : (place : Place) (begun : List Segment) → begun_by place [] ≡ Some begun → [] ≡ begun
+pub begun_none : (place : Place) (begun : List Segment) → begun_by place [] ≡ Some begun → [] ≡ begun
 unfolding begun_by
 begun_none place begun e = same_Some [] begun e
 

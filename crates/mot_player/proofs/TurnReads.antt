@@ -83,7 +83,7 @@ foreign-cut tid size (o ∷ objects) e =
     (foreign-numbered_segments 4 tid 4 o.tid 0 (pieces size o.body) here)
     ∙ foreign-cut tid size objects parts.1
 
-foreign-directory : (id size : ℕ) (objects : List Object)
+pub foreign-directory : (id size : ℕ) (objects : List Object)
     → own_segments 6 id (cut size objects) ≡ []
 foreign-directory id size [] = refl
 foreign-directory id size (o ∷ objects) =

@@ -7,18 +7,19 @@ use Rattle.mot_journal.specs.Journal.{JournalView}
 use Rattle.mot_numbers.specs.declared.refusal.Refusal.{Refusal}
 use Rattle.mot_numbers.specs.declared.refusal.Refusal.TheVariants.{BadNumber, DeviceFault}
 use Rattle.mot_numbers.specs.declared.refusal.Refusal.TheVariants.{OutOfMemory, WriteFault}
-use Rattle.mot_player.specs.Place.{Place}
+use Rattle.mot_player.specs.Place.{Place, directory_packets}
 use Rattle.mot_export.specs.Inspecting.{bytes_of_all, inspection_text, rates_of}
 use Rattle.mot_repository.specs.Gap.{IsLongestGap}
 use Rattle.mot_playout.specs.Playing.{HasPlayedTurn}
 
--- a turn from this place on has so many packets and bytes
-pub record IsTurnSize (place : Place) (count bytes : ℕ) : Type 0 where
+-- a turn from this place on has so many packets and bytes, and its directory so many packets
+pub record IsTurnSize (place : Place) (count bytes directory : ℕ) : Type 0 where
   pub packets : List (List ℕ)
   pub last : Place
   pub turn : HasPlayedTurn place packets last
   pub count_is : count ≡ length packets
   pub bytes_are : bytes ≡ bytes_of_all packets
+  pub directory_is : directory ≡ directory_packets place
 
 -- why a turn could not be counted; the counts of failures are those before and now
 abbrev pub IsCountingFault : Refusal → (before now : ℕ) → Type 0
@@ -34,7 +35,7 @@ pub record HasInspected (rate : Option ℕ) (journal : JournalView) (place : Pla
   pub last : Place
   pub turn : HasPlayedTurn place packets last
   pub printed : is_printed (inspection_text s journal.layout journal.count gap packets
-      (rates_of rate))
+      (directory_packets place) (rates_of rate))
 
 -- why it could not be
 abbrev pub IsInspectingFault : Refusal → (before now : ℕ) → (old new : Option (List ℕ)) → Type 0

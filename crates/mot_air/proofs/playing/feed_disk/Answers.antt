@@ -1,4 +1,4 @@
-use Rattle.std.proofs.Common.{ℕ, inl, subst}
+use Rattle.std.proofs.Common.{ℕ, ◌<◌, inl, subst}
 use Rattle.mot_air.specs.Playing.{Plays, manner, tale_of}
 use Rattle.mot_air.proofs.Kept.{lives}
 use Rattle.mot_air.proofs.Played.{plays}
@@ -8,7 +8,7 @@ use Rattle.mot_air.proofs.playing.feed_disk.Goals.{After-feed_every-result}
 use Rattle.mot_feed.proofs.Laws.{grows_nil}
 use Rattle.mot_feed.specs.Feeding.{Feeds}
 use Rattle.mot_feed.specs.Feeding.AreTold.{no_call}
-use Rattle.mot_feed.specs.Often.{look_in, server_for}
+use Rattle.mot_feed.specs.Often.{IsOften, look_in, server_for}
 use Rattle.mot_export.proofs.Laws.{unopened_is}
 use Rattle.mot_playout.specs.Attempts.{fault_of}
 
@@ -36,17 +36,18 @@ by g c =
     plays g.D.Disk.state c.args.disk c.in-Ok.server c.feed_every-result.new.server
     g.met.D.Disk.sound opens.only_syncs opens.opened opens.calm opens.going opens.at_start
     c.geometry.ensures.valid feeds.keeps feeds.continuous feeds.turns_read
-    feeds.changed_turns_read
+    feeds.changed_turns_read feeds.listeners
     g.U.Update.tells c.args.update.now
     c.feed_every-result.new.update (manner c.args.directory c.args.look c.args.turns) _ _
     c.feed_every-result.result feeds.calm feeds.fault
-    (λ s holds honest. subst (λ (l : ℕ). Feeds g.U.Update.tells (look_in c.args.directory l)
-    c.args.turns (fault_of c.feed_every-result.result) c.args.update.now
-    c.feed_every-result.new.update (server_for c.args.directory c.in-Ok.server)
+    (λ s holds honest. subst (λ (l : ℕ). (fed : Feeds g.U.Update.tells
+    (look_in c.args.directory l) c.args.turns (fault_of c.feed_every-result.result)
+    c.args.update.now c.feed_every-result.new.update (server_for c.args.directory c.in-Ok.server)
     c.feed_every-result.new.server (g.D.Disk.state c.in-Ok.server.disk)
     (g.D.Disk.state c.feed_every-result.new.server.disk) s (g.O.Outlet.writes c.args.outlet.now)
-    (g.O.Outlet.writes c.feed_every-result.new.outlet)) c.min.ensures
-    (feeds.fed s holds honest).0)
+    (g.O.Outlet.writes c.feed_every-result.new.outlet))
+    × (0 < c.args.directory → IsOften c.args.directory fed.events)) c.min.ensures
+    (feeds.fed s holds honest))
 
 pub returns-clause-ended : goal.returns-clause-ended
 returns-clause-ended g c = by g (goal.at.returns-clause-ended g c).After-feed_every-result

@@ -42,6 +42,7 @@ returns-then-ends_turn-clause-counted g c = λ s holds honest.
           packet c.in_ok-packet.field-0.ends_turn (one.sent s held honest) c.if-ends_turn.true;
       count_is = omega (arith, others, size);
       bytes_are = omega (arith, all, bytes, len);
+      directory_is = c.directory_packets-directory.ensures.value s;
     }
 
 pub loop-others-preserved : goal.loop-others-preserved

@@ -3,7 +3,7 @@ use Rattle.std.proofs.KnownBytes.{Keeps-refl}
 use Rattle.mot_export.specs.Inspecting.{Inspects}
 use Rattle.mot_export.proofs.Opened.{unopened_is}
 use Rattle.mot_export.proofs.Inspected.{inspects, printed}
-use Rattle.mot_export.proofs.Played.{turns-have-their-lengths}
+use Rattle.mot_export.proofs.Played.{turns-have-their-lengths, turns-have-their-packets}
 use Rattle.mot_export.proofs.inspecting.inspect_disk.Goals as goal
 use Rattle.mot_playout.specs.Attempts.{fault_of}
 
@@ -48,3 +48,9 @@ returns-clause-lengths g c = turns-have-their-lengths
 
 pub returns-in-Err-clause-lengths : goal.returns-in-Err-clause-lengths
 returns-in-Err-clause-lengths g c = turns-have-their-lengths
+
+pub returns-clause-packets : goal.returns-clause-packets
+returns-clause-packets g c = turns-have-their-packets
+
+pub returns-in-Err-clause-packets : goal.returns-in-Err-clause-packets
+returns-in-Err-clause-packets g c = turns-have-their-packets

@@ -1,18 +1,21 @@
-use Rattle.std.proofs.Common.{◌≡◌, ◌∙◌, ◌++◌, ℕ, List, Result, Ok, Err, ap, length, refl, sym}
+use Rattle.std.proofs.Common.{◌≡◌, ◌∙◌, ◌+◌, ◌++◌, ℕ, List, Result, Ok, Err, ap, length, refl, sym}
 use Rattle.std.proofs.Common.{subst}
 use Rattle.std.specs.Prelude.{IfErr}
 use Rattle.mot_numbers.specs.declared.refusal.Refusal.{Refusal}
+use Rattle.std.specs.Int.{div_ceil}
 use Rattle.std.specs.List.{sum_by}
+use Rattle.mot_numbers.specs.Geometry.{packet_room}
+use Rattle.mot_player.specs.Place.{directory_packets}
 use Rattle.std.specs.Io.KnownBytes.{Appends}
 use Rattle.std.proofs.lemmas.Result.{err_from_is_err_and, on_ok_weaker}
 use Rattle.mot_journal.specs.Image.{Standing}
 use Rattle.mot_objects.specs.Stands.{carousel_of}
 use Rattle.mot_objects.specs.declared.object.Object.{Object}
 use Rattle.mot_player.specs.Turn.{turn_of_carousel}
-use Rattle.mot_export.proofs.Inspected.{told_text}
+use Rattle.mot_export.proofs.Inspected.{front_text, told_text, waits_so}
 use Rattle.mot_export.specs.Inspecting.{inspection_text, rates_of, sizes_text, turn_lengths_text}
 use Rattle.mot_export.specs.Inspecting.{turn_text}
-use Rattle.mot_export.specs.Inspecting.{use_text}
+use Rattle.mot_export.specs.Inspecting.{use_text, waits_text}
 use Rattle.mot_export.specs.Inner.Inspected.{HasInspected}
 use Rattle.mot_repository.specs.Gap.{IsLongestGap}
 use Rattle.mot_repository.specs.Repository.{Agrees, HasStanding, RepositoryView}
@@ -53,8 +56,14 @@ inspected g c is_printed printed s holds honest =
     ++ turn_text packets bytes
     ++ turn_lengths_text (rates_of c.args.rate) now.journal.geometry.segment
     (turn_of_carousel (carousel_of now.carousel agrees.bodies) now.journal.geometry.segment) in
-    let text : c.deref.result.now ≡ whole =
-    c.deref.ensures.value ∙ told.2 ∙ ap (λ l. l ++ whole) c.new-text.ensures.items in
+    let geometry = c.geometry.result in
+    let directory = c.in_ok-packets.field-0.directory in
+    let waits = waits_text (div_ceil (geometry.segment + 11) (packet_room geometry)) directory
+    packets in
+    let text : c.deref.result.now ≡ whole ++ waits =
+    c.deref.ensures.value ∙ c.in-Ok-write_waits.ensures.written
+    ∙ ap (λ l. l ++ waits) (told.2 ∙ ap (λ l. l ++ whole) c.new-text.ensures.items) in
+    let rates = rates_of c.args.rate in
     record {
       gap = gap;
       longest = subst (λ e. IsLongestGap e s.geometry.area gap) agrees.extents
@@ -64,9 +73,14 @@ inspected g c is_printed printed s holds honest =
       turn = size.turn;
       printed = subst (λ (v : RepositoryView). is_printed
           (inspection_text s v.journal.layout v.journal.count gap size.packets
-          (rates_of c.args.rate))) same
-          (subst is_printed (text ∙ told_text now s agrees now.journal.geometry gap packets bytes
-          size.packets (rates_of c.args.rate) refl size.count_is size.bytes_are) printed);
+          (directory_packets (place_in c.args.server.now s)) rates)) same
+          (subst is_printed (text
+          ∙ ap (λ l. l ++ waits) (told_text now s agrees now.journal.geometry gap packets bytes
+          size.packets rates refl size.count_is size.bytes_are)
+          ∙ waits_so (front_text s now.journal.layout now.journal.count gap size.packets rates)
+          geometry now.journal.geometry s.geometry directory
+          (directory_packets (place_in c.args.server.now s)) packets (length size.packets)
+          c.geometry.ensures.value agrees.geometry size.directory_is size.count_is) printed);
     }
 
 pub returns-clause-told : goal.returns-clause-told

@@ -4,6 +4,7 @@ use Rattle.std.specs.Prelude.{◌==◌, ◌||◌, if◌then◌else◌}
 use Rattle.mot_feed.specs.Feeding.{Feeds}
 use Rattle.mot_feed.specs.Often.{IsOften, look_in, server_for}
 use Rattle.mot_feed.proofs.Fed.{continuous}
+use Rattle.mot_feed.proofs.Listening.{listeners_hear}
 use Rattle.mot_feed.proofs.OnAir.{changed_turns_read, turns_read}
 use Rattle.mot_feed.proofs.often.feed_every.Goals as goal
 use Rattle.mot_playout.specs.Attempts.{fault_of}
@@ -66,3 +67,9 @@ returns-clause-turns_read g c = turns_read
 
 pub returns-clause-changed_turns_read : goal.returns-clause-changed_turns_read
 returns-clause-changed_turns_read g c = changed_turns_read
+
+pub returns-then-every-eq0-clause-listeners : goal.returns-then-every-eq0-clause-listeners
+returns-then-every-eq0-clause-listeners g c = listeners_hear
+
+pub returns-clause-listeners : goal.returns-clause-listeners
+returns-clause-listeners g c = listeners_hear

@@ -1,0 +1,14 @@
+-- What holds of the definitions, for the crates above.
+
+-- who begins to listen at any packet has only segments of the turn on air; and the whole carousel
+-- where two turns have ended
+pub use Rattle.mot_listening.proofs.Heard.{IsOnAir, heard-on, opened-on, sent-on}
+pub use Rattle.mot_listening.proofs.Counts.{packets-are, packets_for}
+pub use Rattle.mot_listening.proofs.OfTurn.{changed-on}
+pub use Rattle.mot_listening.proofs.DirectoryNext.{asked_packets, asks_once, room-kept}
+pub use Rattle.mot_listening.proofs.DirectoryNext.{group-fewer, group_left, some-packets}
+pub use Rattle.mot_listening.proofs.DirectoryNext.{until_asked}
+pub use Rattle.mot_listening.proofs.Rest.{IsRest, changed-comes, rest-behind_turn, rest-ended}
+pub use Rattle.mot_listening.proofs.Rest.{rest-heard, rest-sent}
+pub use Rattle.mot_listening.proofs.TuneIn.{hears-change, hears-directory, hears-only}
+pub use Rattle.mot_listening.proofs.TuneIn.{hears-settled, hears-two_ends, hears-within}

@@ -1,0 +1,12 @@
+pub mod Collected
+pub mod Counts
+pub mod DirectoryNext
+pub mod Ends
+pub mod Heard
+pub mod Laws
+pub mod ListeningRows
+pub mod OfTurn
+pub mod Renews
+pub mod Rest
+pub mod TuneIn
+pub mod Whole

@@ -1,0 +1,7 @@
+//! What a receiver has that begins to listen at any packet of a player, and how long it waits. The
+//! clauses that cite it are of `mot_feed`, but for those of the laws here.
+#![tactic(auto)]
+
+mod law;
+
+pub use law::listening_laws;
