@@ -83,11 +83,11 @@ pub(crate) fn prepare_change<'a>(
     let Some(start) = start else {
         return Err(Refusal::NoRoom);
     };
-    let given = records_to_give(alloc, is_full, inventory)?;
-    let record = record_of_change(&inventory.carousel, &change.next, command, start)?;
     let place = place_in(inventory, command);
     let extents = extents_after(alloc, inventory, place, command, start)?;
     let by_start = by_start_after(alloc, inventory, place, command, start)?;
+    let given = records_to_give(alloc, is_full, inventory)?;
+    let record = record_of_change(&inventory.carousel, &change.next, command, start)?;
     Ok(Prepared {
         inventory: Inventory {
             carousel: change.next,
