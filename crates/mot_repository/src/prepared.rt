@@ -6,7 +6,7 @@ ghost use Rattle.mot_numbers.specs.Geometry.{is_valid};
 ghost use Rattle.mot_repository.specs.Answers.{IsRefusal};
 ghost use Rattle.mot_repository.specs.Inner.Extents.{catalogue_with};
 ghost use Rattle.mot_repository.specs.Inner.Whole.{IsWhole};
-ghost use Rattle.mot_repository.specs.Inner.Laws.{records_of_catalogue};
+ghost use Rattle.mot_repository.specs.Records.{records_of_catalogue};
 ghost use Rattle.mot_repository.specs.Outcome.{body_of, has_long_name};
 ghost use Rattle.mot_repository.specs.Inner.Prepared.{IsFull};
 ghost use Rattle.mot_repository.specs.Inner.Ready.{IsPrepared};

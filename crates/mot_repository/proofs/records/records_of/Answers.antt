@@ -4,7 +4,7 @@ use Rattle.std.proofs.lemmas.List.{take_all}
 use Rattle.mot_journal.specs.Catalogue.{Catalogue}
 use Rattle.mot_journal.specs.declared.record.Record.{Record}
 use Rattle.mot_repository.specs.Inner.Extents.{objects_in, catalogue_with}
-use Rattle.mot_repository.specs.Inner.Laws.{records_of_objects}
+use Rattle.mot_repository.specs.Records.{records_of_objects}
 use Rattle.mot_repository.proofs.Extents.{record_with, set_of_object, records_of_objects-next}
 use Rattle.mot_repository.proofs.Extents.{records-none, records-some, is_zero, isnt_zero}
 use Rattle.mot_repository.proofs.Listing.{same_count}

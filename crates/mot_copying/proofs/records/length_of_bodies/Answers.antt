@@ -1,5 +1,5 @@
 use Rattle.std.proofs.Common.{arith}
-use Rattle.mot_repository.proofs.copying.length_of_bodies.Goals as goal
+use Rattle.mot_copying.proofs.records.length_of_bodies.Goals as goal
 
 pub offset_bounds-objects-object-index : goal.offset_bounds-objects-object-index
 offset_bounds-objects-object-index c = omega arith
