@@ -28,15 +28,3 @@ returns-in_err-action-clause-fault c =
     rw (p.1, p.2) (unread_by _ _ c.args.geometry.now c.args.layout c.args.slot.now
     c.in_err-action.field-0.0 (no_action c.args.geometry.now c.args.layout c.args.slot.now)
     c.in_err-action.ensures.fault)
-
-pub overflow_cast-number : goal.overflow_cast-number
-overflow_cast-number c = omega arith
-
-pub overflow_cast-number-2 : goal.overflow_cast-number-2
-overflow_cast-number-2 c = omega arith
-
-pub unwrap-period-requires : goal.unwrap-period-requires
-unwrap-period-requires c = omega arith
-
-pub read_action-requires : goal.read_action-requires
-read_action-requires c = omega arith

@@ -30,6 +30,3 @@ returns-clause-reads c = λ g sound.
 pub returns-clause-size : goal.returns-clause-size
 returns-clause-size c = λ g sound.
     ap length (returns-clause-written c) ∙ written_length g c.args.layout c.args.entry.now sound
-
-pub clear-requires : goal.clear-requires
-clear-requires c = omega arith

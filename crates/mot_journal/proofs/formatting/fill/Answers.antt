@@ -154,12 +154,3 @@ fill_half-requires-2-clause-long_enough g c =
 
 pub fill_half-requires-2-clause-sound : goal.fill_half-requires-2-clause-sound
 fill_half-requires-2-clause-sound g c = λ k other lt. absurd (omega (arith, lt))
-
-pub deref-requires : goal.deref-requires
-deref-requires g c = omega arith
-
-pub write-requires : goal.write-requires
-write-requires g c = omega arith
-
-pub slice_bounds-fill_half-end : goal.slice_bounds-fill_half-end
-slice_bounds-fill_half-end g c = omega arith

@@ -1,4 +1,3 @@
-use Rattle.std.proofs.Common.{arith}
 use Rattle.std.proofs.Common.{◌≡◌, List, ℕ, [], ◌++◌, length, replicate, refl, ap}
 use Rattle.std.specs.Int.{w16, w32, to_be_bytes}
 use Rattle.mot_journal.specs.Inner.Format.{behind_magic}
@@ -24,9 +23,3 @@ returns-clause-value c =
 
 pub returns-clause-len : goal.returns-clause-len
 returns-clause-len c = ap length (returns-clause-value c)
-
-pub new-head-requires : goal.new-head-requires
-new-head-requires c = omega arith
-
-pub slice_bounds-array_append-end-2 : goal.slice_bounds-array_append-end-2
-slice_bounds-array_append-end-2 c = omega arith

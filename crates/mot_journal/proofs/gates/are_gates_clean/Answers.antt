@@ -158,18 +158,3 @@ returns-clause-cause g c = λ is. absurd (not_both is)
 
 pub returns-clause-calm : goal.returns-clause-calm
 returns-clause-calm g c = c.loop-number.invariant.calm
-
-pub div_ceil-number-end-requires : goal.div_ceil-number-end-requires
-div_ceil-number-end-requires g c = omega arith
-
-pub overflow_mul-from : goal.overflow_mul-from
-overflow_mul-from g c = omega arith
-
-pub overflow_sub-half_size : goal.overflow_sub-half_size
-overflow_sub-half_size g c = omega arith
-
-pub slice_bounds-piece-end : goal.slice_bounds-piece-end
-slice_bounds-piece-end g c = omega arith
-
-pub half_start-requires : goal.half_start-requires
-half_start-requires g c = omega arith

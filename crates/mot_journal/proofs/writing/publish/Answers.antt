@@ -112,6 +112,3 @@ returns-clause-cost g c =
     costs_all 3 (state c.args.disk.now) (state c.sync-2.new.self) c.sync-2.result
     (one_more _ _ _ 2 (one_more _ _ _ 1 c.sync.ensures.called c.write.ensures.called)
     c.sync-2.ensures.called)
-
-pub write-requires : goal.write-requires
-write-requires g c = omega arith

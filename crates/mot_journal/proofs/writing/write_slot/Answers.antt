@@ -85,24 +85,3 @@ returns-clause-ok g c = λ honest.
     let before = found g (goal.at.returns-clause-ok g c).After-write honest rest in
     on_ok_weaker c.publish.result (λ leaves image left. written before image (leaves image left))
     (c.publish.ensures.ok (c.write.ensures.keeps.honest honest))
-
-pub overflow_add-place : goal.overflow_add-place
-overflow_add-place g c = omega arith
-
-pub slice_bounds-write-count : goal.slice_bounds-write-count
-slice_bounds-write-count g c = omega arith
-
-pub slice_bounds-write-start : goal.slice_bounds-write-start
-slice_bounds-write-start g c = omega arith
-
-pub slice_bounds-write-end : goal.slice_bounds-write-end
-slice_bounds-write-end g c = omega arith
-
-pub write-requires : goal.write-requires
-write-requires g c = omega arith
-
-pub bounds-slot-0 : goal.bounds-slot-0
-bounds-slot-0 g c = omega arith
-
-pub slice_bounds-publish-end : goal.slice_bounds-publish-end
-slice_bounds-publish-end g c = omega arith

@@ -189,9 +189,3 @@ returns-in_default-clause-fault g c = refl
 
 pub returns-clause-fault : goal.returns-clause-fault
 returns-clause-fault g c = tt
-
-pub next_place-place-requires : goal.next_place-place-requires
-next_place-place-requires g c = omega arith
-
-pub deref-requires : goal.deref-requires
-deref-requires g c = omega arith
