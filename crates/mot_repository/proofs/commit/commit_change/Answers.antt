@@ -1,4 +1,3 @@
-use Rattle.std.proofs.Common.{arith}
 use Rattle.std.proofs.Common.{◌≡◌, ◌∙◌, ◌+◌, inl, refl, sym, ap, subst, List, ℕ, length}
 use Rattle.std.proofs.Common.{slice_range, ◌≤◌}
 use Rattle.disk_model.proofs.Laws.{weakens, joins}
@@ -126,15 +125,3 @@ returns-clause-rewriting g c = rewriting.keeps
 
 pub returns-clause-standings : goal.returns-clause-standings
 returns-clause-standings g c = soundness.keeps
-
-pub make_room-requires-clause-going : goal.make_room-requires-clause-going
-make_room-requires-clause-going g c = c.requires.going
-
-pub make_room-requires-clause-long_enough : goal.make_room-requires-clause-long_enough
-make_room-requires-clause-long_enough g c = c.requires.long_enough
-
-pub make_room-requires-clause-given : goal.make_room-requires-clause-given
-make_room-requires-clause-given g c = c.requires.given
-
-pub write_change-requires-clause-within : goal.write_change-requires-clause-within
-write_change-requires-clause-within g c = omega arith

@@ -23,21 +23,3 @@ loop-fits-preserved c =
       none = λ n le. none_above c.args.extents.now _ n c.args.data_len
           (sym c.first_fit.ensures ∙ c.in-None.is) le;
     }
-
-pub overflow_add-above : goal.overflow_add-above
-overflow_add-above c = omega arith
-
-pub overflow_add-fits : goal.overflow_add-fits
-overflow_add-fits c = omega arith
-
-pub overflow_sub-middle : goal.overflow_sub-middle
-overflow_sub-middle c = omega arith
-
-pub overflow_add-middle : goal.overflow_add-middle
-overflow_add-middle c = omega arith
-
-pub overflow_cast-middle : goal.overflow_cast-middle
-overflow_cast-middle c = omega arith
-
-pub overflow_cast-result : goal.overflow_cast-result
-overflow_cast-result c = omega arith

@@ -71,12 +71,3 @@ loop-from-preserved c =
             next = was.next;
           })
     ]
-
-pub offset_bounds-extents-from-index : goal.offset_bounds-extents-from-index
-offset_bounds-extents-from-index c = omega arith
-
-pub overflow_add-end : goal.overflow_add-end
-overflow_add-end c = omega arith
-
-pub overflow_add-above : goal.overflow_add-above
-overflow_add-above c = omega arith
