@@ -1,5 +1,5 @@
 #!/usr/bin/env python3
-"""Writes crates/mot_journal/proofs/Images.antt: images of disks, and what they stand for by a model of section 7 of
+"""Writes crates/mot_tests/proofs/Images.antt: images of disks, and what they stand for by a model of section 7 of
 docs/FORMATS.md, written from that page alone; the prover computes the same from the definitions.
 
     tools/images.py            writes the file
@@ -11,7 +11,7 @@ import random
 import sys
 import textwrap
 
-FILE = pathlib.Path(__file__).resolve().parent.parent / "crates/mot_journal/proofs/Images.antt"
+FILE = pathlib.Path(__file__).resolve().parent.parent / "crates/mot_tests/proofs/Images.antt"
 MAGIC, OPEN, HEAD = b"MOTCAR01", 0xA5, 64
 RANDOM_IMAGES, SEED = 24, 2026
 KEPT = "\u00a0"  # a space at which no line ends: rt fmt lays out anew a pair that is cut
@@ -393,7 +393,7 @@ def main():
     wanted = PREAMBLE + "".join(rows_of(name, image) for name, image in images.items())
     if sys.argv[1:] == ["--check"]:
         if FILE.read_text() != wanted:
-            print("tools/images.py: crates/mot_journal/proofs/Images.antt is not what this tool writes")
+            print("tools/images.py: crates/mot_tests/proofs/Images.antt is not what this tool writes")
             return 1
         print(f"tools/images.py: {len(images)} images, as they should be")
         return 0

@@ -15,6 +15,7 @@ ghost use Rattle.mot_repository.specs.Copy.{bytes_in_row, bytes_of_extents};
 ghost use Rattle.mot_repository.specs.OnDisk.{body_on, extent_at};
 ghost use Rattle.mot_repository.specs.Repository.{HasStanding};
 
+use crate::records::records_of_copy;
 use disk_model::Disk;
 use mot_journal::{Geometry, Record, area_start, make_disk, reads_magic};
 use mot_numbers::{Refusal, TransportId};
@@ -71,7 +72,7 @@ pub fn copy<D: Disk, E: Disk>(
     if to.len() < geometry.length() {
         return Err(NotCopied::Refused(Refusal::DiskTooSmall));
     }
-    match from.records_of_copy(alloc, geometry, after) {
+    match records_of_copy(from, alloc, geometry, after) {
         Ok(records) => copy_over(from, to, geometry, &records),
         Err(refusal) => Err(NotCopied::Refused(refusal)),
     }

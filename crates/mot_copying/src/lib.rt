@@ -2,5 +2,7 @@
 #![tactic(auto)]
 
 mod copying;
+mod records;
 
 pub use copying::{NotCopied, copy};
+pub use records::records_of_copy;

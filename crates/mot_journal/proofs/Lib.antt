@@ -5,7 +5,6 @@ mod Encoded
 mod Fill
 mod Halves
 mod Heads
-mod Images
 pub mod Laws
 mod Loads
 mod Making

@@ -35,13 +35,17 @@ numbers_at_16 = refl
 usual_length : length_of usual ≡ 84032
 usual_length = refl
 
+-- one object, 8 bytes for bodies
+abbrev small : Geometry
+small = record { objects = 1; segment = 64; address = 1; packet = 24; area = 8 }
+
 -- a new disk of layout 1, and one byte less
-new_disk_stands : stands_for (head_bytes usual 0 ++ replicate 83968 0) ≡
-    Ok (record { geometry = usual; carousel = new_carousel; extents = []; rest = [] })
+new_disk_stands : stands_for (head_bytes small 0 ++ replicate 3080 0) ≡
+    Ok (record { geometry = small; carousel = new_carousel; extents = []; rest = [] })
 unfolding stands_for records_of geometry_of read_slot fold_from
 new_disk_stands = refl
 
-too_short : stands_for (head_bytes usual 0 ++ replicate 83967 0) ≡ Err NotFormatted
+too_short : stands_for (head_bytes small 0 ++ replicate 3079 0) ≡ Err NotFormatted
 unfolding stands_for records_of geometry_of read_slot fold_from
 too_short = refl
 
@@ -93,13 +97,13 @@ first_is_written = refl
 
 -- a new disk of layout 2
 formatted_stands : stands_for
-    (head_bytes usual 0 ++ bytes_of_slot Two first_record ++ replicate 83456 0) ≡
-    Ok (record { geometry = usual; carousel = new_carousel; extents = []; rest = [] })
+    (head_bytes small 0 ++ bytes_of_slot Two first_record ++ replicate 2568 0) ≡
+    Ok (record { geometry = small; carousel = new_carousel; extents = []; rest = [] })
 unfolding stands_for records_of geometry_of read_slot fold_from bytes_of_slot
 formatted_stands = refl
 
 formatted_records : records_of
-    (head_bytes usual 0 ++ bytes_of_slot Two first_record ++ replicate 83456 0) ≡
-    Ok (record { geometry = usual; half = 0; layout = Two; records = first_record ∷ [] })
+    (head_bytes small 0 ++ bytes_of_slot Two first_record ++ replicate 2568 0) ≡
+    Ok (record { geometry = small; half = 0; layout = Two; records = first_record ∷ [] })
 unfolding records_of geometry_of read_slot bytes_of_slot
 formatted_records = refl

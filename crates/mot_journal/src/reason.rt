@@ -1,12 +1,7 @@
 //! Why a disk is not opened, or not formatted: what its bytes say.
 use crate::Layout;
-use crate::places::HEAD_SIZE;
-use mot_numbers::{
-    Geometry, MAX_ADDRESS, MAX_DATA_AREA, MAX_OBJECTS, MAX_SEGMENT, MIN_SEGMENT, Refusal,
-};
-use mot_objects::{MAX_BODY, MAX_SUBTYPE, MAX_TYPE};
+use mot_numbers::{Geometry, Refusal};
 use std::alloc::AllocError;
-use std::fmt::{self, Display, Formatter};
 
 /// Why a disk is not opened, or not formatted.
 #[derive(Clone, Copy)]
@@ -165,122 +160,5 @@ impl Reason {
             Refusal::DiskTooSmall if len < asked => Some(Reason::Small { len, asked }),
             _ => None,
         }
-    }
-}
-
-impl Display for Reason {
-    fn fmt<W: fmt::Write>(&self, f: &mut Formatter<W>) -> fmt::Result {
-        match *self {
-            Reason::Head(fault) => fault.fmt(f),
-            Reason::Field { slot, fault } => write!(f, "slot {slot}: {fault}"),
-            Reason::List { slot, fault } => write!(f, "slot {slot}: {fault}"),
-            Reason::Formatted => f.write_str("it is a motcar disk already"),
-            Reason::Small { len, asked } => {
-                write!(f, "{len} bytes, and the geometry asks for {asked}")
-            }
-        }
-    }
-}
-
-impl Display for HeadFault {
-    fn fmt<W: fmt::Write>(&self, f: &mut Formatter<W>) -> fmt::Result {
-        match *self {
-            HeadFault::Short { len } => write!(
-                f,
-                "no motcar disk: {len} bytes, and the head alone has {HEAD_SIZE}"
-            ),
-            HeadFault::Foreign => f.write_str("no motcar disk: it does not begin with MOTCAR01"),
-            HeadFault::OutOfRange { size, number } => {
-                write!(f, "its head has {} {number}: {size}", size.name())
-            }
-            HeadFault::Cut { len, asked } => write!(f, "cut short: {len} of {asked} bytes"),
-        }
-    }
-}
-
-impl Size {
-    /// Its name, as that of its option.
-    fn name(self) -> &'static str {
-        match self {
-            Size::Objects => "objects",
-            Size::Segment => "segment",
-            Size::Address => "address",
-            Size::Packet => "packet",
-            Size::Data => "data",
-        }
-    }
-}
-
-/// It prints as its range.
-impl Display for Size {
-    fn fmt<W: fmt::Write>(&self, f: &mut Formatter<W>) -> fmt::Result {
-        let (least, most) = match *self {
-            Size::Objects => (1, u32::from(MAX_OBJECTS)),
-            Size::Segment => (u32::from(MIN_SEGMENT), u32::from(MAX_SEGMENT)),
-            Size::Address => (1, u32::from(MAX_ADDRESS)),
-            Size::Packet => return f.write_str("24, 48, 72 or 96"),
-            Size::Data => (1, MAX_DATA_AREA),
-        };
-        write!(f, "{least} to {most}")
-    }
-}
-
-impl Display for FieldFault {
-    fn fmt<W: fmt::Write>(&self, f: &mut Formatter<W>) -> fmt::Result {
-        match *self {
-            FieldFault::Directory => f.write_str("the directory has transport id 0"),
-            FieldFault::Last => f.write_str("the transport id that was taken last is 0"),
-            FieldFault::Kind { layout, kind } => write!(f, "kind {kind}: {}", kinds_of(layout)),
-            FieldFault::Object => f.write_str("the object has transport id 0"),
-            FieldFault::Content {
-                content_type,
-                subtype,
-            } => write!(
-                f,
-                "content type {content_type}, subtype {subtype}: at most {MAX_TYPE} and {MAX_SUBTYPE}"
-            ),
-            FieldFault::Length { length } => {
-                write!(f, "a body of {length} bytes: 1 to {MAX_BODY}")
-            }
-            FieldFault::Extent { end, area } => {
-                write!(f, "its body ends at {end}, the data area at {area}")
-            }
-            FieldFault::Name { length } => write_broken(f, "name", length),
-            FieldFault::Mime { length } => write_broken(f, "MIME type", length),
-        }
-    }
-}
-
-/// Writes that a text of so many bytes breaks its rule.
-fn write_broken<W: fmt::Write>(f: &mut Formatter<W>, text: &str, length: u8) -> fmt::Result {
-    write!(f, "its {text} of {length} bytes breaks the rule of {text}s")
-}
-
-/// The kinds of records that a layout has, in words.
-fn kinds_of(layout: Layout) -> &'static str {
-    match layout {
-        Layout::One => "layout 1 has 1 to 3",
-        Layout::Two => "layout 2 has 17 to 19",
-    }
-}
-
-impl Display for ListFault {
-    fn fmt<W: fmt::Write>(&self, f: &mut Formatter<W>) -> fmt::Result {
-        let (before, number, after) = match *self {
-            ListFault::Missing { id } => ("it removes transport id ", id, ", which no object has"),
-            ListFault::TooMany { limit } => ("it sets one object more than ", limit, ""),
-            ListFault::SameId { id } => ("transport id ", id, " is that of another object, too"),
-            ListFault::DirectoryId { id } => {
-                ("the directory's transport id ", id, " is that of an object")
-            }
-            ListFault::Meets { id } => {
-                (
-                    "the body of transport id ",
-                    id,
-                    " meets that of another object",
-                )
-            }
-        };
-        write!(f, "{before}{number}{after}")
     }
 }

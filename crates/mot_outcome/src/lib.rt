@@ -4,6 +4,7 @@
 
 mod exit;
 mod printing;
+mod reason;
 mod subject;
 mod unfit;
 mod used;

@@ -3,6 +3,7 @@
 ghost use Rattle.std.specs.Prelude.{◌≡◌, ◌⊎◌, codes};
 ghost use Rattle.std.specs.declared.io.ErrorKind.TheVariants.{QuotaExceeded, StorageFull};
 
+use crate::reason::InWords;
 use clap::ArgMatches;
 use disk_store::OpenFault;
 use mot_devices::DeviceUse;
@@ -126,6 +127,7 @@ pub fn tell<E: Write>(errors: &mut E, level: &str, subject: Subject<'_>) {
     match subject {
         Subject::Nothing => {}
         Subject::Disk { path, reason } => {
+            let reason = InWords(reason);
             let _ = writeln!(errors, "{level}motcar: {path}: {reason}");
         }
         Subject::File { path, cause } => {

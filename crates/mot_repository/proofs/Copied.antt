@@ -41,7 +41,7 @@ use Rattle.mot_repository.specs.Extents.{ArePaired}
 use Rattle.mot_repository.specs.Inner.Extents.{with_extent, objects_in, catalogue_in}
 use Rattle.mot_repository.specs.Inner.Extents.{bytes_of_bodies}
 use Rattle.mot_repository.specs.Inner.Fold.{HaveLengths}
-use Rattle.mot_repository.specs.Inner.Laws.{records_of_objects, records_of_catalogue}
+use Rattle.mot_repository.specs.Records.{records_of_objects, records_of_catalogue}
 use Rattle.mot_repository.specs.Inner.Planned.{IsId}
 use Rattle.mot_repository.specs.Inner.Whole.{placed_names, placed_tids, IsSoundPlaced, IsWhole}
 use Rattle.mot_repository.specs.Repository.{RepositoryView, HasStanding}

@@ -20,7 +20,7 @@ use Rattle.mot_objects.specs.declared.command.Command.TheVariants.{Put, Replace,
 use Rattle.mot_repository.specs.Inner.Extents.{objects_in}
 use Rattle.mot_repository.specs.Inner.Following.{extent_of, extents_with, extents_without}
 use Rattle.mot_repository.specs.Inner.Following.{placed_extents_after}
-use Rattle.mot_repository.specs.Inner.Laws.{records_of_objects, records_of_catalogue}
+use Rattle.mot_repository.specs.Records.{records_of_objects, records_of_catalogue}
 use Rattle.mot_repository.specs.Outcome.{extents_after}
 use Rattle.mot_repository.specs.Inner.Prepared.{kept_object_named}
 use Rattle.mot_carousel.proofs.Laws.{head, tail}

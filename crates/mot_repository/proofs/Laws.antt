@@ -15,6 +15,10 @@ pub use Rattle.mot_repository.proofs.Outcomes.{IsAccepted, accepted_parts, accep
 pub use Rattle.mot_repository.proofs.Outcomes.{some_standing}
 -- a disk with the records of a copy and the bodies in a row stands for the copy
 pub use Rattle.mot_repository.proofs.Copied.{copy_stands}
+-- the records of a copy, one after the other, and as many bytes of bodies as of extents
+pub use Rattle.mot_repository.proofs.Copied.{packed-next, bytes-same}
+pub use Rattle.mot_repository.proofs.Extents.{record_with, set_of_object}
+pub use Rattle.mot_repository.proofs.Extents.{records-none, records-some, is_zero, isnt_zero}
 -- what an image of bytes stands for keeps the rules of objects
 pub use Rattle.mot_repository.proofs.Rules.{rules_kept}
 

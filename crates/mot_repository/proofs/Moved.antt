@@ -9,7 +9,7 @@ use Rattle.mot_journal.specs.Catalogue.{Catalogue}
 use Rattle.mot_journal.specs.Image.{Standing}
 use Rattle.mot_journal.specs.Journal.{JournalView, HoldsRecords, FoldOf, OldOrGiven, OnlyReadArea}
 use Rattle.mot_repository.specs.Inner.Extents.{catalogue_in}
-use Rattle.mot_repository.specs.Inner.Laws.{records_of_catalogue}
+use Rattle.mot_repository.specs.Records.{records_of_catalogue}
 use Rattle.mot_repository.specs.Repository.{RepositoryView, Agrees, IsOf, Holds}
 use Rattle.mot_repository.proofs.Committing.{rewrote, holds_rewritten}
 use Rattle.mot_repository.proofs.Preparing.{kept}

@@ -37,7 +37,7 @@ use Rattle.mot_repository.specs.Extents.{ArePaired}
 use Rattle.mot_repository.specs.Outcome.{body_of, has_long_name, start_of, extents_after}
 use Rattle.mot_repository.specs.Inner.Planned.{HasFields, IsTyped}
 use Rattle.mot_repository.specs.Inner.Whole.{IsWhole}
-use Rattle.mot_repository.specs.Inner.Laws.{records_of_catalogue}
+use Rattle.mot_repository.specs.Records.{records_of_catalogue}
 use Rattle.mot_repository.specs.Inner.Prepared.{ChangesTo, CanBeGiven, IsFull, IsPreparedFor}
 use Rattle.mot_repository.specs.Inner.Prepared.{kept_object_named, kept_set, kept_remove}
 use Rattle.mot_repository.specs.Inner.Prepared.{kept_action}

@@ -31,7 +31,7 @@ use Rattle.mot_objects.specs.Carousel as whole
 use Rattle.mot_objects.specs.Stands.{object_of, objects_of, carousel_of, bodies_after, AreBodiesOf}
 use Rattle.mot_repository.specs.Gap.{is_beside, is_free, least_gap}
 use Rattle.mot_repository.specs.Inner.LeastGap.{IsLeastGap}
-use Rattle.mot_repository.specs.Inner.Laws.{records_of_catalogue}
+use Rattle.mot_repository.specs.Records.{records_of_catalogue}
 use Rattle.mot_repository.specs.Inner.Following.{IsPlaced, object_named, set_action, remove_action}
 use Rattle.mot_repository.specs.Inner.Following.{action_of, record_of, placed_extents_after}
 use Rattle.mot_repository.specs.Inner.Extents.{objects_in, catalogue_in, names_kept}

@@ -16,7 +16,7 @@ use Rattle.mot_journal.specs.Catalogue.{are_all_apart, is_consistent, catalogue_
 use Rattle.mot_numbers.specs.declared.refusal.Refusal.{Refusal}
 use Rattle.mot_objects.specs.Carousel.{are_names_distinct}
 use Rattle.mot_objects.specs.Ids.{contains, is_distinct}
-use Rattle.mot_repository.specs.Inner.Laws.{records_of_objects, records_of_catalogue}
+use Rattle.mot_repository.specs.Records.{records_of_objects, records_of_catalogue}
 use Rattle.mot_repository.specs.Inner.Following.{RewritingKeepsTheCatalogue}
 use Rattle.mot_repository.specs.Inner.Whole.{placed_names, IsGood}
 use Rattle.mot_repository.proofs.Folding.{step_from, good_fold}

@@ -35,7 +35,7 @@ use Rattle.mot_objects.specs.Stands.{object_of}
 use Rattle.mot_objects.specs.Mime.{is_mime}
 use Rattle.mot_objects.specs.Name.{is_name}
 use Rattle.mot_repository.specs.Gap.{is_beside}
-use Rattle.mot_repository.specs.Inner.Laws.{records_of_objects, records_of_catalogue}
+use Rattle.mot_repository.specs.Records.{records_of_objects, records_of_catalogue}
 use Rattle.mot_repository.specs.Inner.Following.{StandingsAreSound}
 use Rattle.mot_repository.specs.Inner.Whole.{placed_names, IsGood, IsSoundPlaced, IsWhole}
 use Rattle.mot_repository.proofs.Folding.{is_step, good_step, good_new, fold_keeps, SetHas}

@@ -15,6 +15,7 @@ use Rattle.mot_objects.specs.declared.carousel.Carousel.{Carousel}
 use Rattle.mot_objects.specs.declared.object.Object.{Object}
 use Rattle.mot_objects.specs.Carousel as whole
 use Rattle.mot_objects.specs.Ids.{next_free_id}
+use Rattle.mot_repository.specs.Records.{records_of_catalogue}
 use Rattle.mot_repository.specs.Repository.{RepositoryView}
 
 -- The directory's id and the cursor of a copy of a carousel with these, whose objects have these
@@ -93,6 +94,20 @@ pub record AreOfCopy (view : RepositoryView) (g : Geometry) (after : Option ℕ)
       ≡ Ok (packed_catalogue view.carousel (ids_of_copy view g after))
   pub objects : length view.carousel.objects.items ≤ g.objects
   pub room : bytes_of_extents view.extents ≤ g.area
+
+-- an id
+abbrev pub IsId : ℕ → Type 0
+IsId id = (1 ≤ id) × (id ≤ 65535)
+
+-- The records that set each object in turn, with the ids of a copy and its bodies one after the
+-- other, are those of the copy.
+abbrev pub CopiesAreSound : RepositoryView → Type 0
+CopiesAreSound view = (g : Geometry) (after : Option ℕ) (records : List Record)
+    → IsId (unwrap_or after view.carousel.cursor)
+    → IsId (ids_of_copy view g after).0 × IsId (ids_of_copy view g after).1
+    → length view.carousel.objects.items ≤ g.objects → bytes_of_extents view.extents ≤ g.area
+    → records ≡ records_of_catalogue (packed_catalogue view.carousel (ids_of_copy view g after))
+    → AreOfCopy view g after records
 
 -- Why there are none. Memory is asked for last.
 pub data IsNoCopy (view : RepositoryView) (g : Geometry) (refusal : Refusal) : Type 0 where

@@ -7,4 +7,5 @@ pub mod Inner
 pub mod OnDisk
 pub mod Opening
 pub mod Outcome
+pub mod Records
 pub mod Repository

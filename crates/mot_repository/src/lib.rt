@@ -3,7 +3,6 @@
 
 mod by_start;
 mod commit;
-mod copying;
 mod gap;
 mod inventory;
 mod opening;

@@ -6,7 +6,7 @@ ghost use Rattle.mot_numbers.specs.Geometry.{is_valid};
 ghost use Rattle.mot_repository.specs.Answers.{IsRefusal};
 ghost use Rattle.mot_repository.specs.Inner.Extents.{catalogue_with};
 ghost use Rattle.mot_repository.specs.Inner.Whole.{IsWhole};
-ghost use Rattle.mot_repository.specs.Inner.Laws.{records_of_catalogue};
+ghost use Rattle.mot_repository.specs.Records.{records_of_catalogue};
 ghost use Rattle.mot_repository.specs.Outcome.{body_of, has_long_name};
 ghost use Rattle.mot_repository.specs.Inner.Prepared.{IsFull};
 ghost use Rattle.mot_repository.specs.Inner.Ready.{IsPrepared};
@@ -83,11 +83,11 @@ pub(crate) fn prepare_change<'a>(
     let Some(start) = start else {
         return Err(Refusal::NoRoom);
     };
-    let given = records_to_give(alloc, is_full, inventory)?;
-    let record = record_of_change(&inventory.carousel, &change.next, command, start)?;
     let place = place_in(inventory, command);
     let extents = extents_after(alloc, inventory, place, command, start)?;
     let by_start = by_start_after(alloc, inventory, place, command, start)?;
+    let given = records_to_give(alloc, is_full, inventory)?;
+    let record = record_of_change(&inventory.carousel, &change.next, command, start)?;
     Ok(Prepared {
         inventory: Inventory {
             carousel: change.next,

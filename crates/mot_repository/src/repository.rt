@@ -3,14 +3,13 @@ ghost use Rattle.std.specs.Prelude.{◌≡◌, ◌<◌, ◌≤◌, ◌+◌, ◌�
 ghost use Rattle.std.specs.Prelude.{slice_range, Ok, OnOk, OnErr, IfOk, IfErr, IsTrue, IsFalse};
 
 use crate::commit::commit_change;
-use crate::copying::{ids_of_copy, length_of_bodies, packed_records};
 use crate::gap::longest_gap;
 use crate::inventory::Inventory;
 use crate::prepared::{Prepared, prepare_change};
 use crate::records::records_of;
 use disk_model::Disk;
-use mot_journal::{Geometry, Journal, Layout, Record, area_start};
-use mot_numbers::{Refusal, TransportId};
+use mot_journal::{Geometry, Journal, Layout, area_start};
+use mot_numbers::Refusal;
 use mot_objects::{Carousel, Command, Done};
 use std::alloc::Global;
 use std::marker::Model;
@@ -63,7 +62,7 @@ impl<D: Disk> Repository<D> {
     ghost use Rattle.mot_journal.specs.Slot.{slot_count};
     ghost use Rattle.mot_repository.specs.Answers.{IsRefusal, IsChanged, IsAnswered};
     ghost use Rattle.mot_repository.specs.Answers.{IsHalted, IsMigrationRefusal};
-    ghost use Rattle.mot_repository.specs.Copy.{AreOfCopy, IsNoCopy};
+    ghost use Rattle.mot_repository.specs.Copy.{CopiesAreSound};
     ghost use Rattle.mot_repository.specs.Cost.{calls_of_command};
     ghost use Rattle.mot_repository.specs.Extents.{ArePaired};
     ghost use Rattle.mot_repository.specs.Gap.{IsLongestGap};
@@ -404,33 +403,11 @@ impl<D: Disk> Repository<D> {
         Ok(true)
     }
 
-    /// The records of a new disk of this geometry for the same carousel, its bodies one after the
-    /// other from the beginning of the data area. The ids go on after `after`, or else after the
-    /// cursor; with another segment size the directory takes a new one. It does not call the disk.
-    ///
-    /// The refusals are `TooManyObjects` and `NoRoom` if the geometry is too small, and
-    /// `OutOfMemory`.
-    pub fn records_of_copy(
-        &self,
-        alloc: Global,
-        geometry: &Geometry,
-        after: Option<TransportId>,
-    ) -> Result<Vec<Record>, Refusal>
-        ensures records { IfOk result
-            (λ records. AreOfCopy self.now.view geometry.now after records.items) }
-        ensures refused { IfErr result
-            (λ refusal. IsNoCopy self.now.view geometry.now refusal) }
+    /// What the records of each copy of what is kept come to. It is there for the proof of copies, and
+    /// does nothing when it runs.
+    pub fn know_copies(&self)
+        ensures { CopiesAreSound self.now.view }
     {
-        let carousel = &self.inventory.carousel;
-        if carousel.objects.len() > usize::from(geometry.objects) {
-            return Err(Refusal::TooManyObjects);
-        }
-        if length_of_bodies(&carousel.objects) > u64::from(geometry.area) {
-            return Err(Refusal::NoRoom);
-        }
-        let changed = geometry.segment != self.journal.geometry().segment;
-        let (directory, cursor) = ids_of_copy(alloc, carousel, after, changed)?;
-        let records = packed_records(alloc, carousel, directory, cursor)?;
-        Ok(records)
+        self.journal.geometry();
     }
 }

@@ -15,7 +15,7 @@ use Rattle.mot_objects.specs.declared.command.Command.TheVariants.{Put, Replace,
 use Rattle.mot_objects.specs.declared.command.Done.{Done}
 use Rattle.mot_objects.specs.Carousel.{Object, Carousel, change, has_name, IsSound}
 use Rattle.mot_repository.specs.Gap.{is_free}
-use Rattle.mot_repository.specs.Inner.Laws.{records_of_catalogue}
+use Rattle.mot_repository.specs.Records.{records_of_catalogue}
 
 abbrev pub extent_of : Placed → ℕ × ℕ
 extent_of p = (p.start, p.object.length)

@@ -15,7 +15,7 @@ use Rattle.mot_objects.specs.declared.command.Done.{Done}
 use Rattle.mot_objects.specs.Carousel.{change}
 use Rattle.mot_objects.specs.Stands.{carousel_of, bodies_after, AreBodiesOf}
 use Rattle.mot_repository.specs.Inner.Extents.{catalogue_in, names_kept}
-use Rattle.mot_repository.specs.Inner.Laws.{records_of_catalogue}
+use Rattle.mot_repository.specs.Records.{records_of_catalogue}
 use Rattle.mot_repository.specs.Outcome.{body_of, extents_after, has_long_name, start_of}
 use Rattle.mot_repository.specs.Repository.{RepositoryView}
 

@@ -26,3 +26,18 @@ returns-in-Err c =
     ≡ take (slice_index c.args.bytes.now 0) (drop 1 c.args.bytes.now) = grind arith in
     sym (mime_bad c.args.bytes.now c.if-size-eq0.false
     (λ is. wrong-ok (c.in-Err.ensures.valid.1 (subst IsMime (sym same) is))))
+
+pub bounds-bytes-0 : goal.bounds-bytes-0
+bounds-bytes-0 c = omega arith
+
+pub overflow_add-size : goal.overflow_add-size
+overflow_add-size c = omega arith
+
+pub slice_bounds-to_vec-count : goal.slice_bounds-to_vec-count
+slice_bounds-to_vec-count c = omega arith
+
+pub slice_bounds-to_vec-start : goal.slice_bounds-to_vec-start
+slice_bounds-to_vec-start c = omega arith
+
+pub slice_bounds-to_vec-end : goal.slice_bounds-to_vec-end
+slice_bounds-to_vec-end c = omega arith

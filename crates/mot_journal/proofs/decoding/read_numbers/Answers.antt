@@ -58,3 +58,18 @@ returns-then-end-from-clause-fault c =
         omega (arith, from3, above),
       ),
     )
+
+pub overflow_cast-number : goal.overflow_cast-number
+overflow_cast-number c = omega arith
+
+pub overflow_cast-version : goal.overflow_cast-version
+overflow_cast-version c = omega arith
+
+pub overflow_cast-content_type : goal.overflow_cast-content_type
+overflow_cast-content_type c = omega arith
+
+pub overflow_cast-subtype : goal.overflow_cast-subtype
+overflow_cast-subtype c = omega arith
+
+pub overflow_add-end : goal.overflow_add-end
+overflow_add-end c = omega arith

@@ -89,3 +89,21 @@ returns-clause-read c =
           ∙ sym c.in_ok-name.ensures ∙ c.in-Some.is;
       mime = sym (ap mime_from same) ∙ sym c.in_ok-mime.ensures ∙ c.in-Some-2.is;
     }
+
+pub overflow_cast-length : goal.overflow_cast-length
+overflow_cast-length c = omega arith
+
+pub overflow_add-end : goal.overflow_add-end
+overflow_add-end c = omega arith
+
+pub slice_bounds-read_name-count : goal.slice_bounds-read_name-count
+slice_bounds-read_name-count c = omega arith
+
+pub slice_bounds-read_name-start : goal.slice_bounds-read_name-start
+slice_bounds-read_name-start c = omega arith
+
+pub slice_bounds-rest-end : goal.slice_bounds-rest-end
+slice_bounds-rest-end c = omega arith
+
+pub overflow_cast-length-in_default-2 : goal.overflow_cast-length-in_default-2
+overflow_cast-length-in_default-2 c = omega arith

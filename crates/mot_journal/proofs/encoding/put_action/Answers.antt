@@ -82,3 +82,15 @@ returns-in-Remove-clause-written c =
     c.array_append_number.ensures.items
     ∙ ap (λ n. c.args.slot.now.items ++ to_be_bytes w16 n) c.get.ensures.value
     ∙ ap (λ a. c.args.slot.now.items ++ action_bytes a) (sym c.in-Remove.is)
+
+pub array_append_number-requires : goal.array_append_number-requires
+array_append_number-requires c = omega arith
+
+pub slice_bounds-array_append-end : goal.slice_bounds-array_append-end
+slice_bounds-array_append-end c = omega arith
+
+pub array_append-requires : goal.array_append-requires
+array_append-requires c = omega arith
+
+pub push-requires : goal.push-requires
+push-requires c = omega arith

@@ -344,3 +344,19 @@ returns g c = record {
         c.in-Ok-make.ensures.ok (c.make.ensures.keeps.frame.was_honest honest) image left;
   };
 }
+
+pub reads_magic-requires : goal.reads_magic-requires
+reads_magic-requires g c = omega arith
+
+pub make-requires-clause-valid : goal.make-requires-clause-valid
+make-requires-clause-valid g c = c.is_valid.ensures.0 c.if-not-is_valid.false
+
+pub make-requires-clause-long_enough : goal.make-requires-clause-long_enough
+make-requires-clause-long_enough g c =
+    omega (
+      arith,
+      c.length.ensures,
+      c.if-len-length.false,
+      c.len.ensures,
+      c.reads_magic.ensures.only_syncs.keeps.len,
+    )

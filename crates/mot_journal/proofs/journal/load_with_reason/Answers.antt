@@ -397,3 +397,21 @@ returns-then-is_err-2-clause-so g c = λ honest.
 
 pub returns-clause-reason : goal.returns-clause-reason
 returns-clause-reason g c = c.in-Err-records_of_half.ensures.reason
+
+pub slice_bounds-read-end : goal.slice_bounds-read-end
+slice_bounds-read-end g c = omega arith
+
+pub read-requires : goal.read-requires
+read-requires g c = omega arith
+
+pub slice_bounds-geometry_of_head-end : goal.slice_bounds-geometry_of_head-end
+slice_bounds-geometry_of_head-end g c = omega arith
+
+pub geometry_of_head-requires : goal.geometry_of_head-requires
+geometry_of_head-requires g c = omega arith
+
+pub bounds-head-8 : goal.bounds-head-8
+bounds-head-8 g c = omega arith
+
+pub half_start-requires : goal.half_start-requires
+half_start-requires g c = omega arith

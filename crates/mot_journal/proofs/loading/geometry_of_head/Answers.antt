@@ -1,6 +1,6 @@
 use Rattle.std.proofs.Common.{◌≡◌, true, false, take, sym, ◌∙◌, arith}
 use Rattle.std.specs.Prelude.{bytes_eq}
-use Rattle.std.proofs.lemmas.Slice.Eq.{bytes_eq-Decides}
+use Rattle.std.proofs.lemmas.Bool.{not-false, not-true}
 use Rattle.mot_journal.specs.Geometry.{magic}
 use Rattle.mot_journal.proofs.Heads.{AreRead, foreign_told, range_told, cut_told, read_told}
 use Rattle.mot_journal.proofs.loading.geometry_of_head.Goals as goal
@@ -24,8 +24,7 @@ returns-then-ne-clause-fault c = λ rest long.
       packet = c.number-4.ensures.value;
       area = c.number-5.ensures.value;
     } in
-    let other : bytes_eq (take 8 head) magic ≡ false =
-    grind (arith, bytes_eq-Decides (take 8 head) magic) in
+    let other = not-true (bytes_eq (take 8 head) magic) (sym c.ne.ensures ∙ c.if-ne.true) in
     foreign_told head rest g c.args.len read long other
 
 pub returns-then-not-is_valid-clause-fault : goal.returns-then-not-is_valid-clause-fault
@@ -46,8 +45,7 @@ returns-then-not-is_valid-clause-fault c = λ rest long.
       packet = c.number-4.ensures.value;
       area = c.number-5.ensures.value;
     } in
-    let same : bytes_eq (take 8 head) magic ≡ true =
-    grind (arith, bytes_eq-Decides (take 8 head) magic) in
+    let same = not-false (bytes_eq (take 8 head) magic) (sym c.ne.ensures ∙ c.if-ne.false) in
     range_told head rest g c.args.len read long c.out_of_range.result same
     (sym c.is_valid.ensures ∙ c.if-not-is_valid.true) c.out_of_range.ensures
 
@@ -69,8 +67,7 @@ returns-then-asked-len-clause-fault c = λ rest long.
       packet = c.number-4.ensures.value;
       area = c.number-5.ensures.value;
     } in
-    let same : bytes_eq (take 8 head) magic ≡ true =
-    grind (arith, bytes_eq-Decides (take 8 head) magic) in
+    let same = not-false (bytes_eq (take 8 head) magic) (sym c.ne.ensures ∙ c.if-ne.false) in
     cut_told head rest g c.args.len read long c.length-asked.result same c.length-asked.ensures
     c.if-asked-len.true
 
@@ -92,8 +89,22 @@ returns-clause-read c = λ rest long.
       packet = c.number-4.ensures.value;
       area = c.number-5.ensures.value;
     } in
-    let same : bytes_eq (take 8 head) magic ≡ true =
-    grind (arith, bytes_eq-Decides (take 8 head) magic) in
+    let same = not-false (bytes_eq (take 8 head) magic) (sym c.ne.ensures ∙ c.if-ne.false) in
     read_told head rest g c.args.len read long same
     (sym c.is_valid.ensures ∙ c.if-not-is_valid.false)
     (omega (arith, c.length-asked.ensures, c.if-asked-len.false))
+
+pub overflow_cast-geometry : goal.overflow_cast-geometry
+overflow_cast-geometry c = omega arith
+
+pub overflow_cast-geometry-2 : goal.overflow_cast-geometry-2
+overflow_cast-geometry-2 c = omega arith
+
+pub overflow_cast-geometry-3 : goal.overflow_cast-geometry-3
+overflow_cast-geometry-3 c = omega arith
+
+pub overflow_cast-geometry-4 : goal.overflow_cast-geometry-4
+overflow_cast-geometry-4 c = omega arith
+
+pub out_of_range-requires : goal.out_of_range-requires
+out_of_range-requires c = sym c.is_valid.ensures ∙ c.if-not-is_valid.true

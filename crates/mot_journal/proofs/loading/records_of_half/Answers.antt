@@ -102,3 +102,9 @@ pub returns-in-Err-OutOfMemory-clause-so : goal.returns-in-Err-OutOfMemory-claus
 returns-in-Err-OutOfMemory-clause-so c =
     subst (λ (f : Fault). IfSome f.reason (IsSlotReason c.args.geometry.now c.args.half.now))
     (sym c.plain.ensures) tt
+
+pub read_record-requires : goal.read_record-requires
+read_record-requires c = omega arith
+
+pub push_reserved-requires : goal.push_reserved-requires
+push_reserved-requires c = omega arith

@@ -125,3 +125,9 @@ returns-clause-cause g c = calm_run c.loop-number.invariant.calm
 
 pub returns-clause-range : goal.returns-clause-range
 returns-clause-range g c = c.loop-number.invariant.range
+
+pub new-slot-requires : goal.new-slot-requires
+new-slot-requires g c = omega arith
+
+pub deref-requires : goal.deref-requires
+deref-requires g c = omega arith

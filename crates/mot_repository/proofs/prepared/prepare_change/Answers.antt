@@ -123,3 +123,36 @@ returns-clause-prepared c = λ view k told.
     (λ full. rw (carousel, extents) (c.in_ok-given.ensures (told full)))
     (rw geometry c.place_in_area.ensures)
     c.body_bytes.ensures (rw (carousel, extents) c.in_ok-extents.ensures)
+
+pub returns-in_err-given-clause-refused : goal.returns-in_err-given-clause-refused
+returns-in_err-given-clause-refused c = λ view k going.
+    let short : has_long_name view.journal.layout c.args.command.now ≡ false =
+    ap (λ l. has_long_name l c.args.command.now) k.layout_is ∙ sym c.is_name_too_long.ensures.value
+    ∙ c.if-is_name_too_long.false in
+    let p = err_from_is_err_and c.from_residual-in_err-given.result
+    c.from_residual-in_err-given.ensures.1 in
+    rw p.1 (IsRefusal.no_memory going short p.2)
+
+pub returns-in_err-record-clause-refused : goal.returns-in_err-record-clause-refused
+returns-in_err-record-clause-refused c = λ view k going.
+    let short : has_long_name view.journal.layout c.args.command.now ≡ false =
+    ap (λ l. has_long_name l c.args.command.now) k.layout_is ∙ sym c.is_name_too_long.ensures.value
+    ∙ c.if-is_name_too_long.false in
+    let p = err_from_is_err_and c.from_residual-in_err-record.result
+    c.from_residual-in_err-record.ensures.1 in
+    rw p.1 (IsRefusal.no_memory going short p.2)
+
+pub extents_after-requires-clause-place : goal.extents_after-requires-clause-place
+extents_after-requires-clause-place c = c.place_in-place.ensures.place
+
+pub extents_after-requires-clause-within : goal.extents_after-requires-clause-within
+extents_after-requires-clause-within c = c.place_in-place.ensures.within
+
+pub by_start_after-requires-clause-place : goal.by_start_after-requires-clause-place
+by_start_after-requires-clause-place c = c.place_in-place.ensures.place
+
+pub by_start_after-requires-clause-within : goal.by_start_after-requires-clause-within
+by_start_after-requires-clause-within c = c.place_in-place.ensures.within
+
+pub returns-clause-short : goal.returns-clause-short
+returns-clause-short c = sym c.is_name_too_long.ensures.value ∙ c.if-is_name_too_long.false

@@ -1,6 +1,6 @@
 use Rattle.std.proofs.Common.{◌≡◌, ◌+◌, take, length, vec_len, vec_capacity}
 use Rattle.mot_repository.specs.Inner.Extents.{objects_in, catalogue_with}
-use Rattle.mot_repository.specs.Inner.Laws.{records_of_objects}
+use Rattle.mot_repository.specs.Records.{records_of_objects}
 use Rattle.mot_repository.proofs.records.records_of.Given as goal
 
 abbrev pub invariant-loop-place : goal.invariant-loop-place

@@ -202,3 +202,9 @@ returns-in_default-publish-clause-fault g c = refl
 
 pub returns-clause-fault : goal.returns-clause-fault
 returns-clause-fault g c = tt
+
+pub overflow_sub-other : goal.overflow_sub-other
+overflow_sub-other g c = omega arith
+
+pub slice_bounds-publish-end : goal.slice_bounds-publish-end
+slice_bounds-publish-end g c = omega arith

@@ -1,6 +1,6 @@
 use Rattle.std.proofs.Common.{◌≡◌, ◌*◌, ◌≤◌, take}
-use Rattle.mot_repository.specs.Inner.Extents.{bytes_of_bodies}
-use Rattle.mot_repository.proofs.copying.length_of_bodies.Given as goal
+use Rattle.mot_copying.specs.Inner.Records.{bytes_of_bodies}
+use Rattle.mot_copying.proofs.records.length_of_bodies.Given as goal
 
 abbrev pub invariant-loop-object : goal.invariant-loop-object
 invariant-loop-object l = record {

@@ -1,8 +1,8 @@
 use Rattle.std.proofs.Common.{◌≡◌, ◌+◌, take, length, vec_len, vec_capacity}
 use Rattle.mot_repository.specs.Copy.{packed_catalogue, packed_objects}
-use Rattle.mot_repository.specs.Inner.Extents.{bytes_of_bodies}
-use Rattle.mot_repository.specs.Inner.Laws.{records_of_objects}
-use Rattle.mot_repository.proofs.copying.packed_records.Given as goal
+use Rattle.mot_copying.specs.Inner.Records.{bytes_of_bodies}
+use Rattle.mot_repository.specs.Records.{records_of_objects}
+use Rattle.mot_copying.proofs.records.packed_records.Given as goal
 
 abbrev pub invariant-loop-object : goal.invariant-loop-object
 invariant-loop-object l = record {

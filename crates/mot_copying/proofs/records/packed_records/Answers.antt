@@ -5,13 +5,13 @@ use Rattle.std.proofs.lemmas.List.Sums.{sum_by_more, sum_by_more_le}
 use Rattle.mot_journal.specs.declared.record.Record.{Record}
 use Rattle.mot_objects.specs.declared.object.Object.{Object}
 use Rattle.mot_repository.specs.Copy.{packed_catalogue, packed_objects}
-use Rattle.mot_repository.specs.Inner.Extents.{bytes_of_bodies}
-use Rattle.mot_repository.specs.Inner.Laws.{records_of_objects}
-use Rattle.mot_repository.proofs.Copied.{packed-next}
-use Rattle.mot_repository.proofs.Extents.{record_with, set_of_object, records-none, records-some}
-use Rattle.mot_repository.proofs.Extents.{is_zero, isnt_zero}
-use Rattle.mot_repository.proofs.copying.packed_records.Goals as goal
-use Rattle.mot_repository.proofs.copying.packed_records.Goals.{then-is_empty, else-is_empty}
+use Rattle.mot_copying.specs.Inner.Records.{bytes_of_bodies}
+use Rattle.mot_repository.specs.Records.{records_of_objects}
+use Rattle.mot_repository.proofs.Laws.{packed-next}
+use Rattle.mot_repository.proofs.Laws.{record_with, set_of_object, records-none, records-some}
+use Rattle.mot_repository.proofs.Laws.{is_zero, isnt_zero}
+use Rattle.mot_copying.proofs.records.packed_records.Goals as goal
+use Rattle.mot_copying.proofs.records.packed_records.Goals.{then-is_empty, else-is_empty}
 
 pub loop-object-preserved : goal.loop-object-preserved
 loop-object-preserved c =
