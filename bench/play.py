@@ -115,7 +115,7 @@ def looks(room, used, rounds):
     # (a file that was changed less than two seconds ago waits for a later look)
     old = time.time() - 3_600
     for number in range(250):
-        (folder / f"{number}.png").write_bytes(random.Random(number).randbytes(16_384))
+        (folder / f"{number}.png").write_bytes(b"\x89PNG\r\n\x1a\n" + random.Random(number).randbytes(16_376))
         os.utime(folder / f"{number}.png", (old, old))
     sizes = "--objects 250 --data 8000000 --segment 8189"
     subprocess.run([program, "format", disk, *sizes.split()], check=True, stdout=subprocess.DEVNULL)

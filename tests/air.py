@@ -18,6 +18,8 @@ from . import dab
 from .program import Case, plain, run
 
 NOBODY = 65_534
+# The first bytes of a PNG: a look notes a file of that suffix which does not have them.
+PNG = b"\x89PNG\r\n\x1a\n"
 MINUTE = 60
 # How many seconds a command may take that makes many changes, each of which waits for the drive.
 LONG = 240
@@ -179,7 +181,7 @@ class AirCase(Case):
 
     def three(self):
         """A disk made equal to a folder of three files, the folder, and what its objects are."""
-        disk, folder = self.disk(), self.folder({f"{it}.png": b"%d" % it * 3000 for it in (1, 2, 3)})
+        disk, folder = self.disk(), self.folder({f"{it}.png": PNG + b"%d" % it * 3000 for it in (1, 2, 3)})
         self.sync(disk, folder)
         return disk, folder, self.objects(disk)
 

@@ -3,7 +3,7 @@ import os
 import pathlib
 import re
 
-from .air import AirCase, samples, until
+from .air import PNG, AirCase, samples, until
 from .program import refused
 
 MEMORY = pathlib.Path("/dev/shm")
@@ -21,7 +21,7 @@ class Follow(AirCase):
         super().setUp()
         self.place, self.status = self.disk(), self.room / "status"
         self.objects_of = self.folder({"a.txt": b"", "c.HTM": b"x" * 262_145, "two words.txt": b"x",
-                                       "two\nlines.txt": b"x", "notes.doc": b"x", "i.png": b"i", "j.png": b"j"})
+                                       "two\nlines.txt": b"x", "notes.doc": b"x", "i.png": PNG + b"i", "j.png": PNG + b"j"})
 
     def playing(self, *more, to="/dev/null", **how):
         words = ["--at-once", "--folder", self.objects_of, "--status", self.status, *more]
@@ -37,7 +37,7 @@ class Follow(AirCase):
         until(lambda: player.log.read_text().count("refused") >= 4)
         wanted = refused(15, "DeviceFault", f"{self.place}: in use by another program; end that program first")
         self.expect("a disk that is played is locked", wanted, self.sync(self.place, self.objects_of))
-        (self.room / "new").write_bytes(b"z" * 3000)
+        (self.room / "new").write_bytes(PNG + b"z" * 3000)
         os.rename(self.room / "new", self.objects_of / "k.png")
         (self.objects_of / "i.png").unlink()
         until(lambda: {"put k.png", "withdraw i.png"} <= {it.split(" done")[0] for it in player.told()})
@@ -70,7 +70,8 @@ class Follow(AirCase):
         become(b"")
         player.until(again, 2)
         told = sorted(re.sub(r"\d+ directory \d+", "N", it) for it in player.end())
-        wanted = ["put a.svg done object N", "put b.s249 done object N", again, again]
+        wanted = ["note a.svg GIF by its suffix, unknown by its bytes", "put a.svg done object N",
+                  "put b.s249 done object N", again, again]
         self.expect("what is refused again is logged again", wanted, told)
         wanted = {"a.svg": ("2 0", 1, "image/svg+xml"), "b.s249": ("2 249", 1, "image/s249")}
         came = {name: it[2:] for name, it in self.objects(self.place).items()}

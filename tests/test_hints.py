@@ -114,7 +114,7 @@ class Running(AirCase):
 
     def test_play(self):
         """The line has its level, as the one above it."""
-        disk, folder = self.disk(), self.folder({"a.png": b"a"})
+        disk, folder = self.disk(), self.folder({"a.txt": b"a"})
         words = [self.program, "play", disk, "-", "--at-once", "--levels", "--folder", folder, "--turns", "1"]
         status, _, said = run(traced(words, "inject=pwrite64:error=ENOSPC:when=1", paths=[disk]))
         wanted = [b"<3>motcar: 15 DeviceFault", f"<3>motcar: {disk}: No space left on device; make room".encode()]

@@ -5,7 +5,7 @@ strace shows the order of the calls, and lets a sync fail.
 import os
 import re
 
-from .air import AirCase, needs_strace, traced
+from .air import PNG, AirCase, needs_strace, traced
 from .program import run
 
 FAILS = b"refused 22 ReadFault: Input/output error\n"
@@ -37,10 +37,10 @@ class Lasting(AirCase):
         for command in ("sync", "play"):
             with self.subTest(command):
                 self.expect(f"{command}: nothing new", ["disk"], self.synced(command))
-                (self.objects_of / "2.png").write_bytes(command.encode())
+                (self.objects_of / "2.png").write_bytes(PNG + command.encode())
                 self.expect(f"{command}: a file that was changed", ["disk", "2.png", "folder", "disk"], self.synced(command))
                 (self.objects_of / f"{command}.txt").write_bytes(b"new")
-                (self.objects_of / "1.png").write_bytes(command.encode())
+                (self.objects_of / "1.png").write_bytes(PNG + command.encode())
                 wanted = ["disk", "1.png", "folder", "disk", f"{command}.txt", "folder", "disk"]
                 self.expect(f"{command}: one that was changed and a new one", wanted, self.synced(command))
                 (self.objects_of / f"{command}.txt").unlink()
@@ -53,7 +53,7 @@ class Lasting(AirCase):
     def test_a_file_that_is_not_synced(self):
         for name in ("0.txt", "1.png"):
             for it in ("0.txt", "1.png"):
-                (self.objects_of / it).write_bytes(b"while it fails: " + name.encode())
+                (self.objects_of / it).write_bytes(PNG + b"while it fails: " + name.encode())
             before = self.objects(self.place)
             status, told, _ = self.looked("EIO", self.objects_of / name)
             self.expect(f"{name} is refused", (1, True), (status, b"read " + name.encode() + b" " + FAILS in told))
@@ -63,7 +63,7 @@ class Lasting(AirCase):
         self.expect("later it is taken", (0, 1, True), (status, told.count(b" done "), told.startswith(b"replace 1.png done")))
 
     def test_a_folder_that_is_not_synced(self):
-        (self.objects_of / "1.png").write_bytes(b"changed")
+        (self.objects_of / "1.png").write_bytes(PNG + b"changed")
         status, told, _ = self.looked("EIO", self.objects_of)
         self.expect("the file is refused", (1, b"read 1.png " + FAILS), (status, told))
         self.expect("its object stays", self.there, self.objects(self.place))
@@ -73,7 +73,7 @@ class Lasting(AirCase):
         self.expect("all objects stay", self.there, self.objects(self.place))
 
     def test_a_file_system_that_syncs_nothing(self):
-        (self.objects_of / "1.png").write_bytes(b"changed")
+        (self.objects_of / "1.png").write_bytes(PNG + b"changed")
         os.unlink(self.objects_of / "2.png")
         status, told, _ = self.looked("EINVAL", self.objects_of, self.objects_of / "1.png")
         self.expect("is let pass", (0, [b"withdraw 2.png", b"replace 1.png"]),

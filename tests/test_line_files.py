@@ -45,7 +45,7 @@ class Answered(LineFiles):
         send(self.asked, "2.lines", b"list\nnext 1\nturn\n\nwithdraw none")
         send(self.asked, "10.lines", b"put second 1 0 - 6262\n")
         send(self.asked, "3.lines", b"")
-        for name in (".left.lines", "left", "headlines", "lines", "a.line", "a.linesx", "a.LINES"):
+        for name in (".left.lines", "left", "headlines", "lines", "a.line", "a.linesx", "LINES", ".left.LINES", "a.LINE", "a,LINES"):
             (self.asked / name).write_bytes(b"withdraw first\n")
         (self.asked / "4.lines").mkdir()
         (self.asked / "5.lines").symlink_to(".left.lines")
@@ -84,6 +84,16 @@ class Answered(LineFiles):
         wanted = {"first": ("1 0", 1, "-"), "second": ("1 0", 100_000, "-")}
         self.expect("are stored", wanted, {name: it[2:] for name, it in self.objects(self.place).items()})
         self.expect("and their files are gone", stay, self.left())
+
+    def test_endings_in_any_case(self):
+        """A file of lines is one in whatever case its ending is, and its name comes in the order of its bytes."""
+        endings = ["lines", "LINES", "Lines", "lINES", "linEs", "LiNeS"]
+        names = [f"{number}.{it}" for number, it in enumerate(endings)] + ["a.LINES", "a.lines"]
+        for number, name in enumerate(names):
+            send(self.asked, name, f"period {number}\n".encode())
+        status, told, said = self.motcar("play", self.place, "/dev/null", "--lines", self.asked, "--every", "1", "--turns", "20")
+        wanted = [f"lines {name}:1 period {number} done directory {number + 2}" for number, name in enumerate(names)]
+        self.expect("endings in any case", (0, wanted, b"", []), (status, told.decode().splitlines()[1:-1], said, self.left()))
 
     def test_each_first_word(self):
         """A file that begins with a word of lines is answered, and taken away."""

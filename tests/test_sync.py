@@ -5,13 +5,15 @@ import re
 import shutil
 import time
 
-from .air import AirCase, beginning, samples, until, without_ids
-from .program import refused
+from .air import PNG, AirCase, beginning, needs_strace, samples, traced, until, without_ids
+from .program import refused, run
+
+JPEG = b"\xff\xd8\xff"
 
 KINDS = [
-    ("a.txt", "1 0", "text/plain"), ("b.html", "1 2", "text/html"), ("c.HTM", "1 2", "text/html"),
-    ("d.xml", "0 1", "text/xml"), ("e.gif", "2 0", "image/gif"), ("f.jpg", "2 1", "image/jpeg"),
-    ("g.Jpeg", "2 1", "image/jpeg"), ("h.bmp", "2 2", "image/bmp"), ("i.png", "2 3", "image/png"),
+    ("a.txt", "1 0", "text/plain", b""), ("b.html", "1 2", "text/html", b""), ("c.HTM", "1 2", "text/html", b""),
+    ("d.xml", "0 1", "text/xml", b""), ("e.gif", "2 0", "image/gif", b"GIF89a"), ("f.jpg", "2 1", "image/jpeg", JPEG),
+    ("g.Jpeg", "2 1", "image/jpeg", JPEG), ("h.bmp", "2 2", "image/bmp", b"BM"), ("i.png", "2 3", "image/png", PNG),
 ]
 
 
@@ -20,7 +22,8 @@ class Looks(AirCase):
 
     def setUp(self):
         super().setUp()
-        self.place, self.objects_of = self.disk(), self.folder({it[0]: b"x" * at for at, it in enumerate(KINDS, 1)})
+        files = {it[0]: it[3] + b"x" * at for at, it in enumerate(KINDS, 1)}
+        self.place, self.objects_of = self.disk(), self.folder(files)
         for name in (".hidden.txt", "notes.doc", "nodot"):
             (self.objects_of / name).write_bytes(b"x")
         (self.objects_of / "folder.png").mkdir()
@@ -34,7 +37,7 @@ class Looks(AirCase):
         self.expect("a first look", (0, len(KINDS), self.skipped),
                     (status, len(beginning(b"put", told)), beginning(b"skip", told)))
         self.expect("logs what it skips first", len(self.skipped), len(told[: told.index(b"put ")].splitlines()))
-        wanted = {name: (kind, number, mime) for number, (name, kind, mime) in enumerate(KINDS, 1)}
+        wanted = {name: (kind, number + len(front), mime) for number, (name, kind, mime, front) in enumerate(KINDS, 1)}
         self.expect("types by suffixes", wanted, {name: it[2:] for name, it in self.objects(self.place).items()})
 
     def test_a_second_look_does_nothing(self):
@@ -48,7 +51,7 @@ class Looks(AirCase):
         there = self.objects(self.place)
         (self.objects_of / "a.txt").write_bytes(b"y")
         (self.objects_of / "b.html").unlink()
-        (self.objects_of / "j.png").write_bytes(b"new")
+        (self.objects_of / "j.png").write_bytes(PNG + b"new")
         status, told, _ = self.sync(self.place, self.objects_of)
         words = [re.sub(rb"\d+", b"N", it) for it in told.splitlines() if not it.startswith(b"skip ")]
         wanted = [b"withdraw b.html done directory N", b"replace a.txt done object N directory N",
@@ -150,6 +153,107 @@ class Skips(AirCase):
         status, told, _ = self.play(disk, "/dev/null", "--turns", "3000", "--at-once", "--folder", folder)
         counts = len(beginning(b"skip", told)), len(told.splitlines())
         self.expect("and play logs them once", (0, 100, 100), (status, *counts))
+
+
+class Images(AirCase):
+    """A file is noted whose suffix says an image type that its first bytes do not say."""
+
+    NAMES = {"gif": "GIF", "jpg": "JPEG", "jpeg": "JPEG", "bmp": "BMP", "png": "PNG"}
+    FRONTS = [("GIF", b"GIF87a"), ("GIF", b"GIF89a"), ("JPEG", JPEG), ("BMP", b"BM"), ("PNG", PNG)]
+
+    def setUp(self):
+        super().setUp()
+        self.place = self.new_disk("disk", "--objects", "250", "--data", "100000")
+
+    def notes(self, files, *more):
+        """The notes of a look at these files, all of which are taken."""
+        folder = self.folder(files)
+        status, told, said = self.sync(self.place, folder, *more)
+        self.expect("each file is taken", (0, len(files), b""), (status, told.count(b" done object "), said))
+        return [it for it in told.decode().splitlines() if it.startswith("note ")]
+
+    def test_each_type_under_each_suffix(self):
+        files, wanted = {}, []
+        for suffix, by_suffix in self.NAMES.items():
+            for written in (suffix, suffix.upper(), suffix.title()):
+                for number, (by_bytes, front) in enumerate(self.FRONTS):
+                    name = f"{number}.{written}"
+                    files[name] = front + b"x" * number
+                    if by_bytes != by_suffix:
+                        wanted.append(f"note {name} {by_suffix} by its suffix, {by_bytes} by its bytes")
+        self.expect("each type under each suffix, but for its own", sorted(wanted), sorted(self.notes(files)))
+
+    def test_the_first_bytes(self):
+        files, wanted = {}, []
+        for number, (name, front) in enumerate(self.FRONTS):
+            suffix = name.lower()
+            files[f"{number}-alone.{suffix}"] = front
+            changed = [front[:at] + bytes([front[at] ^ 1]) + front[at + 1:] for at in range(len(front))]
+            others = [front[:at] for at in range(1, len(front))] + [it + b"x" for it in changed] + [b"x" + front]
+            for at, content in enumerate(others):
+                files[f"{number}-{at}.{suffix}"] = content
+                wanted.append(f"note {number}-{at}.{suffix} {name} by its suffix, unknown by its bytes")
+        self.expect("no byte of them may be another one, or missing", sorted(wanted), sorted(self.notes(files)))
+
+    def test_what_is_no_image_by_its_suffix(self):
+        fronts = [front for _, front in self.FRONTS]
+        files = {f"{number}.{suffix}": it for number, it in enumerate(fronts) for suffix in ("txt", "html", "htm", "xml")}
+        self.expect("a text may begin as it likes", [], self.notes(files))
+
+    def test_suffixes_that_a_file_adds(self):
+        types = self.write("types", b"pic 2 3 image/png\ntiff 2 4 -\nmap 3 1 -\npng 1 0 text/plain\njpg 2 3 image/jpeg\n")
+        files = {"1.pic": PNG, "2.pic": JPEG, "3.PIC": b"x", "1.tiff": PNG, "1.map": JPEG, "1.png": JPEG, "1.jpg": PNG,
+                 "2.jpg": JPEG, "1.jpeg": JPEG}
+        wanted = [("2.pic", "JPEG"), ("3.PIC", "unknown"), ("2.jpg", "JPEG")]
+        wanted = sorted(f"note {name} PNG by its suffix, {it} by its bytes" for name, it in wanted)
+        self.expect("content type and subtype decide", wanted, sorted(self.notes(files, "--types", types)))
+
+    def test_what_is_not_taken(self):
+        folder = self.folder({"empty.png": b"", "long.png": JPEG * 90_000, "a b.png": JPEG})
+        told = self.sync(self.place, folder)[1]
+        self.expect("a file that is not read as an object has no note", (3, 0), (told.count(b"refused"), told.count(b"note")))
+
+    def test_when_it_is_noted(self):
+        note = b"note a.jpg JPEG by its suffix, PNG by its bytes\n"
+        folder, status = self.folder({"a.jpg": PNG + b"x" * 3_000, "b.png": PNG + b"x"}), self.room / "status"
+        told = self.sync(self.place, folder)[1]
+        self.expect("before its command", note + b"put a.jpg", told[: len(note) + 9])
+        self.expect("and in each run", (0, note, b""), self.sync(self.place, folder))
+        words = ["play", self.place, "/dev/null", "--at-once", "--folder", folder, "--status", status]
+        told = self.motcar(*words, "--levels", "--turns", "1")[1].splitlines(True)
+        self.expect("as a warning", [b"<4>" + note], [it for it in told if not it.startswith(b"<6>play: ")])
+        self.expect("while it plays, once", (0, note, b""), self.play(*words[1:], "--turns", "3000"))
+        figures = samples(status)
+        counts = {it: figures[f"motcar_{it}_total"] for it in ("refusals", "line_refusals", "mass_withdrawals")}
+        self.expect("in many looks", True, figures["motcar_looks_total"] > 3)
+        self.expect("it is not counted", ({it: 0 for it in counts}, 1), (counts, figures["motcar_folder_listed"]))
+
+    def test_while_it_plays(self):
+        folder = self.folder({"a.jpg": JPEG})
+        player = self.player(self.place, "/dev/null", "--at-once", "--folder", folder)
+        player.until("put a.jpg")
+        for number, (content, note) in enumerate(((PNG, "PNG"), (b"x", "unknown"), (JPEG, None), (PNG + b"x", "PNG"))):
+            (self.room / "new").write_bytes(content)
+            os.rename(self.room / "new", folder / "a.jpg")
+            player.until("replace a.jpg", number + 1)
+        told = [it.split(" done")[0] for it in player.end()]
+        wanted = ["put a.jpg"]
+        for it in ("PNG", "unknown", None, "PNG"):
+            wanted += [f"note a.jpg JPEG by its suffix, {it} by its bytes"] * (it is not None) + ["replace a.jpg"]
+        self.expect("each time that it is another type", wanted, told)
+
+    def test_what_has_no_room(self):
+        small = self.new_disk("small", "--objects", "4", "--data", "7000")
+        told = self.sync(small, self.folder({"a.gif": b"x" * 8_000}))[1].splitlines()[:2]
+        wanted = [b"note a.gif GIF by its suffix, unknown by its bytes", b"put a.gif refused 12 NoRoom: 8000 bytes"]
+        self.expect("a file that was read is noted, whatever comes of it", wanted, told)
+
+    @needs_strace
+    def test_what_is_not_synced(self):
+        folder = self.folder({"a.gif": b"x"})
+        words = [self.program, "sync", "--at-once", self.place, folder]
+        told = run(traced(words, "inject=fsync:error=EIO", paths=[folder / "a.gif"]))[1]
+        self.expect("a file that can't be made to last has no note", (1, True), (told.count(b"\n"), told.startswith(b"read a.gif")))
 
 
 class Young(AirCase):

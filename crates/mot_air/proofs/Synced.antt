@@ -142,10 +142,10 @@ module _ {D : Type 0} (state : D → State) (disk : D) (server new : ServerView 
           → IsLook types allows path given s.carousel commands marks fault names wanted fine entries
           → fine ≡ true → fault ≡ None → IsEqual s names wanted (state new.disk)
       equal fine fault commands marks names wanted entries run
-          (unlisted refusal why refused ends none are) e n =
+          (unlisted refusal why refused ends none are plain) e n =
           absurd (let no : false ≡ true = sym refused ∙ e in cc)
       equal fine fault commands marks names wanted entries run
-          (kept listing stays refused ends none are) e n =
+          (kept listing stays refused ends none are plain) e n =
           absurd (let no : false ≡ true = sym refused ∙ e in cc)
       equal fine fault commands marks names wanted entries run
           (listed shown listing updates is_update others split whole exact answers told are lasting

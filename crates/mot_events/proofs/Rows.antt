@@ -11,7 +11,7 @@ use Rattle.mot_events.specs.Text.{refusal_words, sizes_words, why_words}
 use Rattle.mot_events.specs.declared.event.Deed.TheVariants.{Look, Put, Withdraw}
 use Rattle.mot_events.specs.declared.event.Event.TheVariants.{Stopped}
 use Rattle.mot_events.specs.declared.event.Met.TheVariants.{Done, Gap, Going, Kept, Listed, Refused}
-use Rattle.mot_events.specs.declared.event.Met.TheVariants.{Skipped, Waiting, Young}
+use Rattle.mot_events.specs.declared.event.Met.TheVariants.{OtherImage, Skipped, Waiting, Young}
 use Rattle.mot_events.specs.declared.event.Skip.TheVariants.{Folder, NotUtf8}
 use Rattle.mot_events.specs.declared.event.Why.TheVariants.{Bytes, Names, NotHere, Objects, Return}
 use Rattle.mot_events.specs.declared.event.Why.TheVariants.{WordCount}
@@ -19,6 +19,8 @@ use Rattle.mot_events.specs.declared.tally.Level.TheVariants.{Info, Warning}
 use Rattle.mot_events.specs.declared.tally.Tally.TheVariants.{LineRefusal}
 use Rattle.mot_numbers.specs.declared.refusal.Refusal.TheVariants.{BadLine, DeviceFault, NoRoom}
 use Rattle.mot_numbers.specs.declared.refusal.Refusal.TheVariants.{TooManyObjects}
+use Rattle.mot_suffixes.specs.declared.images.ImageType.TheVariants.{Gif, Jpeg, Png}
+use Rattle.mot_suffixes.specs.declared.images.OtherImage as image
 
 put_line : met_line (event_of (codes "a.png") (Done Put (record {
   object = Some 2;
@@ -173,3 +175,23 @@ line_refusal_counted = refl
 
 line_refusal_among_all : (counted none_counted (LineRefusal BadLine)).refusals ≡ 1
 line_refusal_among_all = refl
+
+-- an object whose bytes are of another image type than its suffix says, or of none of these
+image_line : met_line (event_of (codes "a.jpg") (OtherImage (record {
+  by_suffix = Jpeg;
+  by_bytes = Some Png;
+})))
+    ≡ codes "note a.jpg JPEG by its suffix, PNG by its bytes\n"
+unfolding digits chars is_utf8 encode
+image_line = refl
+
+no_image_line : met_line (event_of (codes "a.gif") (OtherImage (record {
+  by_suffix = Gif;
+  by_bytes = None;
+})))
+    ≡ codes "note a.gif GIF by its suffix, unknown by its bytes\n"
+unfolding digits chars is_utf8 encode
+no_image_line = refl
+
+image_level : (other : image.OtherImage) → level_of (tally_of_met (OtherImage other)) ≡ Warning
+image_level other = refl

@@ -3,8 +3,8 @@ use Rattle.std.specs.Prelude.{ℕ, ◌+◌, min, List, replicate}
 use Rattle.std.specs.List.{slice_index, slice_set}
 use Rattle.mot_events.specs.declared.counters.Counters.{Counters}
 use Rattle.mot_events.specs.declared.tally.Tally.{Tally}
-use Rattle.mot_events.specs.declared.tally.Tally.TheVariants.{Change, Going, Kept, Look, News}
-use Rattle.mot_events.specs.declared.tally.Tally.TheVariants.{LineRefusal, Packet, Refusal}
+use Rattle.mot_events.specs.declared.tally.Tally.TheVariants.{Change, Doubt, Going, Kept, Look}
+use Rattle.mot_events.specs.declared.tally.Tally.TheVariants.{LineRefusal, News, Packet, Refusal}
 use Rattle.mot_events.specs.declared.tally.Tally.TheVariants.{Stop, Turn}
 use Rattle.mot_numbers.specs.Refusal.{number_of}
 use Rattle.mot_numbers.specs.declared.refusal.Refusal as refusal
@@ -45,6 +45,7 @@ counted c (LineRefusal refusal) =
 counted c (Stop refusal) = refusal_counted c refusal
 counted c Kept = record c { refusals = one_more c.refusals }
 counted c Going = record c { goings = one_more c.goings }
+counted c Doubt = c
 counted c News = c
 counted c Look = record c { looks = one_more c.looks }
 counted c Packet = record c { packets = one_more c.packets }

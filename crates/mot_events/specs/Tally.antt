@@ -9,8 +9,8 @@ use Rattle.mot_events.specs.declared.event.Reply.TheVariants as reply
 use Rattle.mot_events.specs.declared.tally.Level.{Level}
 use Rattle.mot_events.specs.declared.tally.Level.TheVariants.{Error, Info, Warning}
 use Rattle.mot_events.specs.declared.tally.Tally.{Tally}
-use Rattle.mot_events.specs.declared.tally.Tally.TheVariants.{Change, Going, Kept, Look, News}
-use Rattle.mot_events.specs.declared.tally.Tally.TheVariants.{LineRefusal, Packet, Refusal}
+use Rattle.mot_events.specs.declared.tally.Tally.TheVariants.{Change, Doubt, Going, Kept, Look}
+use Rattle.mot_events.specs.declared.tally.Tally.TheVariants.{LineRefusal, News, Packet, Refusal}
 use Rattle.mot_events.specs.declared.tally.Tally.TheVariants.{Stop, Turn}
 use Rattle.mot_numbers.specs.declared.refusal.Refusal.TheVariants.{WriteFault}
 
@@ -24,6 +24,7 @@ tally_of_met (met.Done deed done) = Change
 tally_of_met (met.Refused deed refusal why) = Refusal refusal
 tally_of_met (met.Going unknown all) = tally_of_going unknown
 tally_of_met met.Kept = Kept
+tally_of_met (met.OtherImage other) = Doubt
 tally_of_met other = News
 
 -- what a line of a file was answered
@@ -43,14 +44,15 @@ tally_of (event.StatusRefused path why) = Refusal WriteFault
 tally_of (event.Stopped refusal) = Stop refusal
 tally_of other = News
 
--- the end of the program is an error; a refusal is a warning, and that most objects go or that a
--- folder has none
+-- the end of the program is an error; a refusal is a warning, and that most objects go, that a
+-- folder has none, or that an object's bytes are of another image type than its suffix says
 abbrev pub level_of : Tally → Level
 level_of (Stop refusal) = Error
 level_of (Refusal refusal) = Warning
 level_of (LineRefusal refusal) = Warning
 level_of Kept = Warning
 level_of Going = Warning
+level_of Doubt = Warning
 level_of other = Info
 
 abbrev pub level_text : Level → List ℕ

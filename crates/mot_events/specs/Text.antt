@@ -26,6 +26,9 @@ use Rattle.mot_numbers.specs.declared.refusal.Refusal.{Refusal}
 use Rattle.mot_numbers.specs.declared.refusal.Refusal.TheVariants.{OutOfMemory, WriteFault}
 use Rattle.mot_objects.specs.declared.body.TheConstants.{MAX_BODY}
 use Rattle.mot_objects.specs.declared.command.Done.{Done}
+use Rattle.mot_suffixes.specs.declared.images.ImageType.{ImageType}
+use Rattle.mot_suffixes.specs.declared.images.ImageType.TheVariants.{Bmp, Gif, Jpeg, Png}
+use Rattle.mot_suffixes.specs.declared.images.OtherImage.{OtherImage}
 
 abbrev pub deed_word : Deed → List ℕ
 deed_word deed.Put = codes "put"
@@ -98,6 +101,23 @@ deed_words deed name = deed_word deed ++ codes " " ++ shown_name name ++ codes "
 abbrev pub note_words : List ℕ → List ℕ
 note_words name = codes "note " ++ shown_name name ++ codes " "
 
+-- the name of an image type, or that there is none
+abbrev pub image_word : ImageType → List ℕ
+image_word Gif = codes "GIF"
+image_word Jpeg = codes "JPEG"
+image_word Bmp = codes "BMP"
+image_word Png = codes "PNG"
+
+abbrev pub some_image_word : Option ImageType → List ℕ
+some_image_word None = codes "unknown"
+some_image_word (Some image) = image_word image
+
+-- which image type an object is by its suffix, and which by its first bytes
+abbrev pub image_words : OtherImage → List ℕ
+image_words other =
+    image_word other.by_suffix ++ codes " by its suffix, "
+    ++ some_image_word other.by_bytes ++ codes " by its bytes"
+
 -- what a look met of a name
 abbrev pub met_text : List ℕ → Met → List ℕ
 met_text name (met.Done deed done) = deed_words deed name ++ done_words done
@@ -114,6 +134,7 @@ met_text name (met.Waiting most files) =
     ++ codes " files wait"
 met_text name met.Kept = codes "look " ++ shown_name name ++ codes " empty, kept"
 met_text name met.Listed = codes "look " ++ shown_name name ++ codes " listed"
+met_text name (met.OtherImage other) = note_words name ++ image_words other
 
 -- an event of this name, and the line of one, with its end
 abbrev pub event_of : List ℕ → Met → LookEvent

@@ -62,7 +62,7 @@ impl Counters {
             Tally::Stop(refusal) => self.count_refusal(refusal),
             Tally::Kept => self.refusals = self.refusals.saturating_add(1),
             Tally::Going => self.goings = self.goings.saturating_add(1),
-            Tally::News => {}
+            Tally::Doubt | Tally::News => {}
             Tally::Look => self.looks = self.looks.saturating_add(1),
             Tally::Packet => self.packets = self.packets.saturating_add(1),
             Tally::Turn => self.turns = self.turns.saturating_add(1),

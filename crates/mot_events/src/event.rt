@@ -5,6 +5,7 @@ ghost use Rattle.mot_events.specs.Text.{asked_word, deed_word, skip_word};
 use crate::words::Words;
 use mot_numbers::Refusal;
 use mot_objects::Done;
+use mot_suffixes::OtherImage;
 
 /// What was done in a look at a folder, or was to be done.
 #[derive(Clone, Copy, PartialEq, Eq)]
@@ -122,6 +123,8 @@ pub enum Met {
     Kept,
     /// The folder is listed again.
     Listed,
+    /// The bytes of an object are of another image type than its suffix says.
+    OtherImage(OtherImage),
 }
 
 /// What a look at a folder met, and of which name: a file's or an object's; or the folder's path.

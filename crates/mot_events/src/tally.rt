@@ -25,6 +25,8 @@ pub enum Tally {
     Kept,
     /// More than half of the objects go, and more than three.
     Going,
+    /// Something is on air that a receiver may not show: nothing is counted.
+    Doubt,
     /// Nothing is counted.
     News,
     /// A look.
@@ -57,6 +59,7 @@ impl Tally {
             Tally::LineRefusal(_) => Level::Warning,
             Tally::Kept => Level::Warning,
             Tally::Going => Level::Warning,
+            Tally::Doubt => Level::Warning,
             _ => Level::Info,
         }
     }
@@ -97,6 +100,7 @@ impl Met {
             Met::Refused(_, refusal, _) => Tally::Refusal(*refusal),
             Met::Going(going, _) => tally_of_going(*going),
             Met::Kept => Tally::Kept,
+            Met::OtherImage(_) => Tally::Doubt,
             _ => Tally::News,
         }
     }

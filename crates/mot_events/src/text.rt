@@ -3,7 +3,7 @@ ghost use Rattle.std.specs.Prelude.{◌≡◌, ◌++◌, OnOk, map, codes};
 ghost use Rattle.std.specs.Fmt.{decimal};
 ghost use Rattle.mot_events.specs.Shown.{ascii_byte, shown_name};
 ghost use Rattle.mot_events.specs.Text.{deed_words, done_words, met_line, met_text, note_words};
-ghost use Rattle.mot_events.specs.Text.{program_words};
+ghost use Rattle.mot_events.specs.Text.{image_word, image_words, program_words, some_image_word};
 ghost use Rattle.mot_events.specs.Text.{reason_words, sizes_words, turn_words};
 ghost use Rattle.mot_events.specs.Text.{asked_word, refusal_words, refused_words, reply_text};
 ghost use Rattle.mot_events.specs.Text.{subject_words, text_of, why_words};
@@ -15,7 +15,7 @@ use crate::event::{Asked, Deed, Event, LookEvent, Met, Reply, Why};
 use itoa::Buffer;
 use mot_numbers::{Refusal, TransportId};
 use mot_objects::{Done, MAX_BODY};
-use mot_suffixes::next_shown;
+use mot_suffixes::{ImageType, OtherImage, next_shown};
 use std::alloc::AllocError;
 use std::str::from_utf8;
 
@@ -74,6 +74,7 @@ fn add_met(text: &mut Vec<u8>, look: &LookEvent) -> Result<(), AllocError>
         Met::Waiting(most, files) => add_waiting(text, name, *most, *files),
         Met::Kept => add_around(text, "look ", name, " empty, kept"),
         Met::Listed => add_around(text, "look ", name, " listed"),
+        Met::OtherImage(other) => add_other_image(text, name, *other),
     }
 }
 
@@ -133,6 +134,47 @@ fn add_waiting(text: &mut Vec<u8>, name: &[u8], most: u64, files: u64) -> Result
     add(text, " objects at most, ")?;
     add_number(text, files)?;
     add(text, " files wait")
+}
+
+/// Adds that the bytes of an object are of another image type than its suffix says.
+fn add_other_image(text: &mut Vec<u8>, name: &[u8], other: OtherImage) -> Result<(), AllocError>
+    ensures { OnOk result (text.new.items
+        ≡ text.old.items ++ (note_words name.now ++ image_words other)) }
+{
+    add_around(text, "note ", name, " ")?;
+    add_images(text, other)
+}
+
+/// Adds which image type an object is by its suffix, and which by its first bytes.
+fn add_images(text: &mut Vec<u8>, other: OtherImage) -> Result<(), AllocError>
+    ensures { OnOk result (text.new.items ≡ text.old.items ++ image_words other) }
+{
+    add_image(text, other.by_suffix)?;
+    add(text, " by its suffix, ")?;
+    add_some_image(text, other.by_bytes)?;
+    add(text, " by its bytes")
+}
+
+/// Adds the word for an image type that there may be.
+fn add_some_image(text: &mut Vec<u8>, image: Option<ImageType>) -> Result<(), AllocError>
+    ensures { OnOk result (text.new.items ≡ text.old.items ++ some_image_word image) }
+{
+    match image {
+        Some(image) => add_image(text, image),
+        None => add(text, "unknown"),
+    }
+}
+
+/// Adds the word for an image type.
+fn add_image(text: &mut Vec<u8>, image: ImageType) -> Result<(), AllocError>
+    ensures { OnOk result (text.new.items ≡ text.old.items ++ image_word image) }
+{
+    match image {
+        ImageType::Gif => add(text, "GIF"),
+        ImageType::Jpeg => add(text, "JPEG"),
+        ImageType::Bmp => add(text, "BMP"),
+        ImageType::Png => add(text, "PNG"),
+    }
 }
 
 /// Adds that a file of lines is left, or that their folder can't be read.

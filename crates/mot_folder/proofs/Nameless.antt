@@ -4,8 +4,8 @@ use Rattle.std.proofs.Common.{append-nil, cond, refl, sym}
 use Rattle.std.proofs.lemmas.List.Elements.{filter-append}
 use Rattle.mot_events.specs.Text.{event_of}
 use Rattle.mot_events.specs.declared.event.Met.{Met}
-use Rattle.mot_folder.proofs.Log.{file_beside, file_named, look-more, note_beside}
-use Rattle.mot_folder.proofs.Log.{note_unnamed, note_unread}
+use Rattle.mot_folder.proofs.Log.{file_beside, file_named, file_no_image, images_same, look-more}
+use Rattle.mot_folder.proofs.Log.{note_beside, note_no_image, note_unnamed, note_unread}
 use Rattle.mot_folder.proofs.Taken.{any_noted, any_read, read-more}
 use Rattle.mot_folder.specs.Inner.Listing.{TellsNameless}
 use Rattle.mot_folder.specs.Listed.{nameless}
@@ -18,7 +18,7 @@ use Rattle.mot_objects.specs.declared.name.TheConstants.{MAX_NAME}
 pub nameless_none : (report : Report) → report.any_refused ≡ false → ReportTells report []
     → TellsNameless [] report
 nameless_none report fine told =
-    record { entries = []; told = told; are = refl; any = fine; read = refl }
+    record { entries = []; told = told; are = refl; any = fine; read = refl; images = refl }
 
 -- a note is told beside them
 pub nameless_note : (files : List (List ℕ)) (old new : Report) (name : List ℕ) (met : Met)
@@ -37,6 +37,7 @@ nameless_note files old new name met is same one was =
       read = read-more was.entries (last ∷ [])
           ∙ ap (λ l. names_read was.entries ++ l) (note_unnamed name met is)
           ∙ append-nil (names_read was.entries) ∙ was.read;
+      images = images_same was.entries last (note_no_image name met is) ∙ was.images;
     }
 
 one_more : (files : List (List ℕ)) (name : List ℕ) (is : Bool) → is_name MAX_NAME name ≡ is
@@ -55,6 +56,7 @@ nameless_named files report name named was = record {
   are = was.are;
   any = was.any;
   read = was.read ∙ sym (append-nil (nameless files)) ∙ sym (one_more files name true named);
+  images = was.images;
 }
 
 -- or it has none, and is told
@@ -75,4 +77,5 @@ nameless_told files old new name met is bad any one was =
           ∙ ap (λ l. names_read was.entries ++ l) (file_named name met is)
           ∙ ap (λ l. l ++ name ∷ []) was.read
           ∙ sym (one_more files name false bad);
+      images = images_same was.entries last (file_no_image name met is) ∙ was.images;
     }

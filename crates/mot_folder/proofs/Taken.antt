@@ -2,11 +2,12 @@
 use Rattle.std.proofs.Common.{◌≡◌, ◌∙◌, ℕ, ◌+◌, ◌<◌, length, zero, suc, List, [], ◌∷◌, ◌++◌, ap}
 use Rattle.std.proofs.Common.{append_assoc}
 use Rattle.std.proofs.Common.{append-nil, map, refl, subst, sym, take, arith}
-use Rattle.std.proofs.Common.{Some, Option, Bool, true, false, not, ◌||◌, cond, inl, inr}
+use Rattle.std.proofs.Common.{None, Some, Option, Bool, true, false, not, ◌||◌, cond, inl, inr}
 use Rattle.std.specs.List.{list_any}
 use Rattle.std.specs.Prelude.{◌≢◌, ◌&&◌, ◌⊎◌, ◌↔◌, bytes_eq, slice_get, filter, nat_lt}
 use Rattle.std.proofs.lemmas.Bool.{or_parts}
 use Rattle.std.proofs.lemmas.Slice.Eq.{bytes_eq-Decides}
+use Rattle.std.proofs.lemmas.Grind.{flat_map-append}
 use Rattle.std.proofs.lemmas.List.Folds.{list_any-append}
 use Rattle.std.proofs.lemmas.List.{length-map, map-append}
 use Rattle.std.proofs.lemmas.List.Elements.{filter-append}
@@ -15,6 +16,7 @@ use Rattle.mot_events.specs.declared.event.Deed.TheVariants as deed
 use Rattle.mot_events.specs.declared.event.LookEvent.{LookEvent}
 use Rattle.mot_events.specs.declared.event.Met.{Met}
 use Rattle.mot_events.specs.declared.event.Why.{Why}
+use Rattle.mot_folder.specs.Inner.Images.{NotesImage}
 use Rattle.mot_folder.specs.Inner.Names.{name_or_none}
 use Rattle.mot_folder.specs.Inner.Reading.{Misses, Takes, TellsFile, TellsLook, TellsOffered}
 use Rattle.mot_folder.specs.Inner.Reading.{as_wanted, heading}
@@ -24,10 +26,11 @@ use Rattle.mot_folder.specs.Inner.Reasons.{TellsNoMore, TellsUnless, and_waiting
 use Rattle.mot_folder.proofs.Waiting.{told_more, told_same, waiting_more}
 use Rattle.mot_folder.specs.Listed.{IsListing, nameless}
 use Rattle.mot_folder.specs.Looked.{EachIsTold}
-use Rattle.mot_folder.proofs.Log.{file_beside, file_named, look-more, note_beside}
-use Rattle.mot_folder.proofs.Log.{note_unnamed, note_unread}
+use Rattle.mot_folder.proofs.Log.{file_beside, file_named, file_no_image, images-more, images_same}
+use Rattle.mot_folder.proofs.Log.{look-more, note_beside, note_no_image, note_unnamed, note_unread}
 use Rattle.mot_folder.specs.Log.{AreKept, IsKept}
 use Rattle.mot_folder.specs.Log.{TellsOf, TellsOne, event_of_answer, is_note, is_read, is_waiting, met_for}
+use Rattle.mot_folder.specs.Log.{all_image_notes, image_note, image_notes, images_noted}
 use Rattle.mot_folder.specs.Log.{names_read, not_accepted, of_look, told_of}
 use Rattle.mot_folder.specs.Taken.{AreTaken}
 use Rattle.mot_numbers.specs.declared.refusal.Refusal.{Refusal}
@@ -37,7 +40,9 @@ use Rattle.mot_folder.specs.declared.report.Report.{Report}
 use Rattle.mot_objects.specs.Content.{ContentNumbers}
 use Rattle.mot_playout.specs.declared.running.Attempt.TheVariants.{Accepted, Refused as WasRefused}
 use Rattle.mot_shelf.specs.Given.{Given, and_kept, and_missed, and_read}
+use Rattle.mot_suffixes.specs.Images.{other_image}
 use Rattle.mot_suffixes.specs.Types.{SuffixType}
+use Rattle.mot_suffixes.specs.declared.images.OtherImage.{OtherImage}
 use Rattle.mot_objects.specs.declared.command.Command.{Command}
 use Rattle.mot_update.specs.Laws.{names_of}
 use Rattle.mot_update.specs.Looking.{AreAccepted}
@@ -208,12 +213,55 @@ event_for (Replaced name came) why = event_of name (met_for deed.Replace came wh
 answer_told : (answer : Answer) (why : Why) → (names_read (event_for answer why ∷ []) ≡ [])
     × (is_read (event_for answer why) ≡ false)
     × (of_look (event_for answer why ∷ []) ≡ event_of_answer answer ∷ [])
-answer_told (Withdrew name (Accepted done)) why = (refl, refl, refl)
-answer_told (Withdrew name (WasRefused refusal)) why = (refl, refl, refl)
-answer_told (Put name (Accepted done)) why = (refl, refl, refl)
-answer_told (Put name (WasRefused refusal)) why = (refl, refl, refl)
-answer_told (Replaced name (Accepted done)) why = (refl, refl, refl)
-answer_told (Replaced name (WasRefused refusal)) why = (refl, refl, refl)
+    × (images_noted (event_for answer why ∷ []) ≡ [])
+answer_told (Withdrew name (Accepted done)) why = (refl, refl, refl, refl)
+answer_told (Withdrew name (WasRefused refusal)) why = (refl, refl, refl, refl)
+answer_told (Put name (Accepted done)) why = (refl, refl, refl, refl)
+answer_told (Put name (WasRefused refusal)) why = (refl, refl, refl, refl)
+answer_told (Replaced name (Accepted done)) why = (refl, refl, refl, refl)
+answer_told (Replaced name (WasRefused refusal)) why = (refl, refl, refl, refl)
+
+-- ---- image types that are noted
+
+-- of no command, and of no file
+image_look : (name : List ℕ) (o : Option OtherImage) → of_look (image_note name o) ≡ []
+image_look name None = refl
+image_look name (Some other) = refl
+
+image_unread : (name : List ℕ) (o : Option OtherImage) → names_read (image_note name o) ≡ []
+image_unread name None = refl
+image_unread name (Some other) = refl
+
+image_any : (name : List ℕ) (o : Option OtherImage) → list_any is_read (image_note name o) ≡ false
+image_any name None = refl
+image_any name (Some other) = refl
+
+image_noted : (name : List ℕ) (o : Option OtherImage)
+    → images_noted (image_note name o) ≡ image_note name o
+image_noted name None = refl
+image_noted name (Some other) = refl
+
+or_none : (b : Bool) → b ≡ (b || false)
+or_none true = refl
+or_none false = refl
+
+-- behind entries of no file
+any_beside : (answers : List Answer) (entries more : List LookEvent) (old new : Bool)
+    → list_any is_read more ≡ false → new ≡ old
+    → old ≡ (list_any not_accepted answers || list_any is_read entries)
+    → new ≡ (list_any not_accepted answers || list_any is_read (entries ++ more))
+any_beside answers entries more old new none same was =
+    let a = list_any not_accepted answers in
+    let b = list_any is_read entries in
+    same ∙ was ∙ ap (λ (x : Bool). a || x) (or_none b)
+    ∙ ap (λ (x : Bool). a || (b || x)) (sym none)
+    ∙ ap (λ (x : Bool). a || x) (sym (list_any-append is_read entries more))
+
+-- what is noted of one object more
+notes_more : (wanted : List Wanted) (w : Wanted)
+    → all_image_notes (wanted ++ w ∷ []) ≡ all_image_notes wanted ++ image_notes w
+notes_more wanted w = flat_map-append image_notes wanted (w ∷ [])
+    ∙ ap (λ l. all_image_notes wanted ++ l) (append-nil (image_notes w))
 
 -- ---- names that were gone over
 
@@ -320,14 +368,15 @@ module _ (types : List SuffixType) where
   -- an answer to a command is told
   told_one : (g : Given) (old new : Report) (waiting : ℕ) (names : List (List ℕ)) (answer : Answer)
       (last : LookEvent) → names_read (last ∷ []) ≡ [] → is_read last ≡ false
-      → of_look (last ∷ []) ≡ event_of_answer answer ∷ []
+      → of_look (last ∷ []) ≡ event_of_answer answer ∷ [] → images_noted (last ∷ []) ≡ []
       → new.any_refused ≡ (old.any_refused || not_accepted answer)
       → (old.any_without_memory ≡ true → new.any_without_memory ≡ true)
       → (is_waiting answer && nat_lt 0 waiting) ≡ false → IsKept g.kept answer
       → TellsOne old new last
       → TellsBoth (TellsOf types g old waiting names)
       (TellsOf types g new (and_waiting waiting (is_waiting answer)) names) (answer ∷ []) []
-  told_one g old new waiting names answer last none_read unread is any stays told is_kept one =
+  told_one g old new waiting names answer last none_read unread is no_image any stays told is_kept
+      one =
       let after = and_waiting waiting (is_waiting answer) in
       λ given answers was.
       subst (λ (l : List Wanted). TellsOf types g new after names (answers ++ answer ∷ []) l)
@@ -348,6 +397,7 @@ module _ (types : List SuffixType) where
             ∙ ap (λ l. names_read was.entries ++ l) none_read
             ∙ append-nil (names_read was.entries) ∙ was.read;
         taken = taken_so stays was.taken;
+        images = images_same was.entries last no_image ∙ was.images;
       })
 
   -- or is only counted
@@ -373,23 +423,25 @@ module _ (types : List SuffixType) where
         missed = was.missed;
         read = was.read;
         taken = taken_so stays was.taken;
+        images = was.images;
       })
 
   told_or_counted : (g : Given) (old new : Report) (waiting : ℕ) (names : List (List ℕ))
       (answer : Answer) (last : LookEvent) (b : Bool) → names_read (last ∷ []) ≡ []
       → is_read last ≡ false → of_look (last ∷ []) ≡ event_of_answer answer ∷ []
+      → images_noted (last ∷ []) ≡ []
       → new.any_refused ≡ (old.any_refused || not_accepted answer)
       → (old.any_without_memory ≡ true → new.any_without_memory ≡ true)
       → (is_waiting answer && nat_lt 0 waiting) ≡ b → IsKept g.kept answer
       → TellsUnless b old new last
       → TellsBoth (TellsOf types g old waiting names)
       (TellsOf types g new (and_waiting waiting (is_waiting answer)) names) (answer ∷ []) []
-  told_or_counted g old new waiting names answer last true none_read unread is any stays e is_kept
-      one =
+  told_or_counted g old new waiting names answer last true none_read unread is no_image any stays e
+      is_kept one =
       counted_one g old new waiting names answer any stays e is_kept one
-  told_or_counted g old new waiting names answer last false none_read unread is any stays e is_kept
-      one =
-      told_one g old new waiting names answer last none_read unread is any stays e is_kept one
+  told_or_counted g old new waiting names answer last false none_read unread is no_image any stays e
+      is_kept one =
+      told_one g old new waiting names answer last none_read unread is no_image any stays e is_kept one
 
   -- whatever the reason of a refusal
   pub of_answer : (g : Given) (old new : Report) (waiting : ℕ) (names : List (List ℕ))
@@ -400,7 +452,7 @@ module _ (types : List SuffixType) where
       (TellsOf types g new (and_waiting waiting (is_waiting answer)) names) (answer ∷ []) []
   of_answer g old new waiting names answer why any stays is_kept one =
       let is = answer_told answer why in
-      told_or_counted g old new waiting names answer (event_for answer why) _ is.0 is.1 is.2 any
+      told_or_counted g old new waiting names answer (event_for answer why) _ is.0 is.1 is.2 is.3 any
       stays refl is_kept one
 
   -- a file of this name is gone over that is not taken
@@ -475,26 +527,38 @@ module _ (types : List SuffixType) where
             ∙ append_assoc (nameless g.files) was.missed (name ∷ [])
             ∙ ap (λ l. nameless l ++ (was.missed ++ name ∷ [])) (sym (files_missed g h name is));
         taken = more_missed g h names was.missed given name is (taken_so stays was.taken);
+        images = images_same was.entries last (file_no_image name one.0 one.1) ∙ was.images;
       }))
 
-  -- an object is given
-  pub of_given : (g h : Given) (report : Report) (waiting : ℕ) (names : List (List ℕ)) (name : List ℕ)
-      (w : Wanted) → Takes types name g h w
-      → TellsBoth (TellsOf types g report waiting names)
-      (TellsOf types h report waiting (names ++ name ∷ [])) [] (w ∷ [])
-  of_given g h report waiting names name w is = λ given answers was.
+  -- an object is given, and its image type noted
+  pub of_given : (g h : Given) (old new : Report) (waiting : ℕ) (names : List (List ℕ))
+      (name : List ℕ) (w : Wanted) → Takes types name g h w → NotesImage old new w
+      → TellsBoth (TellsOf types g old waiting names)
+      (TellsOf types h new waiting (names ++ name ∷ [])) [] (w ∷ [])
+  of_given g h old new waiting names name w is notes = λ given answers was.
+      let more = image_notes w in
+      let other = other_image w.content w.body in
       subst (λ (l : List Answer).
-      TellsOf types h report waiting (names ++ name ∷ []) l (given ++ w ∷ []))
+      TellsOf types h new waiting (names ++ name ∷ []) l (given ++ w ∷ []))
       (sym (append-nil answers)) (record {
-        entries = was.entries;
-        told = was.told;
-        are = was.are;
+        entries = was.entries ++ more;
+        told = notes.told was.entries was.told;
+        are = look-more was.entries more
+            ∙ ap (λ l. of_look was.entries ++ l) (image_look w.name other)
+            ∙ append-nil (of_look was.entries) ∙ was.are;
         waits = was.waits;
         lasting = subst (λ (n : Given). AreKept n.kept answers) (sym is.read) was.lasting;
-        any = was.any;
+        any = any_beside answers was.entries more old.any_refused new.any_refused
+            (image_any w.name other) notes.any was.any;
         missed = was.missed;
-        read = was.read ∙ ap (λ (n : Given). nameless n.files ++ was.missed) (sym is.read);
-        taken = more_taken g h names was.missed given name w is was.taken;
+        read = read-more was.entries more
+            ∙ ap (λ l. names_read was.entries ++ l) (image_unread w.name other)
+            ∙ append-nil (names_read was.entries) ∙ was.read
+            ∙ ap (λ (n : Given). nameless n.files ++ was.missed) (sym is.read);
+        taken = more_taken g h names was.missed given name w is (taken_so notes.memory was.taken);
+        images = images-more was.entries more
+            ∙ ap (λ l. images_noted was.entries ++ l) (image_noted w.name other)
+            ∙ ap (λ l. l ++ more) was.images ∙ sym (notes_more given w);
       })
 
   -- a note is told
@@ -523,6 +587,7 @@ module _ (types : List SuffixType) where
             ∙ ap (λ l. names_read was.entries ++ l) (note_unnamed name met is)
             ∙ append-nil (names_read was.entries) ∙ was.read;
         taken = taken_so stays was.taken;
+        images = images_same was.entries last (note_no_image name met is) ∙ was.images;
       }
 
   -- no name was gone over
@@ -541,6 +606,7 @@ module _ (types : List SuffixType) where
         read = told.read ∙ sym (append-nil (nameless g.files));
         taken = subst (λ l. AreTaken types E [] l g.missed [] []) (sym no_read)
             (subst (λ l. AreTaken types E [] [] l [] []) (sym none_missed) no_file);
+        images = told.images;
       }
 
   last_none : (xs : List (List ℕ)) (x : List ℕ) → xs ++ x ∷ [] ≡ [] → ⊥
@@ -637,19 +703,20 @@ module _ (types : List SuffixType) (path : List ℕ) (names : List (List ℕ)) w
 
   -- and an object of the next name is given
   pub then_given : (P : List Answer → List Wanted → Type 0) (g h : Given) (place : ℕ)
-      (report : Report) (waiting : ℕ) (name : List ℕ) (w : Wanted)
-      → TellsBoth P (TellsLook types path g names place report waiting) [] []
+      (old new : Report) (waiting : ℕ) (name : List ℕ) (w : Wanted)
+      → TellsBoth P (TellsLook types path g names place old waiting) [] []
       → place < length names → slice_get names place ≡ Some name → Takes types name g h w
-      → TellsBoth P (TellsLook types path h names (place + 1) report waiting) [] (w ∷ [])
-  then_given P g h place report waiting name w told lt at is =
-      behind P (TellsLook types path g names place report waiting)
-      (TellsLook types path h names (place + 1) report waiting) (w ∷ []) told
-      (look_on g h place (place + 1) report report waiting waiting [] (w ∷ [])
+      → NotesImage old new w
+      → TellsBoth P (TellsLook types path h names (place + 1) new waiting) [] (w ∷ [])
+  then_given P g h place old new waiting name w told lt at is notes =
+      behind P (TellsLook types path g names place old waiting)
+      (TellsLook types path h names (place + 1) new waiting) (w ∷ []) told
+      (look_on g h place (place + 1) old new waiting waiting [] (w ∷ [])
       (λ was. subst (λ (n : Given). IsListing types path n names) (sym is.read)
       (still_read g name is.bytes was))
-      (subst (λ l. TellsBoth (TellsOf types g report waiting (take place names))
-      (TellsOf types h report waiting l) [] (w ∷ [])) (sym (take-named names place name lt at))
-      (of_given types g h report waiting (take place names) name w is)))
+      (subst (λ l. TellsBoth (TellsOf types g old waiting (take place names))
+      (TellsOf types h new waiting l) [] (w ∷ [])) (sym (take-named names place name lt at))
+      (of_given types g h old new waiting (take place names) name w is notes)))
 
   -- or it is told as that of a file that could not be taken
   pub then_missed : {E : Type 0} (P : List Answer → List Wanted → Type 0) (g h : Given) (place : ℕ)
@@ -711,30 +778,32 @@ module _ (types : List SuffixType) (path : List ℕ) (names : List (List ℕ)) w
       missed = is.tells.missed;
       read = is.tells.read;
       taken = is.tells.taken;
+      images = is.tells.images;
     };
   }
 
   -- and then it is given
-  pub then_taken : (h : Given) (place : ℕ) (report : Report) (waiting : ℕ) (w : Wanted)
-      → TellsBoth (TellsOffered types path h names place report waiting w)
-      (TellsLook types path h names place report waiting) [] (w ∷ [])
-  then_taken h place report waiting w = λ given answers was.
-      let before = TellsLook types path was.before names was.index report waiting in
-      subst (λ n. TellsLook types path h names n report waiting (answers ++ []) (given ++ w ∷ []))
+  pub then_taken : (h : Given) (place : ℕ) (old new : Report) (waiting : ℕ) (w : Wanted)
+      → NotesImage old new w
+      → TellsBoth (TellsOffered types path h names place old waiting w)
+      (TellsLook types path h names place new waiting) [] (w ∷ [])
+  then_taken h place old new waiting w notes = λ given answers was.
+      let before = TellsLook types path was.before names was.index old waiting in
+      subst (λ n. TellsLook types path h names n new waiting (answers ++ []) (given ++ w ∷ []))
       (sym was.next)
-      (then_given before was.before h was.index report waiting w.name w
-      (both_same before) was.within was.named was.takes given answers was.was)
+      (then_given before was.before h was.index old new waiting w.name w
+      (both_same before) was.within was.named was.takes notes given answers was.was)
 
   -- also if it was made to last before
-  pub then_kept : (h k : Given) (place : ℕ) (report : Report) (waiting : ℕ) (w : Wanted)
-      (name : List ℕ) → k ≡ and_kept h name
-      → TellsBoth (TellsOffered types path h names place report waiting w)
-      (TellsLook types path k names place report waiting) [] (w ∷ [])
-  then_kept h k place report waiting w name is = λ given answers was.
-      subst (λ (n : Given). TellsLook types path n names place report waiting (answers ++ [])
+  pub then_kept : (h k : Given) (place : ℕ) (old new : Report) (waiting : ℕ) (w : Wanted)
+      (name : List ℕ) → k ≡ and_kept h name → NotesImage old new w
+      → TellsBoth (TellsOffered types path h names place old waiting w)
+      (TellsLook types path k names place new waiting) [] (w ∷ [])
+  then_kept h k place old new waiting w name is notes = λ given answers was.
+      subst (λ (n : Given). TellsLook types path n names place new waiting (answers ++ [])
       (given ++ w ∷ [])) (sym is)
-      (look_kept h place report waiting name (answers ++ []) (given ++ w ∷ [])
-      (then_taken h place report waiting w given answers was))
+      (look_kept h place new waiting name (answers ++ []) (given ++ w ∷ [])
+      (then_taken h place old new waiting w notes given answers was))
 
   -- or its file is told as one that could not be taken
   pub then_left : (h k : Given) (place : ℕ) (old new : Report) (waiting : ℕ) (w : Wanted)

@@ -1,3 +1,4 @@
+pub mod Images
 pub mod Listing
 pub mod Names
 pub mod Notes

@@ -1,7 +1,7 @@
 -- What is told of a look at a folder: an event for each command, and each file that was not taken.
 use Rattle.std.specs.Prelude.{◌≡◌, ◌&&◌, ◌||◌, ℕ, Bool, true, false, not, List, [], ◌∷◌, ◌++◌, map}
-use Rattle.std.specs.Prelude.{filter, if◌then◌else◌, length, min}
-use Rattle.std.specs.List.{AllByRecursion, list_any}
+use Rattle.std.specs.Prelude.{None, Option, Some, filter, if◌then◌else◌, length, min}
+use Rattle.std.specs.List.{AllByRecursion, flat_map, list_any}
 use Rattle.mot_events.specs.Text.{event_of}
 use Rattle.mot_events.specs.declared.event.Deed.{Deed}
 use Rattle.mot_events.specs.declared.event.Deed.TheVariants as deed
@@ -18,7 +18,9 @@ use Rattle.mot_numbers.specs.declared.refusal.Refusal.TheVariants.{TooManyObject
 use Rattle.mot_playout.specs.declared.running.Attempt.{Attempt}
 use Rattle.mot_playout.specs.declared.running.Attempt.TheVariants.{Accepted, Refused}
 use Rattle.mot_shelf.specs.Given.{Given}
+use Rattle.mot_suffixes.specs.Images.{other_image}
 use Rattle.mot_suffixes.specs.Types.{SuffixType}
+use Rattle.mot_suffixes.specs.declared.images.OtherImage.{OtherImage}
 use Rattle.mot_update.specs.Told.{Answer, Put, Replaced, Withdrew, came_of, was_accepted}
 use Rattle.mot_update.specs.Updating.{is_known}
 use Rattle.mot_update.specs.declared.wanted.Wanted.{Wanted}
@@ -70,12 +72,17 @@ is_note (met.Waiting most files) = true
 is_note met.Listed = true
 is_note other = false
 
+-- it is noted of an object that its bytes are of another image type than its suffix says
+abbrev pub is_of_image : Met → Bool
+is_of_image (met.OtherImage other) = true
+is_of_image other = false
+
 abbrev pub is_read : LookEvent → Bool
 is_read e = is_of_file e.met
 
 -- it is told of a command, or of the whole look
 abbrev pub is_of_look : LookEvent → Bool
-is_of_look e = not (is_of_file e.met || is_note e.met)
+is_of_look e = not (is_of_file e.met || is_note e.met || is_of_image e.met)
 
 -- these of them, whatever the reasons of refusals
 abbrev pub of_look : List LookEvent → List LookEvent
@@ -100,6 +107,23 @@ TellsOne old new e = (entries : List LookEvent) → ReportTells old entries
 -- the names of the files that were not taken, as they are told
 abbrev pub names_read : List LookEvent → List (List ℕ)
 names_read entries = map (λ (e : LookEvent). e.name) (filter is_read entries)
+
+-- those of them that note an image type
+abbrev pub images_noted : List LookEvent → List LookEvent
+images_noted entries = filter (λ (e : LookEvent). is_of_image e.met) entries
+
+-- what is noted of an object of this name: nothing, or that it is such
+abbrev pub image_note : List ℕ → Option OtherImage → List LookEvent
+image_note name None = []
+image_note name (Some other) = event_of name (met.OtherImage other) ∷ []
+
+-- what is noted of a wanted object: exactly where its suffix says an image type that its bytes do
+-- not begin as
+abbrev pub image_notes : Wanted → List LookEvent
+image_notes w = image_note w.name (other_image w.content w.body)
+
+abbrev pub all_image_notes : List Wanted → List LookEvent
+all_image_notes wanted = flat_map image_notes wanted
 
 -- the object of a command has to wait, since there are as many as there may be
 abbrev pub is_too_many : Refusal → Bool
@@ -143,8 +167,10 @@ abbrev pub AreKept : (kept : List (List ℕ)) → List Answer → Type 0
 AreKept kept answers = AllByRecursion (IsKept kept) answers
 
 -- It tells these answers, and beside them only files that were not taken, and notes; and so many
--- objects wait, of which only the first is told. Of these names each is that of an object that was given, with the bytes that the folder gave, or of one of these
--- files; before that the files are told that have no name of an object.
+-- objects wait, of which only the first is told. Of these names each is that of an object that was
+-- given, with the bytes that the folder gave, or of one of these files; before that the files are
+-- told that have no name of an object. Of each object that was given its image type is noted where
+-- its bytes do not begin as its suffix says.
 pub record TellsOf (types : List SuffixType) (given : Given) (report : Report) (waiting : ℕ)
     (names : List (List ℕ)) (answers : List Answer) (wanted : List Wanted) : Type 0 where
   pub entries : List LookEvent
@@ -158,9 +184,11 @@ pub record TellsOf (types : List SuffixType) (given : Given) (report : Report) (
   pub read : names_read entries ≡ nameless given.files ++ missed
   pub taken : AreTaken types (report.any_without_memory ≡ true) names given.read given.missed
       wanted missed
+  pub images : images_noted entries ≡ all_image_notes wanted
 
 -- it tells these answers, and beside them only files that were not taken, and notes
 pub record TellsAnswers (report : Report) (answers : List Answer) : Type 0 where
   pub entries : List LookEvent
   pub told : ReportTells report entries
   pub are : of_look entries ≡ map event_of_answer answers
+  pub images : images_noted entries ≡ []

@@ -9,8 +9,8 @@ use Rattle.mot_events.specs.declared.event.LookEvent.{LookEvent}
 use Rattle.mot_events.specs.declared.event.Met.TheVariants.{Kept}
 use Rattle.mot_events.specs.declared.event.Why.TheVariants.{Unsaid}
 use Rattle.mot_folder.specs.Listed.{IsListing, nameless, names_in, with_type}
-use Rattle.mot_folder.specs.Log.{AreKept, ReportTells, event_of_answer, names_read, of_look}
-use Rattle.mot_folder.specs.Log.{told_of, unlisted_for}
+use Rattle.mot_folder.specs.Log.{AreKept, ReportTells, all_image_notes, event_of_answer}
+use Rattle.mot_folder.specs.Log.{images_noted, names_read, of_look, told_of, unlisted_for}
 use Rattle.mot_folder.specs.Taken.{AreTaken}
 use Rattle.mot_folder.specs.declared.listing.TheConstants.{MAX_NAMES}
 use Rattle.mot_folder.specs.declared.looking.TheConstants.{SOON}
@@ -55,12 +55,14 @@ is_kept allows names objects = not allows && (nat_eq (length names) 0 && nat_lt 
 -- Each of these names is that of an object that was read of the folder, with the bytes that it
 -- gave, or of a file that is told as one that could not be taken; before that the regular files are
 -- told that have no name of an object. A file for which memory was wanted is told so only in a look
--- that a fault ended.
+-- that a fault ended. Of the objects, exactly those are noted whose suffix says an image type that
+-- their bytes do not begin as.
 pub record EachIsTold (types : List SuffixType) (given : Given) (names : List (List ℕ))
     (wanted : List Wanted) (fault : Option Refusal) (entries : List LookEvent) : Type 0 where
   pub missed : List (List ℕ)
   pub read : names_read entries ≡ nameless given.files ++ missed
   pub taken : AreTaken types (fault ≢ None) names given.read given.missed wanted missed
+  pub images : images_noted entries ≡ all_image_notes wanted
 
 -- A look at the folder of this path, by this table of suffixes, which gave this: it saw these names
 -- of objects and took these objects, and of the carousel that it found it ran these commands, up to
@@ -72,12 +74,12 @@ pub data IsLook (types : List SuffixType) (allows : Bool) (path : List ℕ) (giv
   -- the folder was not listed, which is told, and no command was run
   unlisted : (refusal : Refusal) → IsUnlisted types path given refusal → fine ≡ false
       → ((fault ≡ None) × (refusal ≢ OutOfMemory)) ⊎ (fault ≡ Some OutOfMemory) → commands ≡ []
-      → of_look entries ≡ unlisted_for path refusal Unsaid ∷ []
+      → of_look entries ≡ unlisted_for path refusal Unsaid ∷ [] → images_noted entries ≡ []
       → IsLook types allows path given c commands marks fault names wanted fine entries
   -- it was listed and has no object, which is told, and no command was run
   kept : IsListing types path given [] → is_kept allows [] (length c.objects) ≡ true
       → fine ≡ false → (fault ≡ None) ⊎ (fault ≡ Some OutOfMemory) → commands ≡ []
-      → of_look entries ≡ event_of path Kept ∷ []
+      → of_look entries ≡ event_of path Kept ∷ [] → images_noted entries ≡ []
       → IsLook types allows path given c commands marks fault names wanted fine entries
   -- It was listed once; none of the names begins with a dot. The commands are those of the update
   -- to the objects that were taken, all of them where no fault came, and what came of each is told.

@@ -5,7 +5,8 @@ ghost use Rattle.mot_folder.specs.Inner.Names.{name_or_none};
 ghost use Rattle.mot_folder.specs.Inner.Reading.{Misses, Takes, TellsFile, TellsLook, TellsUntaken};
 ghost use Rattle.mot_folder.specs.Inner.Reading.{TellsFault, TellsOffered, is_for_next};
 ghost use Rattle.mot_folder.specs.Inner.Reasons.{TellsSettled, and_settled};
-ghost use Rattle.mot_folder.specs.Log.{AreKept, TellsOf, has_to_wait};
+ghost use Rattle.mot_folder.specs.Inner.Images.{NotesImage};
+ghost use Rattle.mot_folder.specs.Log.{AreKept, TellsOf, has_to_wait, image_notes};
 ghost use Rattle.mot_folder.specs.declared.folder.Untaken.TheVariants.{Refused as NotTaken};
 ghost use Rattle.mot_folder.specs.declared.folder.Untaken.TheVariants.{Unread as NotRead};
 ghost use Rattle.mot_numbers.specs.declared.refusal.Refusal.{Refusal};
@@ -26,7 +27,7 @@ use mot_numbers::Refusal;
 use mot_objects::{Body, MAX_BODY, Name};
 use mot_playout::Attempt;
 use mot_shelf::Shelf;
-use mot_suffixes::{FileType, FileTypes};
+use mot_suffixes::{FileType, FileTypes, other_image};
 use mot_update::{Settled, Source, Wanted};
 use std::alloc::{AllocError, Global};
 use std::io;
@@ -122,11 +123,15 @@ impl<'a, S: Shelf + Drop> Source for Folder<'a, S> {
 
     fn take(&mut self, alloc: Global, wanted: &Wanted, is_new: bool) -> bool {
         if !is_new {
+            note_image(&mut self.report, wanted);
             return true;
         }
         let name = wanted.name.as_bytes();
         match self.shelf.keep(alloc, name) {
-            Ok(()) => true,
+            Ok(()) => {
+                note_image(&mut self.report, wanted);
+                true
+            }
             Err(unread) => {
                 tell_untaken(&mut self.report, name, Untaken::Unread(unread));
                 false
@@ -201,6 +206,16 @@ fn tell_fault(report: &mut Report, name: &[u8], error: io::Error)
             report.missed(name, Refusal::ReadFault, why);
         }
         refusal => report.refused(Deed::Read, name, refusal),
+    }
+}
+
+/// Notes that the bytes of an object are of another image type than its suffix says, if they are.
+fn note_image(report: &mut Report, wanted: &Wanted)
+    ensures none { image_notes wanted.now ≡ [] → report.new ≡ report.old }
+    ensures notes { NotesImage report.old report.new wanted.now }
+{
+    if let Some(other) = other_image(wanted.content, wanted.body.as_bytes()) {
+        report.other_image(wanted.name.as_bytes(), other);
     }
 }
 

@@ -16,6 +16,7 @@ use mot_events::{Deed, LookEvent, Met, Skip, Why, Words};
 use mot_numbers::Refusal;
 use mot_objects::Done;
 use mot_playout::Attempt;
+use mot_suffixes::OtherImage;
 use std::alloc::{AllocError, Global};
 use std::io;
 
@@ -301,6 +302,16 @@ impl Report {
         ensures told { TellsOne self.old self.new (event_of path.now (met.Waiting most files)) }
     {
         self.add(path, Met::Waiting(most, files));
+    }
+
+    /// The bytes of the object of this name are of another image type than its suffix says.
+    pub fn other_image(&mut self, name: &[u8], other: OtherImage)
+        ensures same { self.new.any_refused ≡ self.old.any_refused }
+        ensures stays { self.old.any_without_memory ≡ true
+            → self.new.any_without_memory ≡ true }
+        ensures told { TellsOne self.old self.new (event_of name.now (met.OtherImage other)) }
+    {
+        self.add(name, Met::OtherImage(other));
     }
 
     /// Whether as many names were skipped as are told.

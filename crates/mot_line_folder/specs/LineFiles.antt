@@ -2,6 +2,7 @@
 use Rattle.std.specs.Prelude.{◌≡◌, ◌≢◌, ◌≤◌, ◌⊎◌, ◌↔◌, ◌||◌, ℕ, Bool, true, false, IsTrue, nat_eq, if◌then◌else◌, List}
 use Rattle.std.specs.Prelude.{[], ◌∷◌, ◌++◌, Result, Ok, Err, Option, None, Some, codes, suc, take}
 use Rattle.std.specs.Prelude.{◌-◌, All, IsUtf8, drop, get_or, length}
+use Rattle.std.specs.Str.{str_eq_ignore_ascii_case}
 use Rattle.mot_files.specs.Call.{Call, closed, looked, looked_at, opened, peeked, removed}
 use Rattle.mot_files.specs.Reading.{IsSame}
 use Rattle.mot_files.specs.declared.system.Fault.{Fault}
@@ -19,10 +20,11 @@ use Rattle.mot_line_folder.specs.declared.line_file.Reason.{Reason}
 use Rattle.mot_line_folder.specs.declared.line_file.Reason.TheVariants.{NoFile, NoLine}
 use Rattle.mot_line_folder.specs.declared.line_file.Reason.TheVariants.{Refused}
 
--- a file of this name is one of lines: it ends in `.lines`, and does not begin with a dot
+-- a file of this name is one of lines: it ends in `.lines`, whatever the case of these letters, and
+-- does not begin with a dot
 abbrev pub IsOfLines : List ℕ → Type 0
 IsOfLines name = (6 ≤ length name) × (get_or name 0 0 ≢ 46)
-    × (drop (length name - 6) name ≡ codes ".lines")
+    × (str_eq_ignore_ascii_case (drop (length name - 6) name) (codes ".lines") ≡ true)
 
 -- a text in which no control character stands
 abbrev pub IsPlain : List ℕ → Type 0

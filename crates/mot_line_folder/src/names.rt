@@ -1,6 +1,7 @@
 //! The names of files of lines, in the order in which they are taken.
 ghost use Rattle.std.specs.Prelude.{◌≡◌, ◌≢◌, ◌≤◌, ◌↔◌, ◌-◌, ◌++◌, [], All, IfNone, IfOk, IfSome, IsTrue, MatchOption, None, OnOk};
 ghost use Rattle.std.specs.Prelude.{codes, drop, insert, length, option_to_list, true, vec_items};
+ghost use Rattle.std.specs.Str.{str_eq_ignore_ascii_case};
 ghost use Rattle.mot_line_folder.specs.Inner.LineNames.{ComesBefore, GoesOn, IsPlaceOf, IsPut, Keeps};
 ghost use Rattle.mot_line_folder.specs.LineFiles.{IsOfLines, IsPlain};
 
@@ -8,7 +9,7 @@ use std::alloc::Global;
 use std::io;
 use std::str::from_utf8;
 
-/// How the name of a file of lines ends.
+/// How the name of a file of lines ends, whatever the case of its letters.
 const ENDING: &[u8] = b".lines";
 
 /// The most names that are kept of a folder at a time.
@@ -202,9 +203,9 @@ fn end_of(name: &[u8]) -> &[u8]
 
 /// Whether it is the ending of files of lines.
 fn is_ending(bytes: &[u8]) -> bool
-    ensures { IsTrue result ↔ (bytes.now ≡ codes ".lines") }
+    ensures { result ≡ str_eq_ignore_ascii_case bytes.now (codes ".lines") }
 {
-    bytes == ENDING
+    bytes.eq_ignore_ascii_case(ENDING)
 }
 
 /// The name as a text that would stand in one line of the log.

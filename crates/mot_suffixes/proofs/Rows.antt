@@ -3,9 +3,11 @@ use Rattle.std.proofs.Common.{◌≡◌, ◌++◌, [], ◌∷◌, Some, None, re
 use Rattle.std.specs.Prelude.{codes}
 use Rattle.mot_lines.specs.Words.{number_of_word}
 use Rattle.mot_numbers.specs.declared.refusal.Refusal.TheVariants.{BadLine}
+use Rattle.mot_suffixes.specs.Images.{image_of_bytes, other_image}
 use Rattle.mot_suffixes.specs.Shown.{shown}
 use Rattle.mot_suffixes.specs.Types.{known_types, refusal_in, suffix_of, suffix_type, type_of_name}
 use Rattle.mot_suffixes.specs.Types.{type_of_words, types_in}
+use Rattle.mot_suffixes.specs.declared.images.ImageType.TheVariants.{Bmp, Gif, Jpeg, Png}
 
 -- what follows the last dot, of a name that has one and does not begin with one
 suffix_behind_two : suffix_of (codes "a.b.jpeg") ≡ Some (codes "jpeg")
@@ -56,3 +58,42 @@ controls_in_a_name = refl
 others_in_a_name : shown (194 ∷ 160 ∷ 195 ∷ 164 ∷ 133 ∷ 194 ∷ [])
     ≡ 194 ∷ 160 ∷ 195 ∷ 164 ∷ 133 ∷ 194 ∷ []
 others_in_a_name = refl
+
+-- the image type that bytes begin as: all of its first bytes are there
+gif_of_1987 : image_of_bytes (codes "GIF87a") ≡ Some Gif
+gif_of_1987 = refl
+
+gif_of_1989 : image_of_bytes (codes "GIF89a..") ≡ Some Gif
+gif_of_1989 = refl
+
+no_gif : image_of_bytes (codes "GIF88a") ≡ None
+no_gif = refl
+
+bitmap : image_of_bytes (codes "BM") ≡ Some Bmp
+bitmap = refl
+
+jpeg : image_of_bytes (255 ∷ 216 ∷ 255 ∷ 224 ∷ []) ≡ Some Jpeg
+jpeg = refl
+
+cut_jpeg : image_of_bytes (255 ∷ 216 ∷ []) ≡ None
+cut_jpeg = refl
+
+no_bytes : image_of_bytes [] ≡ None
+no_bytes = refl
+
+-- a PNG under the suffix of a JPEG; under its own; and under that of a text
+png_as_jpeg : other_image (record { content_type = 2; subtype = 1 })
+    (137 ∷ 80 ∷ 78 ∷ 71 ∷ 13 ∷ 10 ∷ 26 ∷ 10 ∷ 0 ∷ [])
+    ≡ Some (record { by_suffix = Jpeg; by_bytes = Some Png })
+png_as_jpeg = refl
+
+png_as_png : other_image (record { content_type = 2; subtype = 3 })
+    (137 ∷ 80 ∷ 78 ∷ 71 ∷ 13 ∷ 10 ∷ 26 ∷ 10 ∷ 0 ∷ []) ≡ None
+png_as_png = refl
+
+bitmap_as_text : other_image (record { content_type = 1; subtype = 0 }) (codes "BM") ≡ None
+bitmap_as_text = refl
+
+-- another image of content type 2 is none of the four
+bitmap_as_another : other_image (record { content_type = 2; subtype = 4 }) (codes "BM") ≡ None
+bitmap_as_another = refl

@@ -1,3 +1,4 @@
+pub mod Images
 pub mod Inner
 pub mod Shown
 pub mod Types

@@ -9,7 +9,7 @@ use Rattle.mot_events.specs.declared.event.Met.TheVariants.{Skipped}
 use Rattle.mot_events.specs.declared.event.Skip.{Skip}
 use Rattle.mot_events.specs.declared.event.Skip.TheVariants.{NotUtf8, Suffix}
 use Rattle.mot_folder.specs.Listed.{AreEither, nameless, names_in, object_names, with_type}
-use Rattle.mot_folder.specs.Log.{ReportTells, TellsOne, is_read, names_read, of_look}
+use Rattle.mot_folder.specs.Log.{ReportTells, TellsOne, images_noted, is_read, names_read, of_look}
 use Rattle.mot_folder.specs.declared.listing.TheConstants.{MAX_NAMES}
 use Rattle.mot_folder.specs.declared.report.Report.{Report}
 use Rattle.mot_numbers.specs.declared.refusal.Refusal.{Refusal}
@@ -95,6 +95,7 @@ pub record TellsNameless (files : List (List ℕ)) (report : Report) : Type 0 wh
   pub are : of_look entries ≡ []
   pub any : report.any_refused ≡ list_any is_read entries
   pub read : names_read entries ≡ nameless files
+  pub images : images_noted entries ≡ []
 
 -- a name is left out for what it names; or since it is not UTF-8; or it names a regular file, and
 -- has none of the suffixes

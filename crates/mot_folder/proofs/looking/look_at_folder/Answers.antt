@@ -23,7 +23,7 @@ use Rattle.mot_objects.specs.declared.object.Object.{Object}
 use Rattle.mot_repository.specs.Repository.{Agrees, RepositoryView}
 use Rattle.mot_folder.proofs.Nameless.{nameless_none}
 use Rattle.mot_folder.proofs.Taken.{IsLook, fine_is, look_begins, look_is, same_path, taken_so}
-use Rattle.mot_folder.proofs.Log.{look-more, tells_none}
+use Rattle.mot_folder.proofs.Log.{images_same, look-more, tells_none}
 use Rattle.mot_folder.proofs.looking.look_at_folder.Goals as goal
 use Rattle.mot_numbers.specs.declared.refusal.Refusal.{Refusal}
 use Rattle.mot_numbers.specs.declared.refusal.Refusal.TheVariants.{OutOfMemory}
@@ -124,6 +124,7 @@ of_names old new start now s types allows path given report names fault shown li
             missed = told.missed;
             read = told.read;
             taken = taken_so types without told.taken;
+            images = told.images;
           });
       right = inr (looked.runs.answers, told.are, looked.runs.right);
       told = told.told;
@@ -301,7 +302,8 @@ returns-in-Err-clause-looked g c = λ s holds honest.
     (look-more told.entries (last ∷ []) ∙ ap (λ l. l ++ bare ∷ []) told.are
     ∙ ap (λ n. unlisted_for n refusal Unsaid ∷ [])
     (c.as_bytes-path.ensures.value ∙ c.shown.ensures ∙ c.in-Err.ensures.same
-    ∙ c.begin.ensures.same)))
+    ∙ c.begin.ensures.same))
+    (images_same told.entries last refl ∙ told.images))
     (c.tell_unlisted.ensures.told.1 told.entries told.told)
 
 pub returns-then-is_kept-clause-looked : goal.returns-then-is_kept-clause-looked
@@ -334,7 +336,8 @@ returns-then-is_kept-clause-looked g c = λ s holds honest.
     (ended c.end-then-is_kept.result c.end-then-is_kept.ensures.fault) refl
     (look-more told.entries (event_of path Kept ∷ [])
     ∙ ap (λ l. l ++ event_of path Kept ∷ []) told.are
-    ∙ ap (λ n. event_of n Kept ∷ []) same))
+    ∙ ap (λ n. event_of n Kept ∷ []) same)
+    (images_same told.entries (event_of path Kept) refl ∙ told.images))
     (c.kept.ensures.told told.entries told.told)
 
 pub returns-in_err-look-clause-looked : goal.returns-in_err-look-clause-looked

@@ -12,7 +12,8 @@ pub returns-then-not-is_new-clause-told : goal.returns-then-not-is_new-clause-to
 returns-then-not-is_new-clause-told g c =
     let self = c.args.self.now in
     then_taken self.types.now (g.S.Shelf.path self.shelf) self.names.names.items
-    (g.S.Shelf.gave self.shelf) self.place self.report self.sizes.waiting c.args.wanted.now
+    (g.S.Shelf.gave self.shelf) self.place self.report c.note_image.new.report self.sizes.waiting
+    c.args.wanted.now c.note_image.ensures.notes
 
 pub returns-in-Ok-clause-told : goal.returns-in-Ok-clause-told
 returns-in-Ok-clause-told g c =
@@ -22,13 +23,15 @@ returns-in-Ok-clause-told g c =
     let gave = g.S.Shelf.gave in
     let names = self.names.names.items in
     let wanted = c.args.wanted.now in
+    let report = c.note_image-in-Ok.new.report in
     subst (λ p. TellsBoth
     (TellsOffered types (path self.shelf) (gave self.shelf) names self.place self.report
     self.sizes.waiting wanted)
-    (TellsLook types p (gave c.keep.new.self) names self.place self.report self.sizes.waiting) []
+    (TellsLook types p (gave c.keep.new.self) names self.place report self.sizes.waiting) []
     (wanted ∷ [])) (sym c.in-Ok.ensures.same)
     (then_kept types (path self.shelf) names (gave self.shelf) (gave c.keep.new.self) self.place
-    self.report self.sizes.waiting wanted c.as_bytes-name.result.now c.in-Ok.ensures.gave)
+    self.report report self.sizes.waiting wanted c.as_bytes-name.result.now c.in-Ok.ensures.gave
+    c.note_image-in-Ok.ensures.notes)
 
 pub returns-in-Ok-clause-lasts : goal.returns-in-Ok-clause-lasts
 returns-in-Ok-clause-lasts g c = λ is_new taken.
