@@ -2,12 +2,11 @@
 use Rattle.std.proofs.Common.{◌≡◌, ℕ, List, Option, Some}
 use Rattle.std.proofs.Common.{Result, Ok, Err, refl, sym, ap, ◌∙◌, subst}
 use Rattle.std.specs.Prelude.{IfErr, is_ok}
-use Rattle.mot_journal.specs.Catalogue.{Placed, Catalogue, objects_after}
+use Rattle.mot_journal.specs.Catalogue.{Placed, objects_after}
 use Rattle.mot_journal.specs.Catalogue.{placed_without}
-use Rattle.mot_journal.specs.Faults.{HasActionFault, HasListFault}
+use Rattle.mot_journal.specs.Faults.{HasActionFault}
 use Rattle.mot_journal.specs.declared.record.Action.{Action}
 use Rattle.mot_journal.specs.declared.record.Action.TheVariants.{Set, Remove}
-use Rattle.mot_journal.specs.declared.record.Record.{Record}
 use Rattle.mot_journal.specs.declared.reason.ListFault.{ListFault}
 use Rattle.mot_journal.specs.declared.reason.ListFault.TheVariants.{Missing, TooMany, SameId}
 use Rattle.mot_journal.specs.declared.reason.ListFault.TheVariants.{DirectoryId, Meets}

@@ -1,4 +1,4 @@
-use Rattle.std.proofs.Common.{◌≡◌, true, false, take, sym, ◌∙◌, arith}
+use Rattle.std.proofs.Common.{take, sym, ◌∙◌, arith}
 use Rattle.std.specs.Prelude.{bytes_eq}
 use Rattle.std.proofs.lemmas.Bool.{not-false, not-true}
 use Rattle.mot_journal.specs.Geometry.{magic}
