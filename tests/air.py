@@ -181,7 +181,7 @@ class AirCase(Case):
 
     def three(self):
         """A disk made equal to a folder of three files, the folder, and what its objects are."""
-        disk, folder = self.disk(), self.folder({f"{it}.png": PNG + b"%d" % it * 3000 for it in (1, 2, 3)})
+        disk, folder = self.disk(), self.folder({f"{it}.png": PNG + b"%d" % it * 2992 for it in (1, 2, 3)})
         self.sync(disk, folder)
         return disk, folder, self.objects(disk)
 

@@ -9,7 +9,7 @@ import shutil
 import signal
 import subprocess
 
-from .air import AirCase, needs_strace, traced, until
+from .air import PNG, AirCase, needs_strace, traced, until
 from .program import is_tried, plain, run, top
 
 ERRORS = ("EIO", "EACCES", "ELOOP", "ESTALE")
@@ -64,7 +64,7 @@ class Faults(AirCase):
 
     def test_a_disk_that_fails(self):
         disk, folder, there = self.three()
-        self.rewritten(folder, there, b"x")
+        self.rewritten(folder, there, PNG + b"x")
         # (the first sync of its data is the opening's, then each command has two)
         fault = "inject=fdatasync:error=EIO:when=4"
         status, told, said = run(traced([self.program, "sync", "--at-once", disk, folder], fault))
@@ -76,7 +76,7 @@ class Faults(AirCase):
 
     def test_a_disk_that_fails_while_it_plays(self):
         disk, folder, there = self.three()
-        self.rewritten(folder, there, b"y")
+        self.rewritten(folder, there, PNG + b"y")
         words = [self.program, "play", disk, "-", "--at-once", "--folder", folder, "--turns", "1"]
         status, printed, said = run(traced(words, "inject=fdatasync:error=EIO:when=4"))
         said = plain(said).splitlines()
