@@ -1,9 +1,9 @@
 -- Playing a disk that was opened before, for the length of its packets.
-use Rattle.std.proofs.Common.{◌≡◌, ◌∙◌, ◌⊎◌, ◌++◌, arith, ⊎_elim, ℕ, List, [], Bool, Option, Some, None}
+use Rattle.std.proofs.Common.{◌≡◌, ◌∙◌, ◌++◌, arith, ⊎_elim, ℕ, List, [], Bool, Option, Some, None}
 use Rattle.std.proofs.Common.{◌≢◌, Err, false, inl, inr, refl, subst, sym}
 use Rattle.std.specs.Prelude.{IsOk, IsSomeAnd}
 use Rattle.disk_model.proofs.Laws.{joins, keeps_on}
-use Rattle.disk_model.specs.Disk.{Elapses, IsHonestDisk, IsStill, KeepsLength, Nothing, OnlySyncs}
+use Rattle.disk_model.specs.Disk.{Elapses, IsHonestDisk, IsStill, Nothing, OnlySyncs}
 use Rattle.disk_model.specs.Disk.{State}
 use Rattle.disk_model.specs.Failures.{Rises}
 use Rattle.mot_air.proofs.Opened.{opened_throughout}

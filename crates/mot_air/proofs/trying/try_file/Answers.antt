@@ -1,4 +1,4 @@
-use Rattle.std.proofs.Common.{◌≡◌, ◌∙◌, ◌++◌, ℕ, List, [], ◌∷◌, false, refl, subst, sym}
+use Rattle.std.proofs.Common.{◌≡◌, ◌∙◌, ℕ, List, [], ◌∷◌, false, refl, subst, sym}
 use Rattle.std.specs.Prelude.{codes}
 use Rattle.std.specs.Result.{result_unwrap_or}
 use Rattle.disk_store.specs.Begun.{begun_state}
