@@ -55,6 +55,8 @@ class Units(program.Rows):
             folders = [f"/var/lib/{it}" for it in values(text, "StateDirectory")]
             self.expect(f"{name}: the folder of the status is made", True, str(status.parent) in folders)
             self.expect(f"{name}: further options", "$ARGS", command[-1])
+            self.expect(f"{name}: lines without a level are errors", (True, ["err"]),
+                        ("--levels" in command, values(text, "SyslogLevel")))
 
     def test_options(self):
         """The program takes the options that the units give."""
