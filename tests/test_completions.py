@@ -1,4 +1,5 @@
-"""The completions of bash: the names of files and folders come whole, whatever is in them."""
+"""The completions of bash: the names of files and folders come whole, whatever is in them, and those of `-wal` files not at
+all."""
 import pathlib
 import subprocess
 import tempfile
@@ -18,9 +19,12 @@ class Completions(program.Rows):
     def test_bash(self):
         with tempfile.TemporaryDirectory() as room:
             pathlib.Path(room, "my objects").mkdir()
-            pathlib.Path(room, "my disk").touch()
+            for it in ("my disk", "my disk-wal"):
+                pathlib.Path(room, it).touch()
             rows = ((["motcar", "pl"], ["play"]), (["motcar", "play", "my"], ["my disk", "my objects"]),
                     (["motcar", "play", "d", "p", "--folder", "my"], ["my objects"]),
-                    (["motcar", "play", "d", "p", "--sta"], ["--status"]), (["motcar", "help", "mig"], ["migrate"]))
+                    (["motcar", "play", "d", "p", "--sta"], ["--status"]), (["motcar", "help", "mig"], ["migrate"]),
+                    (["motcar", "format", "d", "--packet", ""], ["24", "48", "72", "96"]),
+                    (["motcar", "--v"], ["--version"]))
             for words, wanted in rows:
                 self.expect(" ".join(words), (wanted, ""), completed(room, *words))

@@ -11,6 +11,7 @@ import sys
 import tempfile
 
 from tests import dab, program
+from tests.air import needs_strace, traced
 
 UNITS = ("motcar.service", "motcar@.service")
 PROGRAM = "/usr/local/bin/motcar"
@@ -54,6 +55,8 @@ class Units(program.Rows):
             folders = [f"/var/lib/{it}" for it in values(text, "StateDirectory")]
             self.expect(f"{name}: the folder of the status is made", True, str(status.parent) in folders)
             self.expect(f"{name}: further options", "$ARGS", command[-1])
+            self.expect(f"{name}: lines without a level are errors", (True, ["err"]),
+                        ("--levels" in command, values(text, "SyslogLevel")))
 
     def test_options(self):
         """The program takes the options that the units give."""
@@ -76,6 +79,54 @@ class Units(program.Rows):
                 file.write_text(text)
                 done = subprocess.run(["systemd-analyze", "verify", file], capture_output=True, text=True)
                 self.expect(f"{name}: verified", (0, ""), (done.returncode, done.stderr))
+
+
+def calls_in(name):
+    """The system calls of a set of systemd, with those of the sets that it names; of the name of a call that call."""
+    if not name.startswith("@"):
+        return {name}
+    printed = subprocess.run(["systemd-analyze", "syscall-filter", name], capture_output=True, text=True, check=True).stdout
+    return set().union(*map(calls_in, re.findall(r"(?m)^    ([@a-z_]\S*)$", printed)))
+
+
+def calls_that_live(text):
+    """The calls at which the filter of a unit does not kill: those that it allows, and those that it lets fail by a name."""
+    living = set()
+    for line in re.findall(r"(?m)^SystemCallFilter=(.*)$", text):
+        for name, _, error in (it.partition(":") for it in line.lstrip("~").split()):
+            if not line.startswith("~"):
+                living |= calls_in(name)
+            elif not error:
+                living -= calls_in(name)
+    return living
+
+
+@needs_strace
+class Filter(program.Case):
+    def test_calls(self):
+        """No call of a start that has to make the file beside the disk, and of a turn with folders and a status, is one at
+        which the filter of a unit kills the program. A call that the filter lets fail does not end the start."""
+        if not shutil.which("systemd-analyze"):
+            self.leave_out("the calls of the filter", "no systemd-analyze")
+            return
+        self.new_disk("station.disk")
+        for it in ("objects", "lines"):
+            (self.room / it).mkdir()
+        self.write("objects/logo.png", (program.top / "examples/logo.png").read_bytes())
+        self.write("lines/1.lines", b"put hello 1 0 - 00\n")
+        os.mkfifo(self.room / "packets.pipe")
+        words = [self.program, "play", "station.disk", "packets.pipe", "--folder", "objects", "--at-once", "--lines", "lines",
+                 "--status", "status", "--levels", "--turns", "2"]
+        for faults in ((), ("inject=fchown:error=EPERM",)):
+            (self.room / "station.disk-wal").unlink(missing_ok=True)
+            with open(self.room / "packets.pipe", "r+b", buffering=0):
+                ended = program.run(traced(words, *faults, out=self.room / "calls"), cwd=self.room)
+            self.expect(f"{faults}: it plays", (0, True), (ended[0], (self.room / "station.disk-wal").exists()))
+            made = set(re.findall(r"(?m)^\d+ +([a-z]\w*)\(", (self.room / "calls").read_text()))
+            self.expect(f"{faults}: the file beside the disk is given the owner of the disk", True, "fchown" in made)
+            for name in UNITS:
+                text = (program.top / "examples" / name).read_text()
+                self.expect(f"{name}, {faults}: calls that kill", set(), made - calls_that_live(text))
 
 
 class Pipe(program.Case):

@@ -9,6 +9,8 @@ import pathlib
 import re
 import sys
 
+# the values of --packet
+LENGTHS = "24 48 72 96"
 DOCS = pathlib.Path(__file__).resolve().parent.parent / "docs"
 HELP = DOCS / "help"
 MANUAL = {
@@ -130,12 +132,14 @@ def bash():
         text += f'        {it.name}) options="{" ".join([*(name for name, _, _ in it.words()), "--help"])}" ;;\n'
     text += f'        help) options="{names}" ;;\n    esac\n'
     folders = sorted({name for it in all_commands for name, value, _ in it.words() if value == "DIR"})
-    numbers = sorted({name for it in all_commands for name, value, _ in it.words() if value == "N"})
+    numbers = sorted({name for it in all_commands for name, value, _ in it.words() if value == "N" and name != "--packet"})
     text += f'    case "$before" in\n        {" | ".join(folders)}) mapfile -t COMPREPLY < <(compgen -d -- "$word"); return ;;\n'
+    text += f'        --packet) mapfile -t COMPREPLY < <(compgen -W "{LENGTHS}" -- "$word"); return ;;\n'
     text += f'        {" | ".join(numbers)}) return ;;\n    esac\n'
     text += '    case "${COMP_WORDS[1]} $word" in\n'
     text += '        "help "* | *" -"*) mapfile -t COMPREPLY < <(compgen -W "$options" -- "$word") ;;\n'
-    text += '        *) mapfile -t COMPREPLY < <(compgen -f -- "$word") ;;\n    esac\n}\n'
+    # (the file that stands beside a disk is none)
+    text += '        *) mapfile -t COMPREPLY < <(compgen -f -X "*-wal" -- "$word") ;;\n    esac\n}\n'
     return text + "complete -o filenames -F _motcar motcar\n"
 
 
@@ -149,12 +153,14 @@ def zsh():
     text = "#compdef motcar\n# Completions of motcar for zsh.\n_motcar() {\n"
     text += "    if (( CURRENT == 2 )); then\n        local -a commands=(\n"
     text += "".join(f"            '{it.name}:{quoted(it.about)}'\n" for it in all_commands)
-    text += "            'help:Print help'\n        )\n"
+    text += "            'help:Print help'\n            '--help:Print help'\n"
+    text += "            '--version:Print the version, the commit and the toolchain that proved it'\n        )\n"
     text += "        _describe command commands\n        return\n    fi\n    case $words[2] in\n"
     for it in all_commands:
         parts = []
         for name, value, help in it.words():
-            parts.append(f"'{name}[{quoted(help)}]{f':{value}:{actions[value]}' if value else ''}'")
+            action = f"({LENGTHS})" if name == "--packet" else actions.get(value)
+            parts.append(f"'{name}[{quoted(help)}]{f':{value}:{action}' if value else ''}'")
         for number, (name, _) in enumerate(it.arguments, 2):
             place, name = "*" if name.endswith("...") else number, name.strip("<>.")
             parts.append(f"'{place}:{name}:{ {'DIR': '_files -/', 'NAME': ' '}.get(name, '_files')}'")
