@@ -32,6 +32,8 @@ pub fn records_of_copy<D: Disk>(
     ensures refused { IfErr result
         (λ refusal. IsNoCopy from.now.view geometry.now refusal) }
 {
+    // Each object has its body on the disk, and each copy is sound. (These lines are there for the
+    // proof.)
     from.know_copies();
     let _paired = from.body_count();
     let carousel = from.carousel();

@@ -166,8 +166,8 @@ fn print<W: Write>(writer: &mut W, text: &[u8]) -> Result<(), Refusal>
     }
 }
 
-/// Plays a turn, and counts its packets and their bytes, and those of its directory. The refusals are `DeviceFault` if a body
-/// can't be read, and `BadNumber` for more packets than are counted.
+/// Plays a turn, and counts its packets and their bytes, and those of its directory. The refusals
+/// are `DeviceFault` if a body can't be read, and `BadNumber` for more packets than are counted.
 fn count_turn<D: Disk>(server: &mut Server<D>) -> Result<TurnSize, Refusal>
     requires { IsFalse server.old.view.halted }
     ensures only_reads { OnlyReads (D.state server.old.disk) (D.state server.new.disk) }
