@@ -11,3 +11,7 @@ pub use Rattle.mot_carousel.proofs.Places.{LocatedWhere, located_where, nowhere-
 pub use Rattle.mot_carousel.proofs.Places.{position-place_where}
 -- lists of numbers that are equal
 pub use Rattle.mot_carousel.proofs.Beside.{head, tail, same_step}
+-- the least gap is one, none fits before it, and no bytes lie at 0
+pub use Rattle.mot_carousel.proofs.Gaps.{least_gap_is_least, no_bytes}
+-- extents in another order leave the same places and gaps free
+pub use Rattle.mot_carousel.proofs.Reordered.{free-reordered, least_gap-reordered}

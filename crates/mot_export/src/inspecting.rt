@@ -20,7 +20,7 @@ ghost use Rattle.mot_export.specs.Inspecting.{sizes_text, turn_lengths_text, tur
 ghost use Rattle.mot_export.specs.Inspecting.{waits_text};
 ghost use Rattle.mot_export.specs.Inner.Inspected.{HasInspected, IsCountingFault};
 ghost use Rattle.mot_export.specs.Inner.Inspected.{IsInspectingFault, IsTurnSize};
-ghost use Rattle.mot_repository.specs.Gap.{IsLongestGap};
+ghost use Rattle.mot_carousel.specs.Gap.{IsLongestGap};
 ghost use Rattle.mot_repository.specs.Repository.{HasStanding};
 ghost use Rattle.mot_playout.specs.Attempts.{fault_of};
 ghost use Rattle.mot_playout.specs.Server.{place_in};

@@ -21,7 +21,7 @@ use Rattle.mot_objects.specs.Content.{ContentNumbers}
 use Rattle.mot_numbers.specs.declared.refusal.Refusal.TheVariants.{BadName, NameTaken, NoRoom}
 use Rattle.mot_numbers.specs.declared.refusal.Refusal.TheVariants.{TooManyObjects}
 use Rattle.mot_journal.specs.Journal.{standing_from}
-use Rattle.mot_repository.specs.Gap.{first_free, is_free, least_gap}
+use Rattle.mot_carousel.specs.Gap.{first_free, is_free, least_gap}
 use Rattle.mot_repository.specs.Outcome.{after_command, extents_after, has_long_name, or_no_room}
 use Rattle.mot_repository.specs.Outcome.{start_of}
 use Rattle.mot_repository.proofs.Laws.{IsAccepted, accepted_of, accepted_parts}

@@ -11,7 +11,7 @@ use Rattle.std.specs.Prelude.{◌&&◌, ◌||◌, bytes_eq, nat_le, if◌then◌
 use Rattle.std.specs.Prelude.{remove}
 use Rattle.std.specs.Prelude.{slice_set}
 use Rattle.mot_objects.specs.Carousel.{Object, has_name, objects_with, objects_without}
-use Rattle.mot_repository.specs.Gap.{first_free, is_beside, is_free, least_gap}
+use Rattle.mot_carousel.specs.Gap.{first_free, is_beside, is_free, least_gap}
 
 -- ---- no gap
 

@@ -67,7 +67,7 @@ impl<D: Disk> Server<D> {
     ghost use Rattle.mot_repository.specs.Answers.{IsAnswered, IsMigrationRefusal};
     ghost use Rattle.mot_journal.specs.Slot.{slot_count};
     ghost use Rattle.mot_repository.specs.Cost.{calls_of_command};
-    ghost use Rattle.mot_repository.specs.Gap.{IsLongestGap};
+    ghost use Rattle.mot_carousel.specs.Gap.{IsLongestGap};
     ghost use Rattle.mot_repository.specs.Opening.{IsOpened, IsOpeningRefusal};
     ghost use Rattle.mot_playout.specs.Inner.Plays.{PlaysCarousel};
     ghost use Rattle.mot_playout.specs.Playing.{HasPlayed, HasPlayedTurn, bytes_of_packets};

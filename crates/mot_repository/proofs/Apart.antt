@@ -14,7 +14,7 @@ use Rattle.mot_journal.specs.Catalogue.{are_all_apart, is_consistent, catalogue_
 use Rattle.mot_numbers.specs.Reading.{◌>>=◌}
 use Rattle.mot_objects.specs.declared.object.Object.{Object}
 use Rattle.mot_objects.specs.Ids.{contains, is_distinct}
-use Rattle.mot_repository.specs.Gap.{is_free, is_beside}
+use Rattle.mot_carousel.specs.Gap.{is_free, is_beside}
 use Rattle.mot_repository.specs.Inner.Extents.{objects_in}
 use Rattle.mot_repository.specs.Inner.Fold.{HaveLengths, are_extents_apart, are_consistent}
 use Rattle.mot_repository.specs.Inner.Fold.{if_consistent, if_done}

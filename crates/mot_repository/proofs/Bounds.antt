@@ -14,7 +14,7 @@ use Rattle.mot_objects.specs.declared.object.Object.{Object}
 use Rattle.mot_objects.specs.Ids.{is_distinct}
 use Rattle.mot_objects.specs.Stands.{index_of}
 use Rattle.mot_repository.specs.declared.opening.bounds.Bounds.{Bounds}
-use Rattle.mot_repository.specs.Gap.{is_free, is_beside}
+use Rattle.mot_carousel.specs.Gap.{is_free, is_beside}
 use Rattle.mot_repository.specs.Inner.Bounds.{AreEndsWithin, AreIdsWithin, AreNamesFlagged}
 use Rattle.mot_repository.specs.Inner.Bounds.{AreWithin, IsFlagged, is_flagged}
 use Rattle.mot_repository.specs.Inner.Fold.{are_extents_apart}

@@ -1,39 +1,17 @@
--- Extents in another order: they leave the same places free, and one that goes or comes.
+-- Extents in another order: one that goes or comes, and where the bytes of a command go.
 use Rattle.std.proofs.Common.{◌≡◌, ℕ, ◌+◌, ◌<◌, Bool, true, false, cond, List, [], ◌∷◌}
 use Rattle.std.proofs.Common.{Option, Some, None, ◌++◌, length, get_or, set, refl, sym, ◌∙◌, ap, arith}
-use Rattle.std.specs.Prelude.{sum_by, count_by, nat_eq, position, remove, ◌&&◌}
+use Rattle.std.specs.Prelude.{sum_by, count_by, position, remove}
 use Rattle.std.specs.List.{position_from}
 use Rattle.std.proofs.lemmas.Bool.Decides.{nat_tests}
 use Rattle.std.proofs.lemmas.Iterator.Adapters.{position_from-zero}
 use Rattle.std.proofs.lemmas.List.Sums.{sum_by-cons, sum_by-remove, sum_by-set, sum_by_push}
 use Rattle.std.proofs.lemmas.List.Quantifiers.{position-Some}
-use Rattle.mot_repository.specs.Inner.Extents.{AreReordered}
-use Rattle.mot_repository.specs.Gap.{is_beside, is_free}
+use Rattle.mot_carousel.specs.Gap.{AreReordered}
+use Rattle.mot_carousel.proofs.Laws.{least_gap-reordered}
+use Rattle.mot_objects.specs.declared.command.Command.{Command}
+use Rattle.mot_repository.specs.Outcome.{body_of, start_of}
 use Rattle.mot_repository.specs.Inner.Placing.{is_extent}
-
--- 1 for an extent that is met, and 0 for another
-abbrev met : ℕ → ℕ → ℕ × ℕ → ℕ
-met n start e = cond (is_beside start n e) 0 1
-
-met-cases : (b rest : Bool) (sum : ℕ) → rest ≡ nat_eq sum 0
-    → (b && rest) ≡ nat_eq (cond b 0 1 + sum) 0
-met-cases true rest sum e = grind (arith, nat_tests)
-met-cases false rest sum e = grind (arith, nat_tests)
-
--- a place is free if it meets none
-free-sum : (xs : List (ℕ × ℕ)) (n start : ℕ)
-    → is_free xs n start ≡ nat_eq (sum_by (met n start) xs) 0
-free-sum [] n start = refl
-free-sum (e ∷ xs) n start =
-    met-cases (is_beside start n e) (is_free xs n start) (sum_by (met n start) xs)
-    (free-sum xs n start)
-    ∙ ap (λ s. nat_eq s 0) (sym (sum_by-cons (met n start) e xs))
-
--- in another order they leave the same places free
-pub free-reordered : (xs ys : List (ℕ × ℕ)) (n start : ℕ) → AreReordered xs ys
-    → is_free ys n start ≡ is_free xs n start
-free-reordered xs ys n start same =
-    free-sum ys n start ∙ ap (λ s. nat_eq s 0) (same (met n start)) ∙ sym (free-sum xs n start)
 
 same-extent : (g e : ℕ × ℕ) → is_extent g e ≡ true → e ≡ g
 same-extent g e is =
@@ -112,3 +90,9 @@ exchanged xs ys zs us i g e same lt here less more = λ f.
     let one = ap f here in
     let changed = sum_by-set f xs i e g lt in
     omega (arith, before, after, as_it_was, one, changed)
+
+-- where the bytes of a command go, the order of the extents does not matter
+pub start-reordered : (xs ys : List (ℕ × ℕ)) (size : ℕ) (command : Command) → AreReordered xs ys
+    → start_of xs size command ≡ start_of ys size command
+start-reordered xs ys size command same =
+    sym (least_gap-reordered xs ys (length (body_of command)) size same)

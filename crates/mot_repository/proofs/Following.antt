@@ -26,7 +26,7 @@ use Rattle.mot_objects.specs.Carousel.{used_ids, free_object_id, IsSound}
 use Rattle.mot_objects.specs.Ids.{contains, is_distinct}
 use Rattle.mot_objects.specs.Stands.{object_of}
 use Rattle.mot_objects.proofs.Laws as sound
-use Rattle.mot_repository.specs.Gap.{is_beside}
+use Rattle.mot_carousel.specs.Gap.{is_beside}
 use Rattle.mot_repository.specs.Inner.Following.{extent_of, extents_with, extents_without}
 use Rattle.mot_repository.specs.Inner.Following.{placed_extents_after, object_named, set_action}
 use Rattle.mot_repository.specs.Inner.Following.{remove_action, record_of, IsPlaced}

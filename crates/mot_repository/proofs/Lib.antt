@@ -5,17 +5,14 @@ pub mod Bounds
 pub mod ByStart
 pub mod Committing
 pub mod Extents
-pub mod FirstFit
 mod CopyRows
 mod Copied
 mod FoldRows
 pub mod FoldSteps
 mod Folding
 mod Following
-pub mod Gaps
 pub mod Laws
 mod Layouts
-pub mod LongestGap
 pub mod ListFaults
 mod Listing
 mod Moved
@@ -32,4 +29,3 @@ mod Room
 mod Rows
 mod Rules
 pub mod Soundness
-pub mod Sweep

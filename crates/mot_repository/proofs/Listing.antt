@@ -13,7 +13,7 @@ use Rattle.mot_objects.specs.declared.object.Object.{Object}
 use Rattle.mot_objects.specs.Ids.{contains}
 use Rattle.mot_objects.specs.Stands.{index_of}
 use Rattle.mot_repository.specs.Inner.Extents.{objects_in, with_extent}
-use Rattle.mot_repository.specs.Gap.{is_free, is_beside}
+use Rattle.mot_carousel.specs.Gap.{is_free, is_beside}
 use Rattle.mot_repository.specs.Inner.Fold.{HaveLengths, are_extents_apart, objects_set}
 use Rattle.mot_carousel.proofs.Laws.{located_where, nowhere-cases, place_where}
 use Rattle.mot_carousel.proofs.Laws.{position-place_where, same_step, tail}

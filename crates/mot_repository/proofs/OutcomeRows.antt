@@ -9,7 +9,7 @@ use Rattle.mot_objects.specs.declared.command.Command.TheVariants.{Put, Replace,
 use Rattle.mot_objects.specs.Content.{ContentNumbers}
 use Rattle.mot_objects.specs.Carousel.{Object, Carousel, change}
 use Rattle.mot_objects.specs.Ids.{next_free_id}
-use Rattle.mot_repository.specs.Gap.{least_gap}
+use Rattle.mot_carousel.specs.Gap.{least_gap}
 use Rattle.mot_repository.specs.Outcome.{after_command}
 
 abbrev picture : ContentNumbers

@@ -29,8 +29,8 @@ use Rattle.mot_objects.specs.declared.command.Done.{Done}
 use Rattle.mot_objects.specs.Carousel.{change}
 use Rattle.mot_objects.specs.Carousel as whole
 use Rattle.mot_objects.specs.Stands.{object_of, objects_of, carousel_of, bodies_after, AreBodiesOf}
-use Rattle.mot_repository.specs.Gap.{is_beside, is_free, least_gap}
-use Rattle.mot_repository.specs.Inner.LeastGap.{IsLeastGap}
+use Rattle.mot_carousel.specs.Gap.{is_beside, is_free, least_gap}
+use Rattle.mot_carousel.specs.Gap.{IsLeastGap}
 use Rattle.mot_repository.specs.Records.{records_of_catalogue}
 use Rattle.mot_repository.specs.Inner.Following.{IsPlaced, object_named, set_action, remove_action}
 use Rattle.mot_repository.specs.Inner.Following.{action_of, record_of, placed_extents_after}
@@ -44,7 +44,7 @@ use Rattle.mot_repository.specs.Inner.Prepared.{kept_remove, kept_action, kept_r
 use Rattle.mot_repository.specs.Repository.{RepositoryView, Agrees, HasStanding, IsOf, Holds}
 use Rattle.mot_repository.proofs.Extents.{placed-names}
 use Rattle.mot_repository.proofs.Following as following
-use Rattle.mot_repository.proofs.Gaps.{least_gap_is_least}
+use Rattle.mot_carousel.proofs.Laws.{least_gap_is_least}
 use Rattle.mot_repository.proofs.Outcomes.{accepted_of, same_extents, same_start}
 use Rattle.mot_repository.proofs.Reading.{by_recursion, geometry_is, records_read}
 use Rattle.mot_repository.proofs.Rewriting as rewriting

@@ -1,6 +1,6 @@
 -- Gaps, computed on worked rows.
 use Rattle.std.proofs.Common.{◌≡◌, [], ◌∷◌, Some, None, refl}
-use Rattle.mot_repository.specs.Gap.{least_gap}
+use Rattle.mot_carousel.specs.Gap.{least_gap}
 
 middle : least_gap ((100, 100) ∷ []) 100 300 ≡ Some 0
 unfolding least_gap

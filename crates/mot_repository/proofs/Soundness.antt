@@ -34,7 +34,7 @@ use Rattle.mot_objects.specs.Name.{IsName}
 use Rattle.mot_objects.specs.Stands.{object_of}
 use Rattle.mot_objects.specs.Mime.{is_mime}
 use Rattle.mot_objects.specs.Name.{is_name}
-use Rattle.mot_repository.specs.Gap.{is_beside}
+use Rattle.mot_carousel.specs.Gap.{is_beside}
 use Rattle.mot_repository.specs.Records.{records_of_objects, records_of_catalogue}
 use Rattle.mot_repository.specs.Inner.Following.{StandingsAreSound}
 use Rattle.mot_repository.specs.Inner.Whole.{placed_names, IsGood, IsSoundPlaced, IsWhole}

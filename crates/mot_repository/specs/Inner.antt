@@ -6,7 +6,6 @@ pub mod Fold
 pub mod Following
 pub mod InOrder
 pub mod Kept
-pub mod LeastGap
 pub mod Loaded
 pub mod Placing
 pub mod Planned

@@ -2,7 +2,6 @@ pub mod Answers
 pub mod Copy
 pub mod Cost
 pub mod Extents
-pub mod Gap
 pub mod Inner
 pub mod OnDisk
 pub mod Opening

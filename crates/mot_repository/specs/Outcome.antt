@@ -13,7 +13,7 @@ use Rattle.mot_objects.specs.declared.command.Command.{Command}
 use Rattle.mot_objects.specs.declared.command.Command.TheVariants.{Put, Replace, Withdraw, Period}
 use Rattle.mot_objects.specs.declared.command.Done.{Done}
 use Rattle.mot_objects.specs.Carousel.{Object, change}
-use Rattle.mot_repository.specs.Gap.{least_gap}
+use Rattle.mot_carousel.specs.Gap.{least_gap}
 
 -- the slots of the layout have no room for the name that the command speaks of
 abbrev pub has_long_name : Layout → Command → Bool

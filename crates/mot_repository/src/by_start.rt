@@ -2,7 +2,8 @@
 //! this order but speed.
 ghost use Rattle.std.specs.Prelude.{◌≡◌, ◌+◌, ◌<◌, ℕ, true, ◌&&◌, length, nat_eq, position, sum_by};
 ghost use Rattle.std.specs.Prelude.{count_by, IfOk, IfSome};
-ghost use Rattle.mot_repository.specs.Inner.Extents.{AreReordered, names_kept};
+ghost use Rattle.mot_carousel.specs.Gap.{AreReordered};
+ghost use Rattle.mot_repository.specs.Inner.Extents.{names_kept};
 ghost use Rattle.mot_repository.specs.Inner.Placing.{is_extent, place_in};
 ghost use Rattle.mot_repository.specs.Outcome.{extents_after};
 

@@ -3,14 +3,13 @@
 
 mod by_start;
 mod commit;
-mod gap;
 mod inventory;
 mod opening;
 mod prepared;
 mod records;
 mod repository;
 
-pub use gap::{first_fit, longest_gap};
+pub use mot_carousel::{first_fit, longest_gap};
 pub use mot_journal::format;
 pub use opening::Refused;
 pub use prepared::Prepared;

@@ -3,11 +3,11 @@ ghost use Rattle.std.specs.Prelude.{◌≡◌, ◌<◌, ◌≤◌, ◌+◌, ◌�
 ghost use Rattle.std.specs.Prelude.{slice_range, Ok, OnOk, OnErr, IfOk, IfErr, IsTrue, IsFalse};
 
 use crate::commit::commit_change;
-use crate::gap::longest_gap;
 use crate::inventory::Inventory;
 use crate::prepared::{Prepared, prepare_change};
 use crate::records::records_of;
 use disk_model::Disk;
+use mot_carousel::longest_gap;
 use mot_journal::{Geometry, Journal, Layout, area_start};
 use mot_numbers::Refusal;
 use mot_objects::{Carousel, Command, Done};
@@ -65,7 +65,7 @@ impl<D: Disk> Repository<D> {
     ghost use Rattle.mot_repository.specs.Copy.{CopiesAreSound};
     ghost use Rattle.mot_repository.specs.Cost.{calls_of_command};
     ghost use Rattle.mot_repository.specs.Extents.{ArePaired};
-    ghost use Rattle.mot_repository.specs.Gap.{IsLongestGap};
+    ghost use Rattle.mot_carousel.specs.Gap.{IsLongestGap};
     ghost use Rattle.mot_repository.specs.Inner.InOrder.{IsInOrder};
     ghost use Rattle.mot_repository.specs.OnDisk.{OnDisk, extent_at, body_on, IsCheckRefusal};
     ghost use Rattle.mot_repository.specs.Outcome.{after_command, has_long_name};

@@ -2,7 +2,7 @@
 use Rattle.std.specs.Prelude.{◌≡◌, ◌-◌, List, sum_by, ℕ}
 use Rattle.mot_events.specs.declared.status.Figures.{Figures}
 use Rattle.mot_objects.specs.declared.object.Object.{Object}
-use Rattle.mot_repository.specs.Gap.{IsLongestGap}
+use Rattle.mot_carousel.specs.Gap.{IsLongestGap}
 use Rattle.mot_repository.specs.Repository.{RepositoryView}
 use Rattle.mot_status.specs.declared.figures.TheConstants.{VERSION}
 use Rattle.mot_export.specs.declared.turn.TurnSize.{TurnSize}

@@ -9,7 +9,7 @@ use Rattle.mot_numbers.specs.declared.refusal.Refusal.TheVariants.{BadNumber, De
 use Rattle.mot_numbers.specs.declared.refusal.Refusal.TheVariants.{OutOfMemory, WriteFault}
 use Rattle.mot_player.specs.Place.{Place, directory_packets}
 use Rattle.mot_export.specs.Inspecting.{bytes_of_all, inspection_text, rates_of}
-use Rattle.mot_repository.specs.Gap.{IsLongestGap}
+use Rattle.mot_carousel.specs.Gap.{IsLongestGap}
 use Rattle.mot_playout.specs.Playing.{HasPlayedTurn}
 
 -- a turn from this place on has so many packets and bytes, and its directory so many packets

@@ -1,5 +1,5 @@
--- What is kept in memory, as the catalogue that records make, and its extents in another order.
-use Rattle.std.specs.Prelude.{◌≡◌, ℕ, List, map, sum_by, [], ◌∷◌}
+-- What is kept in memory, as the catalogue that records make.
+use Rattle.std.specs.Prelude.{ℕ, List, map, sum_by, [], ◌∷◌}
 use Rattle.mot_journal.specs.Catalogue.{Placed, Catalogue}
 use Rattle.mot_objects.specs.declared.carousel.Carousel.{Carousel}
 use Rattle.mot_objects.specs.declared.object.Object.{Object}
@@ -41,10 +41,6 @@ catalogue_in view = catalogue_with view.carousel view.extents
 -- the names of the objects that are kept
 abbrev pub names_kept : Carousel → List (List ℕ)
 names_kept carousel = map (λ (o : Object). o.name) carousel.objects.items
-
--- the same extents in some order: whatever numbers they have, these add up to the same
-abbrev pub AreReordered : List (ℕ × ℕ) → List (ℕ × ℕ) → Type 0
-AreReordered xs ys = (f : ℕ × ℕ → ℕ) → sum_by f ys ≡ sum_by f xs
 
 -- how many bytes the bodies of these objects have
 abbrev pub bytes_of_bodies : List Object → ℕ

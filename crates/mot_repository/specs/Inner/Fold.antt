@@ -11,7 +11,7 @@ use Rattle.mot_numbers.specs.declared.refusal.Refusal.{Refusal}
 use Rattle.mot_numbers.specs.declared.refusal.Refusal.TheVariants.{OutOfMemory, Damaged}
 use Rattle.mot_objects.specs.Ids.{is_distinct}
 use Rattle.mot_objects.specs.declared.object.Object.{Object}
-use Rattle.mot_repository.specs.Gap.{is_free}
+use Rattle.mot_carousel.specs.Gap.{is_free}
 
 -- there is an extent for each of these objects, of the length that it gives
 abbrev pub HaveLengths : List Object → List (ℕ × ℕ) → Type 0

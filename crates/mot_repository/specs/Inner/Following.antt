@@ -14,7 +14,7 @@ use Rattle.mot_objects.specs.declared.command.Command.{Command}
 use Rattle.mot_objects.specs.declared.command.Command.TheVariants.{Put, Replace, Withdraw, Period}
 use Rattle.mot_objects.specs.declared.command.Done.{Done}
 use Rattle.mot_objects.specs.Carousel.{Object, Carousel, change, has_name, IsSound}
-use Rattle.mot_repository.specs.Gap.{is_free}
+use Rattle.mot_carousel.specs.Gap.{is_free}
 use Rattle.mot_repository.specs.Records.{records_of_catalogue}
 
 abbrev pub extent_of : Placed → ℕ × ℕ

@@ -25,8 +25,8 @@ ghost use Rattle.mot_repository.specs.declared.opening.bounds.Bounds.{Bounds};
 
 use super::bounds::Bounds;
 use crate::by_start::sorted_by_start;
-use crate::gap::is_clear;
 use crate::inventory::Inventory;
+use mot_carousel::is_clear;
 use mot_journal::{Action, Fault, ListFault, Reason, Record};
 use mot_numbers::{Geometry, TransportId};
 use mot_objects::{Carousel, Name, Object, Period};

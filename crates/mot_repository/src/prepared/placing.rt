@@ -4,8 +4,8 @@ ghost use Rattle.mot_repository.specs.Inner.Extents.{names_kept};
 ghost use Rattle.mot_repository.specs.Inner.Placing.{place_in};
 ghost use Rattle.mot_repository.specs.Outcome.{extents_after, start_of};
 
-use crate::gap::first_fit;
 use crate::inventory::Inventory;
+use mot_carousel::first_fit;
 use mot_objects::Command;
 use std::alloc::{AllocError, Global};
 

@@ -17,7 +17,7 @@ use Rattle.mot_export.specs.Inspecting.{inspection_text, rates_of, sizes_text, t
 use Rattle.mot_export.specs.Inspecting.{turn_text}
 use Rattle.mot_export.specs.Inspecting.{use_text, waits_text}
 use Rattle.mot_export.specs.Inner.Inspected.{HasInspected}
-use Rattle.mot_repository.specs.Gap.{IsLongestGap}
+use Rattle.mot_carousel.specs.Gap.{IsLongestGap}
 use Rattle.mot_repository.specs.Repository.{Agrees, HasStanding, RepositoryView}
 use Rattle.mot_playout.specs.Server.{place_in}
 use Rattle.mot_session.specs.Served.{WritesFront}

@@ -3,7 +3,8 @@ use Rattle.std.proofs.Common.{sym, ap, subst, ◌∙◌}
 use Rattle.std.specs.Option.{option_map_or}
 use Rattle.std.specs.Prelude.{bytes_eq, position, remove, sum_by, IfSome}
 use Rattle.mot_objects.specs.declared.object.Object.{Object}
-use Rattle.mot_repository.specs.Inner.Extents.{AreReordered, names_kept}
+use Rattle.mot_carousel.specs.Gap.{AreReordered}
+use Rattle.mot_repository.specs.Inner.Extents.{names_kept}
 use Rattle.mot_repository.specs.Inner.Placing.{place_in}
 use Rattle.mot_repository.proofs.ByStart.{come, gone, exchanged, counted-reordered}
 use Rattle.mot_repository.proofs.Extents.{place-names}

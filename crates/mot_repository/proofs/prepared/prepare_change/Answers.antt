@@ -4,7 +4,7 @@ use Rattle.mot_repository.specs.Answers.{IsRefusal}
 use Rattle.mot_repository.specs.Outcome.{has_long_name, start_of}
 use Rattle.mot_repository.specs.Inner.InOrder.{view_with}
 use Rattle.mot_repository.specs.Repository.{RepositoryView}
-use Rattle.mot_repository.proofs.FirstFit.{start-reordered}
+use Rattle.mot_repository.proofs.ByStart.{start-reordered}
 use Rattle.mot_repository.proofs.Planned.{name_refused, plan_refused, room_refused, IsWorkedOut}
 use Rattle.mot_repository.proofs.Planned.{prepared_is, kept_after}
 use Rattle.mot_repository.proofs.prepared.prepare_change.Goals as goal

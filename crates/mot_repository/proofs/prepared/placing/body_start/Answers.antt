@@ -1,5 +1,5 @@
 use Rattle.std.proofs.Common.{sym}
-use Rattle.mot_repository.proofs.Gaps.{no_bytes}
+use Rattle.mot_carousel.proofs.Laws.{no_bytes}
 use Rattle.mot_repository.proofs.prepared.placing.body_start.Goals as goal
 
 pub returns-in-Withdraw : goal.returns-in-Withdraw

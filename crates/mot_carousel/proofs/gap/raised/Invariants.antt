@@ -1,7 +1,7 @@
 use Rattle.std.proofs.Common.{◌≡◌, ◌+◌, ◌<◌, ◌≤◌, ◌^◌, ℕ, true, take}
-use Rattle.mot_repository.specs.Gap.{is_free}
-use Rattle.mot_repository.proofs.Sweep.{are_apart}
-use Rattle.mot_repository.proofs.gap.raised.Given as goal
+use Rattle.mot_carousel.specs.Gap.{is_free}
+use Rattle.mot_carousel.proofs.Sweep.{are_apart}
+use Rattle.mot_carousel.proofs.gap.raised.Given as goal
 
 -- each one so far ends before the start, or begins beyond; no free start lies below it
 abbrev pub invariant-loop-from : goal.invariant-loop-from

@@ -1,6 +1,6 @@
 use Rattle.std.proofs.Common.{◌≡◌, ◌+◌, ◌-◌, ◌<◌, ◌≤◌, ◌^◌, ℕ, true}
-use Rattle.mot_repository.specs.Gap.{is_free}
-use Rattle.mot_repository.proofs.gap.first_fit.Given as goal
+use Rattle.mot_carousel.specs.Gap.{is_free}
+use Rattle.mot_carousel.proofs.gap.first_fit.Given as goal
 
 -- no start before this one is free
 abbrev pub invariant-loop-start : goal.invariant-loop-start

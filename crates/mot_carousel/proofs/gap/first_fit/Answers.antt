@@ -1,6 +1,6 @@
 use Rattle.std.proofs.Common.{arith}
-use Rattle.mot_repository.proofs.FirstFit.{gap_found, no_gap}
-use Rattle.mot_repository.proofs.gap.first_fit.Goals as goal
+use Rattle.mot_carousel.proofs.FirstFit.{gap_found, no_gap}
+use Rattle.mot_carousel.proofs.gap.first_fit.Goals as goal
 
 pub returns : goal.returns
 returns c = no_gap c.args.extents.now c.args.len c.args.data_len c.loop-start.start (omega arith)

@@ -2,8 +2,8 @@ use Rattle.std.proofs.Common.{◌≡◌, ◌+◌, ℕ, true, inl, inr, get_or, r
 use Rattle.std.proofs.lemmas.Bool.{and_from, le-leb, or_left, or_right}
 use Rattle.std.proofs.lemmas.List.{take_all}
 use Rattle.std.proofs.lemmas.List.Folds.{list_all_more}
-use Rattle.mot_repository.specs.Gap.{is_beside, is_free}
-use Rattle.mot_repository.proofs.gap.is_clear.Goals as goal
+use Rattle.mot_carousel.specs.Gap.{is_beside, is_free}
+use Rattle.mot_carousel.proofs.gap.is_clear.Goals as goal
 
 pub offset_bounds-extents-from-index : goal.offset_bounds-extents-from-index
 offset_bounds-extents-from-index c = omega arith

@@ -1,6 +1,6 @@
 use Rattle.std.proofs.Common.{◌∙◌, sym, arith}
-use Rattle.mot_repository.proofs.LongestGap.{more_than_all, none_above, zero_bytes_fit}
-use Rattle.mot_repository.proofs.gap.longest_gap.Goals as goal
+use Rattle.mot_carousel.proofs.LongestGap.{more_than_all, none_above, zero_bytes_fit}
+use Rattle.mot_carousel.proofs.gap.longest_gap.Goals as goal
 
 pub loop-fits-init : goal.loop-fits-init
 loop-fits-init c = record {

@@ -1,11 +1,11 @@
 use Rattle.std.proofs.Common.{◌+◌, ℕ, List, sym, ap, ◌∙◌, arith, get_or, rules}
 use Rattle.std.proofs.lemmas.Bool.{le-leb, or_left, or_right}
 use Rattle.std.proofs.lemmas.List.{take_all}
-use Rattle.mot_repository.proofs.Sweep.{are_apart, apart-free, apart-next, met-next}
-use Rattle.mot_repository.proofs.gap.raised.Goals as goal
-use Rattle.mot_repository.proofs.gap.raised.Goals.{then-above-from}
-use Rattle.mot_repository.proofs.gap.raised.Goals.{else-above-from+then-end-above}
-use Rattle.mot_repository.proofs.gap.raised.Goals.{else-above-from+else-end-above}
+use Rattle.mot_carousel.proofs.Sweep.{are_apart, apart-free, apart-next, met-next}
+use Rattle.mot_carousel.proofs.gap.raised.Goals as goal
+use Rattle.mot_carousel.proofs.gap.raised.Goals.{then-above-from}
+use Rattle.mot_carousel.proofs.gap.raised.Goals.{else-above-from+then-end-above}
+use Rattle.mot_carousel.proofs.gap.raised.Goals.{else-above-from+else-end-above}
 
 pub returns-clause-free : goal.returns-clause-free
 returns-clause-free c = λ fits.

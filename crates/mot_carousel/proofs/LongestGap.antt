@@ -3,9 +3,9 @@ use Rattle.std.proofs.Common.{◌≡◌, ℕ, ◌+◌, ◌<◌, ◌≤◌, true,
 use Rattle.std.proofs.Common.{None, refl, subst, arith}
 use Rattle.std.specs.Prelude.{is_none}
 use Rattle.std.proofs.lemmas.Bool.Decides.{nat_tests}
-use Rattle.mot_repository.specs.Gap.{is_free, least_gap}
-use Rattle.mot_repository.specs.Inner.LeastGap.{IsLeastGap}
-use Rattle.mot_repository.proofs.Gaps.{least_gap_is_least}
+use Rattle.mot_carousel.specs.Gap.{is_free, least_gap}
+use Rattle.mot_carousel.specs.Gap.{IsLeastGap}
+use Rattle.mot_carousel.proofs.Gaps.{least_gap_is_least}
 
 fewer_free : (extents : List (ℕ × ℕ)) (n m start : ℕ) → n ≤ m → is_free extents m start ≡ true
     → is_free extents n start ≡ true

@@ -1,7 +1,7 @@
 use Rattle.std.proofs.Common.{◌≡◌, ◌+◌, ◌-◌, ◌<◌, ◌≤◌, ℕ, None, false}
 use Rattle.std.specs.Prelude.{is_none}
-use Rattle.mot_repository.specs.Gap.{least_gap}
-use Rattle.mot_repository.proofs.gap.longest_gap.Given as goal
+use Rattle.mot_carousel.specs.Gap.{least_gap}
+use Rattle.mot_carousel.proofs.gap.longest_gap.Given as goal
 
 -- the one has a gap, and the other and all above it have none
 abbrev pub invariant-loop-fits : goal.invariant-loop-fits

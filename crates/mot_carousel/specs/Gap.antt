@@ -1,6 +1,6 @@
 -- Where in the data area a new body goes (own rule).
-use Rattle.std.specs.Prelude.{◌≡◌, ℕ, zero, suc, ◌+◌, ◌-◌, ◌<◌, Bool, ◌||◌, nat_le, if◌then◌else◌}
-use Rattle.std.specs.Prelude.{List, Option, Some, None, is_none}
+use Rattle.std.specs.Prelude.{◌≡◌, ℕ, zero, suc, ◌+◌, ◌-◌, ◌<◌, ◌≤◌, Bool, ◌||◌, nat_le}
+use Rattle.std.specs.Prelude.{if◌then◌else◌, List, Option, Some, None, is_none, MatchOption, sum_by}
 use Rattle.std.specs.List.{list_all}
 
 -- n bytes from a start on meet no part of an extent
@@ -24,3 +24,14 @@ least_gap extents n size = if nat_le n size then first_free (size - n + 1) 0 ext
 pub record IsLongestGap (extents : List (ℕ × ℕ)) (size gap : ℕ) : Type 0 where
   pub fits : is_none (least_gap extents gap size) ≡ Bool.false
   pub longest : (n : ℕ) → gap < n → least_gap extents n size ≡ None
+
+-- the same said of an answer: what a search may be proved against
+abbrev pub IsLeastGap : List (ℕ × ℕ) → ℕ → ℕ → Option ℕ → Type 0
+IsLeastGap extents n size answer =
+    let fits : ℕ → Type 0 = λ start. (start + n ≤ size) × (is_free extents n start ≡ Bool.true) in
+    MatchOption answer ((start : ℕ) → fits start → ⊥)
+    (λ found. fits found × ((start : ℕ) → fits start → found ≤ start))
+
+-- the same extents in some order: whatever numbers they have, these add up to the same
+abbrev pub AreReordered : List (ℕ × ℕ) → List (ℕ × ℕ) → Type 0
+AreReordered xs ys = (f : ℕ × ℕ → ℕ) → sum_by f ys ≡ sum_by f xs

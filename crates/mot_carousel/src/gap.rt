@@ -1,6 +1,6 @@
 //! Where in the data area a new body goes.
 ghost use Rattle.std.specs.Prelude.{◌≡◌, ◌+◌, ◌<◌, ◌≤◌, ◌^◌, ℕ, true};
-ghost use Rattle.mot_repository.specs.Gap.{IsLongestGap, is_free, least_gap};
+ghost use Rattle.mot_carousel.specs.Gap.{IsLongestGap, is_free, least_gap};
 
 /// The least start in a data area of `data_len` bytes from which `len` bytes lie in the area and
 /// meet no extent (start, length); `None` if no gap holds them. The extents may stand in any order;
@@ -63,7 +63,7 @@ fn raised(extents: &[(u32, u32)], start: u64, len: u32) -> (u64, u64)
 }
 
 /// Whether `len` bytes from `start` on meet no extent.
-pub(crate) fn is_clear(extents: &[(u32, u32)], start: u64, len: u32) -> bool
+pub fn is_clear(extents: &[(u32, u32)], start: u64, len: u32) -> bool
     ensures { result ≡ is_free extents.now len start }
 {
     for (from, size) in extents {

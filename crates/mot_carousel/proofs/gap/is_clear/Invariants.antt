@@ -1,6 +1,6 @@
 use Rattle.std.proofs.Common.{◌≡◌, true, take}
-use Rattle.mot_repository.specs.Gap.{is_free}
-use Rattle.mot_repository.proofs.gap.is_clear.Given as goal
+use Rattle.mot_carousel.specs.Gap.{is_free}
+use Rattle.mot_carousel.proofs.gap.is_clear.Given as goal
 
 -- none so far is met
 abbrev pub invariant-loop-from : goal.invariant-loop-from

@@ -7,7 +7,7 @@ use Rattle.std.specs.Prelude.{◌||◌, nat_le}
 use Rattle.std.specs.List.{list_all}
 use Rattle.std.proofs.lemmas.Bool.Decides.{nat_tests}
 use Rattle.std.proofs.lemmas.List.Sums.{AllPass-from_list_all}
-use Rattle.mot_repository.specs.Gap.{is_beside, is_free}
+use Rattle.mot_carousel.specs.Gap.{is_beside, is_free}
 
 -- this one ends before the first, or begins at the second or after it
 abbrev pub is_apart : ℕ → ℕ → ℕ × ℕ → Bool
