@@ -5,7 +5,8 @@ use Rattle.std.specs.Prelude.{IsFalse, OnOk, IfErr, MatchResult}
 use Rattle.std.proofs.lemmas.Bool.Decides.{nat_tests}
 use Rattle.disk_model.proofs.Laws.{keeps_on}
 use Rattle.disk_model.specs.Disk.{State, IsHonestDisk, KeepsLength, OnlySyncs}
-use Rattle.mot_air.specs.Playing.{HasAired, Manner, Plays, Tale, look_of_feed, tale_of}
+use Rattle.mot_air.specs.Playing.{HasAired, Manner, Plays, Tale, look_of_feed, place_at_start}
+use Rattle.mot_air.specs.Playing.{tale_of}
 use Rattle.mot_air.specs.Commands.{PlaysInto}
 use Rattle.mot_air.proofs.Opened.{ends_off, opened_leaves}
 use Rattle.mot_endpoints.specs.declared.packets.Target.{Target}
@@ -21,13 +22,15 @@ use Rattle.mot_numbers.specs.declared.geometry.Geometry.{Geometry}
 use Rattle.mot_numbers.specs.declared.refusal.Refusal.{Refusal}
 use Rattle.mot_numbers.specs.Geometry.{is_valid}
 use Rattle.mot_objects.specs.Carousel.{IsSound}
+use Rattle.mot_objects.specs.Rules.{AllKeepRules}
 use Rattle.mot_objects.specs.declared.command.Command.{Command}
 use Rattle.mot_player.specs.Place.{Place}
 use Rattle.mot_player.specs.Turn.{turn_of_carousel}
 use Rattle.mot_export.proofs.Laws.{AllAre, all_hold, openable}
-use Rattle.mot_feed.proofs.Laws.{often-front, rules_behind, rules_of_turn, rules_of_window}
+use Rattle.mot_feed.proofs.Laws.{often-front, rules_behind, rules_front, rules_of_turn}
+use Rattle.mot_feed.proofs.Laws.{rules_of_window}
 use Rattle.mot_export.specs.Opening.{IsOpenable, first_place}
-use Rattle.mot_repository.proofs.Laws.{standings-are_sound}
+use Rattle.mot_repository.proofs.Laws.{rules_kept, standings-are_sound}
 use Rattle.mot_repository.specs.Opening.{IsOpened}
 use Rattle.mot_repository.specs.Repository.{Agrees, Holds}
 use Rattle.mot_playout.proofs.Laws.{valid_is}
@@ -87,6 +90,13 @@ module _ {D : Type 0} (state : D → State) (disk : D) (server new : ServerView 
       (standings-are_sound bytes s (first.images bytes first.bytes).are_bytes
       (all bytes first.bytes).stands).0
 
+  rules_first : (s : Standing) → (state new.disk).IsHonest → AllAre s (state disk)
+      → AllKeepRules s.carousel
+  rules_first s honest all =
+      let first = sound disk (opens.keeps.was_honest (keeps.was_honest honest)) in
+      let bytes = (state disk).bytes in
+      rules_kept bytes s (first.images bytes first.bytes).are_bytes (all bytes first.bytes).stands
+
   sizes : (s : Standing) → Agrees server.view s → IsValid s.geometry
   sizes s agrees = subst IsValid agrees.geometry (valid_is server.view.journal.geometry valid)
 
@@ -98,7 +108,7 @@ module _ {D : Type 0} (state : D → State) (disk : D) (server new : ServerView 
     has_played : (s : Standing) (stage : Stage) (events : List Event) (commands : List Command)
         (marks : List Bool) (packets : List (List ℕ)) → (state new.disk).IsHonest
         → AllAre s (state disk)
-        → (fed : HasFed (server_for how.directory server) new (state server.disk) (state new.disk) s
+        → (fed : HasFed (server_for how.directory how.early server) new (state server.disk) (state new.disk) s
         commands marks (fault_at stage) events)
         → AreOf events packets
         → AreTold tells (look_of_feed how) s.geometry.objects first s.carousel stage events commands
@@ -110,7 +120,7 @@ module _ {D : Type 0} (state : D → State) (disk : D) (server new : ServerView 
         let holds = holds_opened s honest all in
         let made : Standing = fed.leaves.last in
         let happened = subst (λ (p : Place). Happen s.geometry.objects s.geometry.segment
-        s.carousel (place_for how.directory p) events made.carousel (place_in new made))
+        s.carousel (place_for how.directory how.early p) events made.carousel (place_in new made))
         (at_start s holds.agrees) fed.happened in
         record {
           last = made;
@@ -130,7 +140,7 @@ module _ {D : Type 0} (state : D → State) (disk : D) (server new : ServerView 
           continuous = continuous s.geometry.objects s.geometry.segment s.carousel
               made.carousel s.geometry.address (packet_room s.geometry)
               (turn_of_carousel s.carousel s.geometry.segment)
-              (place_for how.directory (first_place s)).follows events (place_in new made) packets
+              (place_at_start how s).follows events (place_in new made) packets
               (room s holds.agrees) happened are;
           turns_read = λ before during others all_of c then place after of came goes is_one
               are_of.
@@ -138,18 +148,21 @@ module _ {D : Type 0} (state : D → State) (disk : D) (server new : ServerView 
               let limit = s.geometry.objects in
               let rules = rules_of_turn limit c during others is_one
               (rules_behind limit s.geometry.segment s.carousel c
-              (place_for how.directory (first_place s)) place before (during ++ others)
+              (place_at_start how s) place before (during ++ others)
               (subst (λ l. RulesAreKept limit s.carousel l) (sym all_of) fed.rules) came) in (
                 (λ begins. turns_read s.geometry.objects s.geometry.segment s.carousel c then
                     s.geometry.address (packet_room s.geometry)
-                    (place_for how.directory (first_place s)).follows before during place after of
+                    (place_at_start how s).follows before during place after of
                     is_valid.1 (is_valid.4, is_valid.5) (room s holds.agrees)
                     (sound_carousel s honest all) came begins rules goes is_one are_of),
                 (λ ended. changed_read s.geometry.objects s.geometry.segment s.carousel c then
                     s.geometry.address (packet_room s.geometry)
-                    (place_for how.directory (first_place s)).follows before during place after of
+                    (place_at_start how s).follows before during place after of
                     is_valid.1 (is_valid.4, is_valid.5) (room s holds.agrees)
-                    (sound_carousel s honest all) came ended rules goes is_one are_of),
+                    (sound_carousel s honest all) came ended (rules_first s honest all)
+                    (rules_front limit s.carousel before (during ++ others)
+                    (subst (λ l. RulesAreKept limit s.carousel l) (sym all_of) fed.rules))
+                    goes is_one are_of),
               );
           often = often;
           listens = λ before during others all_of c then place after of came goes quiet are_of some.
@@ -157,13 +170,13 @@ module _ {D : Type 0} (state : D → State) (disk : D) (server new : ServerView 
               let limit = s.geometry.objects in
               let rules = rules_of_window limit c during others of quiet are_of some
               (rules_behind limit s.geometry.segment s.carousel c
-              (place_for how.directory (first_place s)) place before (during ++ others)
+              (place_at_start how s) place before (during ++ others)
               (subst (λ l. RulesAreKept limit s.carousel l) (sym all_of) fed.rules) came) in
               listeners limit s.geometry.segment how.directory c place before during of (record {
                 first = s.carousel;
                 address = s.geometry.address;
                 room = packet_room s.geometry;
-                follows = (place_for how.directory (first_place s)).follows;
+                follows = (place_at_start how s).follows;
                 few = is_valid.1;
                 range = (is_valid.4, is_valid.5);
                 some = room s holds.agrees;
@@ -186,7 +199,7 @@ module _ {D : Type 0} (state : D → State) (disk : D) (server new : ServerView 
         → IfErr result (λ r. IsFeedFault server (state server.disk) (state new.disk) r)
         → ((s : Standing) → Holds server.view s (state server.disk) → (state new.disk).IsHonest
         → (feeds : Feeds tells (look_of_feed how) how.turns (fault_of result) first last
-        (server_for how.directory server) new (state server.disk) (state new.disk) s before after)
+        (server_for how.directory how.early server) new (state server.disk) (state new.disk) s before after)
         × (0 < how.directory → IsOften how.directory feeds.events))
         → Plays tale how (fault_of result) before after (state disk) (state new.disk)
     plays before after result stays why feeds = record {

@@ -7,7 +7,7 @@ use Rattle.clap.specs.Words.{Text}
 use Rattle.disk_model.specs.Disk.{State}
 use Rattle.disk_store.specs.Beginning.{SinceOpened}
 use Rattle.disk_store.specs.declared.file.start.Start.{Ghosts}
-use Rattle.mot_air.specs.Directory.{IsFrame, directory_of, look_of}
+use Rattle.mot_air.specs.Directory.{IsFrame, directory_of, early_of, look_of}
 use Rattle.mot_air.specs.Playing.{Manner, Plays, Tale, manner}
 use Rattle.mot_air.specs.Syncing.{Syncs}
 use Rattle.mot_air.specs.Telling.{tale_with, watch_in, watched}
@@ -36,7 +36,7 @@ use Rattle.mot_cli.specs.declared.playing.PlayTask.{PlayTask}
 -- turns is
 abbrev pub played_as : PlayTask → (frame : ℕ) → Manner
 played_as p frame = manner (directory_of p.turns p.directory frame) (look_of p.turns p.look frame)
-    (unwrap_or p.turns 18446744073709551615)
+    (early_of p.early) (unwrap_or p.turns 18446744073709551615)
 
 -- the folder that is asked for, by this table of suffixes
 abbrev pub watch_asked : List SuffixType → PlayTask → (frame : ℕ) → Option Watch

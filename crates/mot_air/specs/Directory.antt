@@ -35,3 +35,8 @@ abbrev pub look_of : (turns packets : Option ℕ) → (frame : ℕ) → ℕ
 look_of turns (Some packets) frame = packets
 look_of (Some turns) None frame = 0
 look_of None None frame = in_frames frame 100
+
+-- how many changed bodies that are not begun come before the turn goes on, at most
+abbrev pub early_of : Option ℕ → ℕ
+early_of None = 3
+early_of (Some bodies) = bodies

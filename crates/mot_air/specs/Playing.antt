@@ -1,12 +1,13 @@
 -- What playing a disk writes, and what it leaves of the disk.
 use Rattle.std.specs.Prelude.{◌≡◌, ℕ, ◌<◌, min, Bool, true, false, List, [], ◌++◌, length, Option}
+use Rattle.std.specs.Prelude.{is_some}
 use Rattle.std.specs.Option.{option_map_or}
 use Rattle.disk_model.specs.Disk.{State}
 use Rattle.mot_air.specs.Opening.{EndsBy, Leaves}
 use Rattle.mot_feed.specs.Feeding.{AreOf, AreTold, EndsFeed, Event, Happen, Stage}
 use Rattle.mot_feed.specs.Feeding.{commands_among, fault_at, is_between_turns}
 use Rattle.mot_feed.specs.Feeding.Stage.{Ready}
-use Rattle.mot_feed.specs.Listening.{IsHeard, IsHeardInTime, is_quiet}
+use Rattle.mot_feed.specs.Listening.{HearsFirstChanges, IsHeard, IsHeardInTime, is_quiet}
 use Rattle.mot_feed.specs.Often.{IsOften, look_in, place_for}
 use Rattle.mot_feed.specs.OnAir.{asks, begins_turn, is_turn}
 use Rattle.mot_journal.specs.Image.{Standing}
@@ -26,14 +27,21 @@ use Rattle.mot_update.specs.declared.moment.Moment.{Moment}
 
 -- How a disk is played: after how many packets the directory is sent again, where changes are
 -- followed, or 0 for at each turn's beginning alone, where a change begins the turn anew; after how
--- many packets of a turn a look comes, or 0 for only between turns; and how many turns.
+-- many packets of a turn a look comes, or 0 for only between turns; how many changed bodies that are
+-- not begun come early at most; and how many turns.
 pub record Manner : Type 0 where
   pub directory : ℕ
   pub look : ℕ
+  pub early : ℕ
   pub turns : ℕ
 
-abbrev pub manner : (directory look turns : ℕ) → Manner
-manner directory look turns = record { directory = directory; look = look; turns = turns }
+abbrev pub manner : (directory look early turns : ℕ) → Manner
+manner directory look early turns =
+    record { directory = directory; look = look; early = early; turns = turns }
+
+-- where a server that was opened of a disk that stood for s begins to be played so
+abbrev pub place_at_start : Manner → Standing → Place
+place_at_start how s = place_for how.directory how.early (first_place s)
 
 -- the looks of a feed that is so: one may come in front of each packet, or only between turns
 abbrev pub look_of_feed : Manner → ℕ
@@ -57,10 +65,10 @@ abbrev pub TurnReads : Standing → Manner → (before during : List Event) → 
 TurnReads s how before during =
     (c made : Carousel) (place new : Place) (packets : List (List ℕ))
     → Happen s.geometry.objects s.geometry.segment s.carousel
-    (place_for how.directory (first_place s)) before c place
+    (place_at_start how s) before c place
     → Happen s.geometry.objects s.geometry.segment c place during made new
     → is_turn during ≡ true → AreOf during packets
-    → (begins_turn (place_for how.directory (first_place s)).follows true true before ≡ true
+    → (begins_turn (is_some (place_at_start how s).follows) true true before ≡ true
     → ReadAsTurn (asks during) packets c s.geometry.segment)
     × (is_between_turns true before ≡ true → ReadsOnceAs packets c s.geometry.segment)
 
@@ -70,12 +78,14 @@ abbrev pub Listens : Standing → Manner → (before during : List Event) → Ty
 Listens s how before during =
     (c made : Carousel) (place new : Place) (packets : List (List ℕ))
     → Happen s.geometry.objects s.geometry.segment s.carousel
-    (place_for how.directory (first_place s)) before c place
+    (place_at_start how s) before c place
     → Happen s.geometry.objects s.geometry.segment c place during made new
     → is_quiet during ≡ true → AreOf during packets → 0 < length packets
     → IsHeard how.directory s.geometry.segment c place before during packets
     × (0 < how.directory
-    → IsHeardInTime how.directory s.geometry.segment c place before during packets)
+    → IsHeardInTime how.directory s.geometry.segment c place before during packets
+    × HearsFirstChanges s.geometry.objects s.geometry.segment s.carousel (place_at_start how s)
+    c place before packets)
 
 -- These happened on a server that was opened of a disk that stood for s: the commands, of which
 -- this is told, left this of the disk, and the packets are these, with their continuity indexes.
@@ -84,7 +94,7 @@ pub record HasAired (s : Standing) (tale : Tale) (how : Manner) (stage : Stage)
   pub last : Standing
   pub place : Place
   pub happened : Happen s.geometry.objects s.geometry.segment s.carousel
-      (place_for how.directory (first_place s)) events last.carousel place
+      (place_at_start how s) events last.carousel place
   pub commands : List Command
   pub marks : List Bool
   pub told : tale s.geometry.objects s.carousel stage events commands marks last.carousel

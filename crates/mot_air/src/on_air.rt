@@ -4,7 +4,7 @@ ghost use Rattle.std.specs.Prelude.{◌++◌, IfErr, IfOk, List, MatchResult, op
 ghost use Rattle.std.specs.Io.KnownBytes.{Keeps};
 ghost use Rattle.clap.specs.Words.{Text};
 ghost use Rattle.disk_store.specs.Beginning.{IsFirst};
-ghost use Rattle.mot_air.specs.Directory.{IsFrame, directory_of, look_of};
+ghost use Rattle.mot_air.specs.Directory.{IsFrame, directory_of, early_of, look_of};
 ghost use Rattle.mot_air.specs.Commands.{Concludes};
 ghost use Rattle.mot_air.specs.Inner.Unbegun.{IsUnbegun};
 ghost use Rattle.mot_air.specs.Playing.{Plays};
@@ -43,6 +43,10 @@ const DIRECTORY_PACKETS: u32 = 340;
 
 /// After how many packets of a turn the folder is looked at likewise. So many take 2.4 seconds.
 const LOOK_PACKETS: u32 = 100;
+
+/// How many changed bodies that are not begun come before the turn goes on, at most, if no number is
+/// given. Others come in their place in the turn.
+const EARLY_BODIES: u32 = 3;
 
 /// How a disk is played: what the words ask for, and what may change the carousel.
 #[derive(Drop)]
@@ -276,6 +280,7 @@ fn air_in_frames<D: Disk, F: Shelf + Drop, Y: System + Drop, O: Outlet, L: Write
     } = airing;
     let directory = directory_of(task.turns, task.directory, frame);
     let look = look_of(task.turns, task.look, frame);
+    let early = early_of(task.early);
     let turns = turns_of(task.turns);
     let telling = Telling {
         disk: task.disk,
@@ -284,10 +289,10 @@ fn air_in_frames<D: Disk, F: Shelf + Drop, Y: System + Drop, O: Outlet, L: Write
     };
     match lines {
         Some(lines) => play_and_answer(
-            alloc, disk, outlet, folder, lines, telling, log, turns, directory, look,
+            alloc, disk, outlet, folder, lines, telling, log, turns, directory, look, early,
         ),
         None => play_disk(
-            alloc, disk, outlet, folder, telling, log, turns, directory, look,
+            alloc, disk, outlet, folder, telling, log, turns, directory, look, early,
         ),
     }
 }
@@ -388,6 +393,17 @@ fn directory_of(turns: Option<u32>, directory: Option<u32>, frame: u32) -> u32
         (Some(packets), _) => packets,
         (None, Some(_)) => 0,
         (None, None) => frame.saturating_mul(DIRECTORY_PACKETS),
+    }
+}
+
+/// How many changed bodies that are not begun come before the turn goes on, at most: 3, if no number
+/// is given.
+fn early_of(early: Option<u32>) -> u32
+    ensures { result ≡ early_of early }
+{
+    match early {
+        Some(bodies) => bodies,
+        None => EARLY_BODIES,
     }
 }
 

@@ -133,8 +133,9 @@ impl<D: Disk, L: Write + Drop> Aired<D, L> {
 
 /// Opens the disk and plays it into the outlet, so many turns, with looks at the folder if there is
 /// one. The directory is sent again after so many packets, as `feed_every` does, and after so many of
-/// a turn a look comes; with 0 it comes between turns alone. The lines of the looks, of the start and of the end are written to the log,
-/// and the status to its file.
+/// a turn a look comes; with 0 it comes between turns alone. At most `early` changed bodies come before
+/// the turn goes on. The lines of the looks, of the start and of the end are written to the log, and
+/// the status to its file.
 pub fn play_disk<S: Shelf + Drop, F: System + Drop, D: Disk, O: Outlet, L: Write + Drop>(
     alloc: Global,
     disk: D,
@@ -145,8 +146,9 @@ pub fn play_disk<S: Shelf + Drop, F: System + Drop, D: Disk, O: Outlet, L: Write
     turns: u64,
     directory: u32,
     look: u32,
+    early: u32,
 ) -> Aired<D, L>
-    ensures { let how = manner directory look turns in
+    ensures { let how = manner directory look early turns in
         let same = ⟦<LookEvent as PartialEq>⟧.eq in
         (last : TellerView) × Plays (tale_told same
         (watched folder.entry (λ followed. watch_in how (S.path followed.shelf)
@@ -160,14 +162,14 @@ pub fn play_disk<S: Shelf + Drop, F: System + Drop, D: Disk, O: Outlet, L: Write
         Some(followed) => {
             let update = looks_at(alloc, followed, directory, look);
             let (ended, looks, log) = play_telling(
-                alloc, disk, update, outlet, telling, log, turns, directory, look,
+                alloc, disk, update, outlet, telling, log, turns, directory, look, early,
             );
             Aired::looking(ended, log, looks, LineNotes::new())
         }
         None => {
             let update = NoUpdate;
             let (ended, _, log) = play_telling(
-                alloc, disk, update, outlet, telling, log, turns, directory, look,
+                alloc, disk, update, outlet, telling, log, turns, directory, look, early,
             );
             Aired::unwatched(ended, log, LineNotes::new())
         }
@@ -189,8 +191,9 @@ pub fn play_and_answer<S: Shelf + Drop, F: System + Drop, D: Disk, O: Outlet, L:
     turns: u64,
     directory: u32,
     look: u32,
+    early: u32,
 ) -> Aired<D, L>
-    ensures { let how = manner directory look turns in
+    ensures { let how = manner directory look early turns in
         let same = ⟦<LookEvent as PartialEq>⟧.eq in
         (last : TellerView) × Plays (tale_told same
         (watched folder.entry (λ followed. watch_in how (S.path followed.shelf)
@@ -205,14 +208,14 @@ pub fn play_and_answer<S: Shelf + Drop, F: System + Drop, D: Disk, O: Outlet, L:
         Some(followed) => {
             let update = looks_at(alloc, followed, directory, look);
             let (ended, looks, log, lines) = play_answering(
-                alloc, disk, update, outlet, lines, telling, log, turns, directory, look,
+                alloc, disk, update, outlet, lines, telling, log, turns, directory, look, early,
             );
             Aired::looking(ended, log, looks, lines)
         }
         None => {
             let update = NoUpdate;
             let (ended, _, log, lines) = play_answering(
-                alloc, disk, update, outlet, lines, telling, log, turns, directory, look,
+                alloc, disk, update, outlet, lines, telling, log, turns, directory, look, early,
             );
             Aired::unwatched(ended, log, lines)
         }
@@ -232,8 +235,9 @@ fn play_telling<D: Disk, U: Update + Facts + Drop, F: System + Drop, O: Outlet, 
     turns: u64,
     directory: u32,
     look: u32,
+    early: u32,
 ) -> (Ended<D, ()>, U, L)
-    ensures { let how = manner directory look turns in
+    ensures { let how = manner directory look early turns in
         let same = ⟦<LookEvent as PartialEq>⟧.eq in
         (last : TellerView) × Plays (tale_of (tells_alone_of same U.known U.tells) how
         (beside update [] (starts F.calls (L.contents log) telling.entry))
@@ -243,7 +247,16 @@ fn play_telling<D: Disk, U: Update + Facts + Drop, F: System + Drop, O: Outlet, 
 {
     let watch = Reporter::new(alloc, log, telling);
     let mut reported = Reported { update, watch };
-    let fed = feed_reported(alloc, disk, &mut reported, outlet, turns, directory, look);
+    let fed = feed_reported(
+        alloc,
+        disk,
+        &mut reported,
+        outlet,
+        turns,
+        directory,
+        look,
+        early,
+    );
     let ended = end_telling(alloc, fed, turns, &mut reported);
     let (update, watch) = reported.into_parts();
     (ended, update, watch.into_log())
@@ -258,13 +271,14 @@ fn feed_reported<D: Disk, U: Update + Facts + Drop, T: Watch + Drop, O: Outlet>(
     turns: u64,
     directory: u32,
     look: u32,
+    early: u32,
 ) -> Fed<D>
-    ensures { let how = manner directory look turns in
+    ensures { let how = manner directory look early turns in
         Plays (tale_of (tells_reported T.begins T.ends U.known U.tells) how
         reported.old reported.new) how (ending_of result)
         (O.writes outlet.old) (O.writes outlet.new) (D.state disk) (D.state (disk_of result)) }
 {
-    feed_disk(alloc, disk, reported, outlet, turns, directory, look)
+    feed_disk(alloc, disk, reported, outlet, turns, directory, look, early)
 }
 
 /// The same as `play_telling`, with answers to the lines of the files in a folder. What was read of
@@ -280,8 +294,9 @@ fn play_answering<D: Disk, U: Update + Facts + Drop, F: System + Drop, O: Outlet
     turns: u64,
     directory: u32,
     look: u32,
+    early: u32,
 ) -> (Ended<D, ()>, U, L, LineNotes)
-    ensures { let how = manner directory look turns in
+    ensures { let how = manner directory look early turns in
         let same = ⟦<LookEvent as PartialEq>⟧.eq in
         (last : Beside U) × (last.update ≡ result.1) × (last.lines ≡ result.3.notes.all)
         × Plays (tale_of (tells_lines_of same (lines.entry.every - 1) U.known U.tells) how
@@ -292,7 +307,9 @@ fn play_answering<D: Disk, U: Update + Facts + Drop, F: System + Drop, O: Outlet
 {
     let watch = Reporter::new(alloc, log, telling);
     let mut lines = lines_between(alloc, lines, Reported { update, watch });
-    let fed = feed_lines(alloc, disk, &mut lines, outlet, turns, directory, look);
+    let fed = feed_lines(
+        alloc, disk, &mut lines, outlet, turns, directory, look, early,
+    );
     let ended = end_lines(alloc, fed, turns, &mut lines);
     let (spool, update, watch) = lines.into_parts();
     (ended, update, watch.into_log(), spool.into_lines())
@@ -307,13 +324,14 @@ fn feed_lines<D: Disk, R: Inlet + Drop, U: Update + Facts + Drop, T: Watch + Dro
     turns: u64,
     directory: u32,
     look: u32,
+    early: u32,
 ) -> Fed<D>
-    ensures { let how = manner directory look turns in
+    ensures { let how = manner directory look early turns in
         Plays (tale_of (tells_answered (HearsAll T.hears T.misses) T.begins T.ends R.gave U.known
         U.tells) how lines.old lines.new) how (ending_of result)
         (O.writes outlet.old) (O.writes outlet.new) (D.state disk) (D.state (disk_of result)) }
 {
-    feed_disk(alloc, disk, lines, outlet, turns, directory, look)
+    feed_disk(alloc, disk, lines, outlet, turns, directory, look, early)
 }
 
 /// Looks at the folder while a disk is played so: after so many packets, if looks come within turns.
@@ -323,9 +341,9 @@ fn looks_at<'a, S: Shelf + Drop>(
     directory: u32,
     look: u32,
 ) -> Looks<'a, S>
-    ensures watch { (turns : ℕ) → watch (S.path result.folder.shelf) result.folder.types.now
+    ensures watch { (early turns : ℕ) → watch (S.path result.folder.shelf) result.folder.types.now
         result.folder.allows_empty result.every result.within
-        ≡ watch_in (manner directory look turns) (S.path followed.entry.shelf)
+        ≡ watch_in (manner directory look early turns) (S.path followed.entry.shelf)
         followed.entry.types.now followed.entry.allows_empty }
     ensures none { so_far result.left result.looks.all result.any_refused
         (looks_known result.count result.folder.report.events.items result.before.items)
@@ -477,8 +495,9 @@ pub fn play_with<D: Disk, U: Update, O: Outlet>(
     turns: u64,
     directory: u32,
     look: u32,
+    early: u32,
 ) -> Ended<D, ()>
-    ensures ended { let how = manner directory look turns in
+    ensures ended { let how = manner directory look early turns in
         Plays (tale_of U.tells how update.old update.new) how (fault_of result.result)
         (O.writes outlet.old) (O.writes outlet.new) (D.state disk) (D.state result.disk) }
 
@@ -487,11 +506,11 @@ pub fn play_with<D: Disk, U: Update, O: Outlet>(
         → KeepsDone g first done (D.state disk) → (D.state result.disk).IsHonest
         → IsSomeAnd (fault_of result.result)
         (λ r. IsUnopened r (D.state disk) (D.state result.disk))
-        ⊎ (let how = manner directory look turns in AirsOn g first done
+        ⊎ (let how = manner directory look early turns in AirsOn g first done
         (tale_of U.tells how update.old update.new) how (fault_of result.result)
         (O.writes outlet.old) (O.writes outlet.new) (D.state disk) (D.state result.disk)) }
 {
-    match feed_disk(alloc, disk, update, outlet, turns, directory, look) {
+    match feed_disk(alloc, disk, update, outlet, turns, directory, look, early) {
         Fed::Unopened(refused) => Ended::unopened(refused),
         Fed::Open(server, result) => Ended {
             disk: server.into_disk(),
@@ -510,15 +529,16 @@ fn feed_disk<D: Disk, U: Update, O: Outlet>(
     turns: u64,
     directory: u32,
     look: u32,
+    early: u32,
 ) -> Fed<D>
-    ensures ended { let how = manner directory look turns in
+    ensures ended { let how = manner directory look early turns in
         Plays (tale_of U.tells how update.old update.new) how (ending_of result)
         (O.writes outlet.old) (O.writes outlet.new) (D.state disk) (D.state (disk_of result)) }
     ensures lives { (g : Geometry) (first : ℕ) (done : List Command)
         → KeepsDone g first done (D.state disk) → (D.state (disk_of result)).IsHonest
         → IsSomeAnd (ending_of result)
         (λ r. IsUnopened r (D.state disk) (D.state (disk_of result)))
-        ⊎ (let how = manner directory look turns in AirsOn g first done
+        ⊎ (let how = manner directory look early turns in AirsOn g first done
         (tale_of U.tells how update.old update.new) how (ending_of result)
         (O.writes outlet.old) (O.writes outlet.new) (D.state disk) (D.state (disk_of result))) }
 {
@@ -536,6 +556,7 @@ fn feed_disk<D: Disk, U: Update, O: Outlet>(
         turns,
         directory,
         look.min(1),
+        early,
     );
     Fed::Open(server, result)
 }

@@ -31,12 +31,12 @@ with_looks a =
 
 abbrev pub play_app : App
 play_app =
-    with_rule (with_rule (with_rule (with_rule (with_rule (with_rule (with_rule (with_rule
+    with_rule (with_rule (with_rule (with_rule (with_rule (with_rule (with_rule (with_rule (with_rule
     (with_looks (with_rule (with_rule (disk_app (codes "play")) (word_rule (codes "PACKETS")))
     (path_rule (codes "folder")))) (path_rule (codes "lines")))
     (number_rule (codes "every"))) (number_rule (codes "turns"))) (number_rule (codes "directory")))
-    (number_rule (codes "look"))) (number_rule (codes "rate"))) (path_rule (codes "status")))
-    (flag_rule (codes "levels"))
+    (number_rule (codes "look"))) (number_rule (codes "rate"))) (number_rule (codes "early")))
+    (path_rule (codes "status"))) (flag_rule (codes "levels"))
 
 abbrev pub sync_app : App
 sync_app = with_rule (with_looks (with_rule (disk_app (codes "sync")) (word_rule (codes "DIR"))))

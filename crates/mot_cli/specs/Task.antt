@@ -61,7 +61,8 @@ IsTask name rows (Play p) =
     × IsGiven (first_of (codes "every") rows) p.every
     × IsGiven (first_of (codes "turns") rows) p.turns
     × IsGiven (first_of (codes "directory") rows) p.directory
-    × IsGiven (first_of (codes "look") rows) p.look × GiveRate rows p.rate
+    × IsGiven (first_of (codes "look") rows) p.look
+    × IsGiven (first_of (codes "early") rows) p.early × GiveRate rows p.rate
     × NameOption rows (codes "status") p.status × (p.levels ≡ is_set rows (codes "levels"))
     × (is_whole rows ≡ true)
 IsTask name rows (Sync disk folder types rules) =

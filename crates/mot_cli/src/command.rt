@@ -41,6 +41,7 @@ const VERBS: &[Verb] = &[
             DIRECTORY,
             LOOK,
             PLAY_RATE,
+            EARLY,
             STATUS,
             LEVELS,
         ],
@@ -265,6 +266,12 @@ const PLAY_RATE: Argument = Argument {
     kind: Kind::Number,
     help: "Multiply both defaults by the packets that a frame holds at N kbit/s, a multiple of 8 \
         up to 1824",
+};
+
+const EARLY: Argument = Argument {
+    name: "early",
+    kind: Kind::Number,
+    help: "Send so many changed objects at most before the rest of the turn goes on [default: 3]",
 };
 
 const STATUS: Argument = Argument {

@@ -44,6 +44,9 @@ pub struct PlayTask<'a> {
     /// After how many packets of a turn the folder is looked at; 0: between turns alone. If no
     /// number is given: without end 100 for each packet that a frame holds, and else 0.
     pub look: Option<u32>,
+    /// How many changed bodies at most come before the rest of the turn, of those that are not begun;
+    /// 3, if no number is given. They come so where the directory is sent again within a turn.
+    pub early: Option<u32>,
     /// The rate in kbit/s of the sub-channel that the packets are for, by which a frame holds one
     /// packet or several; if none is given, a frame is taken to hold one.
     pub rate: Option<u32>,
@@ -76,6 +79,7 @@ pub(crate) fn play_of<'m, 'a>(disk: &'a str, words: &'m ArgMatches<'a>) -> Optio
         turns: number_of(words, "turns")?,
         directory: number_of(words, "directory")?,
         look: number_of(words, "look")?,
+        early: number_of(words, "early")?,
         rate,
         status: option_of(words, "status"),
         levels: is_set(words, "levels"),

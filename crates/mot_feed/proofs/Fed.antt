@@ -5,7 +5,7 @@ use Rattle.std.proofs.Common.{sym, ap}
 use Rattle.std.proofs.Common.{◌∙◌, subst, arith, length-append, append-nil, inl, inr, take}
 use Rattle.std.proofs.lemmas.List.{map-append}
 use Rattle.std.proofs.lemmas.Option.{none-some}
-use Rattle.std.specs.Prelude.{◌⊎◌, ◌≢◌, if◌then◌else◌}
+use Rattle.std.specs.Prelude.{◌⊎◌, ◌≢◌, if◌then◌else◌, is_some}
 use Rattle.std.specs.Option.{option_map_or}
 use Rattle.disk_model.specs.Disk.{State, IsHonestDisk, IsUnchanged}
 use Rattle.mot_feed.specs.Feeding.{AreOf, AreTold, EndsFeed, Event, FedPacketsAreContinuous}
@@ -44,7 +44,7 @@ use Rattle.mot_player.specs.Turn.{Turn, turn_of_carousel}
 use Rattle.mot_objects.specs.Rules.{AllKeepRules}
 use Rattle.mot_repository.specs.Repository.{Holds, RepositoryView}
 use Rattle.mot_repository.proofs.Laws.{rules_kept}
-use Rattle.mot_playout.specs.RunEnds.{place_after}
+use Rattle.mot_playout.specs.RunEnds.{RulesAlong, place_after}
 use Rattle.mot_playout.specs.Runs.{accepted_commands}
 use Rattle.mot_playout.specs.Server.{ServerView, place_in}
 use Rattle.mot_playout.proofs.Laws.{accepted-join, reads_leave, runs_join}
@@ -199,12 +199,12 @@ are-more events commands packets are =
 
 -- ---- rules that are kept
 
--- commands send no packet
+-- of commands alone
 rules-commands : (limit : ℕ) (commands : List Command) (c : Carousel)
-    → RulesAreKept limit c (map Accepted commands)
-rules-commands limit [] c = tt
-rules-commands limit (command ∷ commands) c =
-    λ next made. rules-commands limit commands next
+    → RulesAlong limit c commands → RulesAreKept limit c (map Accepted commands)
+rules-commands limit [] c along = tt
+rules-commands limit (command ∷ commands) c along = λ next made.
+    let step = along next made in (step.0, rules-commands limit commands next step.1)
 
 -- without a command the same carousel stands
 rules-packets : (limit : ℕ) (events : List Event) (c : Carousel) → commands_among events ≡ []
@@ -231,8 +231,18 @@ rules-join limit size c mid place between (Accepted command ∷ events) others o
     let same : happen.0 ≡ next = same_some happen.0 next (sym happen.1 ∙ made) in
     let kept = rules-join limit size happen.0 mid
     (changed (turn_of_carousel happen.0 size) place) between events others
-    (one happen.0 happen.1) happen.2 two in
-    subst (λ d. RulesAreKept limit d (events ++ others)) same kept
+    (one happen.0 happen.1).1 happen.2 two in
+    ((one next made).0, subst (λ d. RulesAreKept limit d (events ++ others)) same kept)
+
+-- up to some of the events
+pub rules_front : (limit : ℕ) (c : Carousel) (events others : List Event)
+    → RulesAreKept limit c (events ++ others) → RulesAreKept limit c events
+rules_front limit c [] others rules = tt
+rules_front limit c (Played sent ∷ events) others rules =
+    (rules.0, rules_front limit c events others rules.1)
+rules_front limit c (Asked ∷ events) others rules = rules_front limit c events others rules
+rules_front limit c (Accepted command ∷ events) others rules = λ next made.
+    let step = rules next made in (step.0, rules_front limit next events others step.1)
 
 -- what comes behind events
 pub rules_behind : (limit size : ℕ) (c mid : Carousel) (place between : Place)
@@ -246,7 +256,7 @@ rules_behind limit size c mid place between (Asked ∷ events) others rules happ
     rules_behind limit size c mid (hear_directory place) between events others rules happen
 rules_behind limit size c mid place between (Accepted command ∷ events) others rules happen =
     rules_behind limit size happen.0 mid (changed (turn_of_carousel happen.0 size) place) between
-    events others (rules happen.0 happen.1) happen.2
+    events others (rules happen.0 happen.1).1 happen.2
 
 -- a whole turn is sent of a carousel that keeps the rules
 pub rules_of_turn : (limit : ℕ) (c : Carousel) (during others : List Event) → is_turn during ≡ true
@@ -416,7 +426,7 @@ module _ {D : Type 0} where
               s.carousel (place_in old s) (map Accepted done) last.carousel p) (sym run.place)
               (happen-commands s.geometry.objects s.geometry.segment done s.carousel
               last.carousel (place_in old s) run.leaves.after.carousel);
-          rules = rules-commands s.geometry.objects done s.carousel;
+          rules = rules-commands s.geometry.objects done s.carousel run.leaves.rules;
         },
         refl,
       )
@@ -977,7 +987,7 @@ module _ {D : Type 0} where
 
 -- a changed turn is a step
 abbrev change_step : Turn → Place → Step
-change_step turn place = if place.follows then Follow turn else NewTurn turn
+change_step turn place = if is_some place.follows then Follow turn else NewTurn turn
 
 change-cases : (turn : Turn) (place : Place) (steps : List Step) (b : Bool)
     → sent_by place ((if b then Follow turn else NewTurn turn) ∷ steps)
@@ -989,7 +999,7 @@ change-cases turn place steps false = refl
 change_sent : (turn : Turn) (place : Place) (steps : List Step)
     → sent_by place (change_step turn place ∷ steps) ≡ sent_by (changed turn place) steps
 unfolding changed
-change_sent turn place steps = change-cases turn place steps place.follows
+change_sent turn place steps = change-cases turn place steps (is_some place.follows)
 
 steps-of : (limit size : ℕ) (c last : Carousel) (place new : Place) (events : List Event)
     → Happen limit size c place events last new

@@ -1,7 +1,7 @@
 -- What holds of the definitions, for the crates above.
 
 -- at each packet the carousel keeps its rules, so of each whole turn
-pub use Rattle.mot_feed.proofs.Fed.{rules_behind, rules_of_turn}
+pub use Rattle.mot_feed.proofs.Fed.{rules_behind, rules_front, rules_of_turn}
 -- nothing was added
 pub use Rattle.mot_feed.proofs.Grown.{grows_nil}
 -- the directory is asked for often up to any of the events; and what is heard of a window keeps the

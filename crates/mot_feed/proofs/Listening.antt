@@ -7,28 +7,33 @@ use Rattle.std.proofs.lemmas.List.{length-map}
 use Rattle.std.proofs.lemmas.Bool.{cases_lt}
 use Rattle.std.proofs.lemmas.Grind.{div_ceil_times}
 use Rattle.std.specs.Int.{div_ceil}
-use Rattle.std.specs.Prelude.{if◌then◌else◌, min, nat_le, ◌||◌}
+use Rattle.std.specs.Prelude.{if◌then◌else◌, is_some, min, nat_le, ◌||◌}
 use Rattle.mot_feed.specs.Feeding.{AreOf, Event, Happen, RulesAreKept, sents_in, turns_in}
 use Rattle.mot_feed.specs.Feeding.Event.{Accepted, Asked, Played}
-use Rattle.mot_feed.specs.Listening.{IsHeardInTime, IsWindow, ListenersHear, asks_in, is_quiet}
+use Rattle.mot_feed.specs.Listening.{HearsFirstChanges, IsHeardInTime, IsWindow, ListenersHear}
+use Rattle.mot_feed.specs.Listening.{asks_in, is_quiet}
 use Rattle.mot_feed.specs.Listening.{is_settled, pauses_within}
 use Rattle.mot_feed.specs.Often.{IsOften, is_due, is_often, pause}
 use Rattle.mot_feed.specs.OnAir.{is_turn}
 use Rattle.mot_numbers.specs.Reading.{is_empty}
 use Rattle.mot_numbers.specs.declared.geometry.TheConstants.{MAX_OBJECTS}
-use Rattle.mot_objects.specs.Carousel.{Carousel, IsSound, change}
+use Rattle.mot_objects.specs.Carousel.{Carousel, IsSound, carousel_if_accepted, change}
 use Rattle.mot_objects.specs.Rules.{AllKeepRules}
 use Rattle.mot_objects.specs.declared.command.Command.{Command}
 use Rattle.mot_player.specs.Laws.{AreSent}
-use Rattle.mot_listening.specs.Listening.{HearsBodiesIn, HearsCarousel, HearsEntity, HearsOnly}
-use Rattle.mot_listening.specs.Waits.{early_packets, left_packets, longest_group, turn_packets}
-use Rattle.mot_listening.specs.Waits.{with_directories}
+use Rattle.mot_listening.specs.Listening.{HearsBodiesIn, HearsCarousel, HearsEntity}
+use Rattle.mot_listening.specs.Listening.{HearsOnly}
+use Rattle.mot_listening.specs.Waits.{early_packets, early_within, left_packets}
+use Rattle.mot_listening.specs.Waits.{longest_group, turn_packets, with_directories}
 use Rattle.mot_packets.specs.Written.{bytes_of_packet}
 use Rattle.mot_player.specs.Place.{Directory, Place, Request, Sent, Step, change_turn, changed}
-use Rattle.mot_player.specs.Place.{directory_packets, directory_segments, early_of, follow}
+use Rattle.mot_player.specs.Place.{directory_packets, directory_segments}
+use Rattle.mot_player.specs.Place.{early_of, follow}
 use Rattle.mot_player.specs.Place.{hear_directory, left_of, opened_place, packets_of_segments}
 use Rattle.mot_player.specs.Place.{sent_by, to_send}
 use Rattle.mot_player.specs.Turn.{Turn, segments_of_turn, turn_of_carousel}
+use Rattle.mot_listening.proofs.Laws.{IsEarlyOn, early-changed, early-heard}
+use Rattle.mot_listening.proofs.Laws.{early-opened, early-sent, early-short, hears-new}
 use Rattle.mot_listening.proofs.Laws.{IsOnAir, IsRest, asked_packets, asks_once, changed-comes}
 use Rattle.mot_listening.proofs.Laws.{changed-on, group-fewer, group_left, heard-on, hears-change}
 use Rattle.mot_listening.proofs.Laws.{hears-directory, hears-only, hears-settled, hears-two_ends}
@@ -122,6 +127,26 @@ on-behind limit size c last place new (Accepted command ∷ events) few some sou
 on-behind limit size c last place new (Asked ∷ events) few some sound on is =
     on-behind limit size c last (hear_directory place) new events few some sound
     (heard-on size (turn_of_carousel c size) place some (has-directory c size) on) is
+
+-- and few bodies come early
+early-behind : (limit size : ℕ) (c last : Carousel) (place new : Place) (events : List Event) →
+    limit ≤ MAX_OBJECTS → 0 < size → IsSound c → IsEarlyOn size (turn_of_carousel c size) place →
+    Happen limit size c place events last new → IsEarlyOn size (turn_of_carousel last size) new
+early-behind limit size c last place new [] few some sound early is =
+    subst (λ (k : Carousel). IsEarlyOn size (turn_of_carousel k size) new) is.0
+    (subst (IsEarlyOn size (turn_of_carousel c size)) is.1 early)
+early-behind limit size c last place new (Played sent ∷ events) few some sound early is =
+    early-behind limit size c last sent.place new events few some sound
+    (early-sent size (turn_of_carousel c size) place sent some early is.0) is.1
+early-behind limit size c last place new (Accepted command ∷ events) few some sound early is =
+    early-behind limit size is.0 last (changed (turn_of_carousel is.0 size) place) new events few
+    some (accepted-cases limit c is.0 command (change c limit command) refl few sound is.1)
+    (early-changed size (turn_of_carousel c size) (turn_of_carousel is.0 size) place some
+    (has-directory is.0 size)
+    (follow-cases limit size c is.0 command (change c limit command) refl sound is.1) early) is.2
+early-behind limit size c last place new (Asked ∷ events) few some sound early is =
+    early-behind limit size c last (hear_directory place) new events few some sound
+    (early-heard size (turn_of_carousel c size) place some (has-directory c size) early) is
 
 -- ---- a window
 
@@ -827,7 +852,7 @@ change-behind limit size c last place new (Asked ∷ events) command is =
 changed-size : (turn : Turn) (place : Place) →
     (changed turn place).segment_size ≡ place.segment_size
 unfolding changed follow change_turn
-changed-size turn place = size-cases place.follows
+changed-size turn place = size-cases (is_some place.follows)
   where
     size-cases : (b : Bool) →
         (if b then follow turn place else change_turn turn place).segment_size
@@ -932,6 +957,17 @@ module _ (limit size every : ℕ) (now : Carousel) (place : Place) (before durin
             few (with-few x (length packets) enough) (few-asked_here (omega (arith, one)))
       ]
 
+  short_here : early_packets place ≤ early_within place
+  short_here =
+      let early : IsEarlyOn size (turn_of_carousel now size) place =
+      early-behind limit size w.first now
+      (record (opened_place w.address w.room size (turn_of_carousel w.first size)) {
+        follows = w.follows;
+      }) place before w.few (wide limit size now place before during packets w).0 w.sound
+      (early-opened w.address w.room size (turn_of_carousel w.first size) w.follows w.some)
+      w.came in
+      early-short size (turn_of_carousel now size) place early.on early.few early.comes
+
   heard_in_time : IsHeardInTime every size now place before during packets
   heard_in_time = record {
     soon = λ most pauses enough.
@@ -955,6 +991,20 @@ module _ (limit size every : ℕ) (now : Carousel) (place : Place) (before durin
         (λ e f. tunes_in_within limit size now place before during packets w
         (all-enough (longest_group place) (left_packets place) (turn_packets place)
         (directory_packets place) (asks_in during) (length packets) e f));
+    bounded = λ earlier command is enough.
+        in-time (longest_group place + early_within place + 3 * directory_packets place)
+        (HearsEntity packets 6 now.directory (turn_of_carousel now size).directory
+        × HearsBodiesIn packets now size (early_of place)) enough
+        (λ more. let all = tunes_in limit size now place before during packets w more in
+        (all.1, all.2))
+        (λ e f. changes_are_heard limit size now place earlier during command packets
+        (subst (λ (b : List Event). IsWindow limit size now place b during packets) is w)
+        (omega (
+          arith,
+          change-enough (longest_group place) (early_within place) (directory_packets place)
+              (asks_in during) (length packets) e f,
+          short_here,
+        )));
     change = λ earlier command is enough.
         in-time (longest_group place + early_packets place + 3 * directory_packets place)
         (HearsEntity packets 6 now.directory (turn_of_carousel now size).directory
@@ -966,6 +1016,69 @@ module _ (limit size every : ℕ) (now : Carousel) (place : Place) (before durin
         (change-enough (longest_group place) (early_packets place) (directory_packets place)
         (asks_in during) (length packets) e f));
   }
+
+-- ---- the body of a command
+
+same-next : (next other : Carousel) (o : Option Carousel) → o ≡ Some next → o ≡ Some other →
+    other ≡ next
+same-next next other o e f = let both : Some other ≡ Some next = sym f ∙ e in cc
+
+-- a command behind others
+record IsBehind (limit size : ℕ) (old : Carousel) (was : Place) (command : Command)
+    (now : Carousel) (place : Place) : Type 0 where
+  accepted : carousel_if_accepted (change old limit command) ≡ Some now
+  place_is : place ≡ changed (turn_of_carousel now size) was
+
+command-behind : (limit size : ℕ) (c old now : Carousel) (place was new : Place)
+    (events : List Event) (command : Command) → Happen limit size c place events old was →
+    Happen limit size c place (events ++ Accepted command ∷ []) now new →
+    IsBehind limit size old was command now new
+command-behind limit size c old now place was new [] command earlier is =
+    subst (λ (p : Place). IsBehind limit size old p command now new) earlier.1
+    (subst (λ (k : Carousel). IsBehind limit size k place command now new) earlier.0
+    (subst (λ (k : Carousel). IsBehind limit size c place command k new) is.2.0
+    (record { accepted = is.1; place_is = sym is.2.1 })))
+command-behind limit size c old now place was new (Played sent ∷ events) command earlier is =
+    command-behind limit size c old now sent.place was new events command earlier.1 is.1
+command-behind limit size c old now place was new (Accepted other ∷ events) command earlier is =
+    command-behind limit size is.0 old now (changed (turn_of_carousel is.0 size) place) was new
+    events command
+    (subst (λ (k : Carousel). Happen limit size k (changed (turn_of_carousel k size) place) events
+    old was)
+    (same-next is.0 earlier.0 (carousel_if_accepted (change c limit other)) is.1 earlier.1)
+    earlier.2) is.2
+command-behind limit size c old now place was new (Asked ∷ events) command earlier is =
+    command-behind limit size c old now (hear_directory place) was new events command earlier is
+
+module _ (limit size every : ℕ) (now : Carousel) (place : Place) (before during : List Event)
+    (packets : List (List ℕ)) (w : IsWindow limit size now place before during packets)
+    (often : IsOften every (before ++ during)) where
+  abbrev begun : Place
+  begun = record (opened_place w.address w.room size (turn_of_carousel w.first size)) {
+    follows = w.follows;
+  }
+
+  hears_first_changes : HearsFirstChanges limit size w.first begun now place before packets
+  hears_first_changes earlier command old was is came few enough =
+      let some : 0 < size = (wide limit size now place before during packets w).0 in
+      let heard =
+      (heard_in_time limit size every now place before during packets w often).bounded earlier
+      command is enough in
+      let early : IsEarlyOn size (turn_of_carousel old size) was =
+      early-behind limit size w.first old begun was earlier w.few some w.sound
+      (early-opened w.address w.room size (turn_of_carousel w.first size) w.follows w.some) came in
+      let sound : IsSound old =
+      sound-behind limit size w.first old begun was earlier w.few w.sound came in
+      let behind : IsBehind limit size old was command now place =
+      command-behind limit size w.first old now begun was place earlier command came
+      (subst (λ (es : List Event). Happen limit size w.first begun es now place) is w.came) in
+      let can = follow-cases limit size old now command (change old limit command) refl sound
+      behind.accepted in (
+        heard.0,
+        hears-new size old now was packets some (has-directory now size) can early few
+            (subst (λ (p : Place). HearsBodiesIn packets now size (early_of p)) behind.place_is
+            heard.1),
+      )
 
 -- who listens has all of this
 pub listeners_hear : ListenersHear
@@ -982,5 +1095,8 @@ listeners_hear limit size every now place before during packets w often = (
         changes_are_heard limit size now place earlier during command packets
         (subst (λ (b : List Event). IsWindow limit size now place b during packets) is w) enough;
   },
-  λ asked. heard_in_time limit size every now place before during packets w (often asked),
+  λ asked. (
+    heard_in_time limit size every now place before during packets w (often asked),
+    hears_first_changes limit size every now place before during packets w (often asked),
+  ),
 )

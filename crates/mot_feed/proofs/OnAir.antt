@@ -1,17 +1,19 @@
 -- Each whole turn on air reads as its carousel.
 use Rattle.std.proofs.Common.{◌≡◌, ℕ, ◌≤◌, Bool, true, false, not, ◌||◌, List, [], ◌∷◌}
-use Rattle.std.proofs.Common.{Some, Result, Ok, Err, refl, sym, ap, subst, ◌<◌, arith}
+use Rattle.std.proofs.Common.{Some, Result, Ok, Err, refl, sym, ap, subst, ◌<◌, arith, length}
+use Rattle.std.specs.List.{AllByRecursion}
 use Rattle.std.proofs.lemmas.Bool.{and_parts}
 use Rattle.std.proofs.lemmas.Option.{none-some}
-use Rattle.std.specs.Prelude.{if◌then◌else◌}
-use Rattle.mot_feed.specs.Feeding.{Event, Happen, is_between_turns, sents_in}
+use Rattle.std.specs.Prelude.{if◌then◌else◌, is_some}
+use Rattle.mot_feed.specs.Feeding.{Event, Happen, RulesAreKept, is_between_turns, sents_in}
 use Rattle.mot_feed.specs.Feeding.Event.{Accepted, Asked, Played}
 use Rattle.mot_feed.specs.Listening.{is_quiet}
 use Rattle.mot_feed.specs.OnAir.{ChangedTurnsOnAirRead, TurnsOnAirRead, asks, begins_turn, is_turn}
 use Rattle.mot_numbers.specs.Reading.{is_empty}
 use Rattle.mot_numbers.specs.declared.geometry.TheConstants.{MAX_OBJECTS}
 use Rattle.mot_numbers.specs.declared.refusal.Refusal.{Refusal}
-use Rattle.mot_objects.specs.Carousel.{Carousel, IsSound, carousel_if_accepted, change}
+use Rattle.mot_objects.specs.Carousel.{Carousel, IsSound, Object, carousel_if_accepted, change}
+use Rattle.mot_objects.specs.Rules.{AllKeepRules, KeepsRules}
 use Rattle.mot_objects.specs.declared.command.Command.{Command}
 use Rattle.mot_objects.specs.declared.command.Done.{Done}
 use Rattle.mot_objects.proofs.Laws.{change-sound}
@@ -20,10 +22,10 @@ use Rattle.mot_player.specs.Laws.{IsPlace}
 use Rattle.mot_player.specs.Place.{Place, Step, Request, Directory, changed, hear_directory}
 use Rattle.mot_player.specs.Place.{opened_place, sent_by}
 use Rattle.mot_player.specs.Repeats.{ReadAsTurn, ReadsOnceAs, ends_at_last}
-use Rattle.mot_player.specs.Staying.{HasDirectory}
-use Rattle.mot_player.specs.Turn.{IsTurnOf, Turn, turn_of_carousel}
+use Rattle.mot_player.specs.Staying.{AreFewEarly, HasDirectory}
+use Rattle.mot_player.specs.Turn.{IsTurnOf, Turn, bodies_with_ids, turn_of_carousel}
 use Rattle.mot_player.proofs.Laws.{IsApartTurn, IsFresh, apart-carousel, ask_directory, keep_turn}
-use Rattle.mot_player.proofs.Laws.{fresh-changed}
+use Rattle.mot_player.proofs.Laws.{few-changed, few-heard, few-opened, few-sent, fresh-changed}
 use Rattle.mot_player.proofs.Laws.{fresh-heard, fresh-opened, fresh-place, fresh-reads}
 use Rattle.mot_player.proofs.Laws.{fresh-sent, has-directory}
 use Rattle.mot_player.proofs.Laws.{StandsAt, place-begins, plays-carousel, stands-changed}
@@ -158,13 +160,13 @@ turns_read limit size c now last address room follows before during place new pa
     let start : Place =
     record (opened_place address room size (turn_of_carousel c size)) { follows = follows } in
     let turn : Turn = turn_of_carousel now size in
-    let stands : StandsAt follows true true size turn place =
-    stands-behind limit size c now start place follows true true before
+    let stands : StandsAt (is_some follows) true true size turn place =
+    stands-behind limit size c now start place (is_some follows) true true before
     (stands-opened address room size (turn_of_carousel c size) follows some) earlier begins in
     let now_sound : IsSound now = sound-behind limit size c now start place before few sound earlier
     in
     let plays = plays-carousel now size now_sound rules range in
-    let here = place-begins follows size turn place stands
+    let here = place-begins (is_some follows) size turn place stands
     (let e : 0 < size = omega (arith, range.0) in e, range.1) plays.1 in
     let steps = steps_of limit size now last place new during (turn-quiet during is) later in
     let read = turns-read-with_directories place new now steps.steps (sents_in during) packets
@@ -185,35 +187,47 @@ follow-cases limit size c next command (Ok (k, done)) e sound is =
     (let same : k ≡ next = cc in same) (followable c k limit size size command done sound e)
 follow-cases limit size c next command (Err refusal) e sound is = absurd (none-some next is)
 
+-- each of its bodies has bytes
+some-bodies : (objects : List Object) → AllByRecursion KeepsRules objects →
+    AllByRecursion (λ (b : ℕ × List ℕ). 0 < length b.1) (bodies_with_ids objects)
+some-bodies [] rules = tt
+some-bodies (o ∷ objects) rules =
+    (omega (arith, rules.0.size.0), some-bodies objects rules.1)
+
 -- a place of the turn of a carousel, of which no packet was sent if the turn before has ended
 record StandsFresh (follows ended : Bool) (size : ℕ) (c : Carousel) (place : Place) : Type 0 where
   between : Bool
   whole : Bool
+  rules : AllKeepRules c
+  few : AreFewEarly place
   stands : StandsAt follows between whole size (turn_of_carousel c size) place
   fresh : ended ≡ true → IsFresh place
 
 fresh-behind : (limit size : ℕ) (c last : Carousel) (place new : Place) (follows ended : Bool)
     (events : List Event) → limit ≤ MAX_OBJECTS → 0 < size → IsSound c →
     StandsFresh follows ended size c place → Happen limit size c place events last new →
-    is_between_turns ended events ≡ true → StandsFresh follows true size last new
-fresh-behind limit size c last place new follows ended [] few some sound st is ends =
+    RulesAreKept limit c events → is_between_turns ended events ≡ true →
+    StandsFresh follows true size last new
+fresh-behind limit size c last place new follows ended [] few some sound st is kept ends =
     subst (λ (k : Carousel). StandsFresh follows true size k new) is.0
     (subst (StandsFresh follows true size c) is.1
     (subst (λ b. StandsFresh follows b size c place) ends st))
 fresh-behind limit size c last place new follows ended (Played sent ∷ events) few some sound st is
-    ends =
+    kept ends =
     let turn : Turn = turn_of_carousel c size in
     let stands = stands-sent follows st.between st.whole size turn place sent st.stands is.0 in
     fresh-behind limit size c last sent.place new follows sent.ends_turn events few some sound
     (record {
       between = sent.packet.last;
       whole = if st.between then sent.ends_turn else st.whole || sent.ends_turn;
+      rules = st.rules;
+      few = (few-sent place sent st.few is.0).0;
       stands = stands;
       fresh = λ e. fresh-sent place sent is.0 e
           (subst IsApartTurn (sym stands.turn_is) (apart-carousel c size sound));
-    }) is.1 ends
+    }) is.1 kept.1 ends
 fresh-behind limit size c last place new follows ended (Accepted command ∷ events) few some sound
-    st is ends =
+    st is kept ends =
     let turn : Turn = turn_of_carousel is.0 size in
     let then_sound : IsSound is.0 =
     accepted-cases limit c is.0 command (change c limit command) refl few sound is.1 in
@@ -221,47 +235,57 @@ fresh-behind limit size c last place new follows ended (Accepted command ∷ eve
     then_sound (record {
       between = st.between;
       whole = not follows;
+      rules = (kept is.0 is.1).0;
+      few = few-changed turn place st.few;
       stands = stands-changed follows st.between st.whole size (turn_of_carousel c size) place turn
           st.stands;
       fresh = λ e. fresh-changed turn place (subst (λ n. 0 < n) (sym st.stands.size_is) some)
           (has-directory is.0 size)
           (subst (λ (t : Turn). IsFollowable t turn) (sym st.stands.turn_is)
           (follow-cases limit size c is.0 command (change c limit command) refl sound is.1))
-          (apart-carousel is.0 size then_sound) (st.fresh e);
-    }) is.2 ends
-fresh-behind limit size c last place new follows ended (Asked ∷ events) few some sound st is ends =
+          (apart-carousel is.0 size then_sound) st.few
+          (subst (λ (t : Turn). AllByRecursion (λ (b : ℕ × List ℕ). 0 < length b.1) t.bodies)
+          (sym st.stands.turn_is) (some-bodies c.objects st.rules.objects)) (st.fresh e);
+    }) is.2 (kept is.0 is.1).1 ends
+fresh-behind limit size c last place new follows ended (Asked ∷ events) few some sound st is kept
+    ends =
     fresh-behind limit size c last (hear_directory place) new follows ended events few some sound
     (record {
       between = st.between;
       whole = st.whole;
+      rules = st.rules;
+      few = few-heard place st.few;
       stands = stands-heard follows st.between st.whole size (turn_of_carousel c size) place
           st.stands;
       fresh = λ e. fresh-heard place (subst (λ n. 0 < n) (sym st.stands.size_is) some)
           (subst HasDirectory (sym st.stands.turn_is) (has-directory c size)) (st.fresh e);
-    }) is ends
+    }) is kept ends
 
 -- each whole turn on air, behind one that ended, reads as its carousel
 pub changed_turns_read : ChangedTurnsOnAirRead
 changed_turns_read limit size c now last address room follows before during place new packets few
-    range some sound earlier ended rules later is are =
+    range some sound earlier ended first_rules kept later is are =
     let start : Place =
     record (opened_place address room size (turn_of_carousel c size)) { follows = follows } in
     let turn : Turn = turn_of_carousel now size in
     let wide : 0 < size = omega (arith, range.0) in
-    let there : StandsFresh follows true size now place =
-    fresh-behind limit size c now start place follows true before few wide sound (record {
+    let there : StandsFresh (is_some follows) true size now place =
+    fresh-behind limit size c now start place (is_some follows) true before few wide sound (record {
       between = true;
       whole = true;
+      rules = first_rules;
+      few = few-opened address room size (turn_of_carousel c size) follows;
       stands = stands-opened address room size (turn_of_carousel c size) follows some;
       fresh = λ e. fresh-opened address room size (turn_of_carousel c size) follows
           (apart-carousel c size sound);
-    }) earlier ended in
+    }) earlier kept ended in
+    let rules : AllKeepRules now = there.rules in
     let now_sound : IsSound now = sound-behind limit size c now start place before few sound earlier
     in
     let plays = plays-carousel now size now_sound rules range in
     let fresh : IsFresh place = there.fresh refl in
     let here : IsPlace place =
-    fresh-place follows there.between there.whole size turn place there.stands (wide, range.1)
+    fresh-place (is_some follows) there.between there.whole size turn place there.stands (wide, range.1)
     plays.1 fresh in
     let steps = steps_of limit size now last place new during (turn-quiet during is) later in
     let read = fresh-reads place now here

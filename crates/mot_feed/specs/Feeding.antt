@@ -55,13 +55,14 @@ Happen limit size c place (Accepted command ∷ events) last new =
 Happen limit size c place (Asked ∷ events) last new =
     Happen limit size c (hear_directory place) events last new
 
--- at each packet the carousel that stands there keeps the rules of its fields
+-- at each packet, and behind each accepted command, the carousel that stands there keeps the rules of
+-- its fields
 abbrev pub RulesAreKept : ℕ → Carousel → List Event → Type 0
 RulesAreKept limit c [] = ⊤
 RulesAreKept limit c (Played sent ∷ events) = AllKeepRules c × RulesAreKept limit c events
 RulesAreKept limit c (Accepted command ∷ events) =
     (next : Carousel) → carousel_if_accepted (change c limit command) ≡ Some next
-    → RulesAreKept limit next events
+    → AllKeepRules next × RulesAreKept limit next events
 RulesAreKept limit c (Asked ∷ events) = RulesAreKept limit c events
 
 -- whether a turn has ended behind these, or none was begun
@@ -203,7 +204,7 @@ IsFeedFault old start now refusal = IsUpdateFault old start now refusal
 -- whatever updates come between them.
 abbrev pub FedPacketsAreContinuous : Type 0
 FedPacketsAreContinuous =
-    (limit size : ℕ) (c last : Carousel) (address room : ℕ) (turn : Turn) (follows : Bool)
+    (limit size : ℕ) (c last : Carousel) (address room : ℕ) (turn : Turn) (follows : Option ℕ)
     (events : List Event) (new : Place) (packets : List (List ℕ)) → 0 < room
     → Happen limit size c (record (opened_place address room size turn) { follows = follows })
     events last new

@@ -1,6 +1,6 @@
 -- Who begins to listen to a feed at any packet.
 use Rattle.std.specs.Prelude.{◌≡◌, ℕ, ◌+◌, ◌*◌, ◌≤◌, ◌<◌, nat_le, Bool, true, false}
-use Rattle.std.specs.Prelude.{◌&&◌, ◌||◌, List, [], ◌∷◌, ◌++◌, length}
+use Rattle.std.specs.Prelude.{◌&&◌, ◌||◌, List, [], ◌∷◌, ◌++◌, length, Option}
 use Rattle.mot_feed.specs.Feeding.{Accepted, AreOf, Asked, Event, Happen, Played, turns_in}
 use Rattle.mot_feed.specs.Often.{IsOften, pause}
 use Rattle.mot_numbers.specs.declared.geometry.TheConstants.{MAX_OBJECTS}
@@ -8,10 +8,13 @@ use Rattle.mot_numbers.specs.declared.numbers.TheConstants.{MAX_SEGMENT, MIN_SEG
 use Rattle.mot_objects.specs.Carousel.{Carousel, IsSound}
 use Rattle.mot_objects.specs.Rules.{AllKeepRules}
 use Rattle.mot_objects.specs.declared.command.Command.{Command}
-use Rattle.mot_listening.specs.Listening.{HearsBodiesIn, HearsCarousel, HearsEntity, HearsOnly}
-use Rattle.mot_listening.specs.Waits.{all_packets, change_packets, early_packets, left_packets}
-use Rattle.mot_listening.specs.Waits.{longest_group, round_packets, soon_packets, turn_packets}
-use Rattle.mot_player.specs.Place.{Place, directory_packets, early_of, opened_place}
+use Rattle.mot_listening.specs.Listening.{HearsBodiesIn, HearsCarousel, HearsEntity}
+use Rattle.mot_listening.specs.Listening.{HearsNewBodies, HearsOnly}
+use Rattle.mot_listening.specs.Waits.{all_packets, change_packets, change_within, early_packets}
+use Rattle.mot_listening.specs.Waits.{left_packets, longest_group, round_packets, soon_packets}
+use Rattle.mot_listening.specs.Waits.{turn_packets}
+use Rattle.mot_player.specs.Place.{Place, bodies_not_begun, directory_packets, early_of}
+use Rattle.mot_player.specs.Place.{most_early, opened_place}
 use Rattle.mot_player.specs.Turn.{turn_of_carousel}
 
 -- no command is accepted among these
@@ -48,7 +51,7 @@ pub record IsWindow (limit size : ℕ) (now : Carousel) (place : Place) (before 
   pub first : Carousel
   pub address : ℕ
   pub room : ℕ
-  pub follows : Bool
+  pub follows : Option ℕ
   pub few : limit ≤ MAX_OBJECTS
   pub range : (MIN_SEGMENT ≤ size) × (size ≤ MAX_SEGMENT)
   pub some : 0 < room
@@ -115,13 +118,34 @@ pub record IsHeardInTime (every size : ℕ) (now : Carousel) (place : Place)
       → before ≡ earlier ++ Accepted command ∷ [] → change_packets place ≤ length packets
       → HearsEntity packets 6 now.directory (turn_of_carousel now size).directory
       × HearsBodiesIn packets now size (early_of place)
+  -- the same after a number by the turn alone, whatever changes came before
+  pub bounded : (earlier : List Event) (command : Command)
+      → before ≡ earlier ++ Accepted command ∷ [] → change_within place ≤ length packets
+      → HearsEntity packets 6 now.directory (turn_of_carousel now size).directory
+      × HearsBodiesIn packets now size (early_of place)
+
+-- And behind a command of which the body goes early, as fewer bodies than may do so wait before it
+-- that are not begun, it has the new directory and that body after a number by the turn alone: of a
+-- server that came there from a carousel and a place.
+abbrev pub HearsFirstChanges : (limit size : ℕ) → Carousel → Place → (now : Carousel) →
+    (place : Place) → (before : List Event) → (packets : List (List ℕ)) → Type 0
+HearsFirstChanges limit size first start now place before packets =
+    (earlier : List Event) (command : Command) (old : Carousel) (was : Place)
+    → before ≡ earlier ++ Accepted command ∷ [] → Happen limit size first start earlier old was
+    → bodies_not_begun (early_of was) < most_early was → change_within place ≤ length packets
+    → HearsEntity packets 6 now.directory (turn_of_carousel now size).directory
+    × HearsNewBodies packets old now
 
 -- So it is at any packet of a server that is fed from, whether it follows or not, and whether the
 -- directory is asked for often or not.
 abbrev pub ListenersHear : Type 0
 ListenersHear =
     (limit size every : ℕ) (now : Carousel) (place : Place) (before during : List Event)
-    (packets : List (List ℕ)) → IsWindow limit size now place before during packets →
+    (packets : List (List ℕ)) → (w : IsWindow limit size now place before during packets) →
     (0 < every → IsOften every (before ++ during)) →
     IsHeard every size now place before during packets
-    × (0 < every → IsHeardInTime every size now place before during packets)
+    × (0 < every → IsHeardInTime every size now place before during packets
+    × HearsFirstChanges limit size w.first
+    (record (opened_place w.address w.room size (turn_of_carousel w.first size)) {
+      follows = w.follows;
+    }) now place before packets)

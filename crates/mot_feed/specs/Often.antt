@@ -39,12 +39,16 @@ IsOften every events = is_often every true (Some 0) events ≡ true
 abbrev pub look_in : (every look : ℕ) → ℕ
 look_in every look = if every == 0 then 0 else look
 
--- and the server as it is fed then: one that follows, or as it was
-abbrev pub server_for : {D : Type 0} → (every : ℕ) → ServerView D → ServerView D
-server_for every server = record server {
-  player = record server.player { follows = not (every == 0) || server.player.follows };
+-- and the server as it is fed then: one that follows, with at most so many bodies early, or as it
+-- was
+abbrev pub server_for : {D : Type 0} → (every early : ℕ) → ServerView D → ServerView D
+server_for every early server = record server {
+  player = record server.player {
+    follows = if every == 0 then server.player.follows else Some early;
+  };
 }
 
 -- and where it stands then
-abbrev pub place_for : (every : ℕ) → Place → Place
-place_for every place = record place { follows = not (every == 0) || place.follows }
+abbrev pub place_for : (every early : ℕ) → Place → Place
+place_for every early place =
+    record place { follows = if every == 0 then place.follows else Some early }

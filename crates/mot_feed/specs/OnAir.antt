@@ -1,8 +1,8 @@
 -- What a server that is fed from has on air, turn by turn.
 use Rattle.std.specs.Prelude.{◌≡◌, ℕ, Bool, true, false, not, ◌&&◌, ◌||◌, ◌<◌, ◌≤◌, if◌then◌else◌}
-use Rattle.std.specs.Prelude.{List, [], ◌∷◌}
+use Rattle.std.specs.Prelude.{List, [], ◌∷◌, Option, is_some}
 use Rattle.mot_feed.specs.Feeding.{Accepted, AreOf, Asked, Event, Happen, Played}
-use Rattle.mot_feed.specs.Feeding.{is_between_turns}
+use Rattle.mot_feed.specs.Feeding.{RulesAreKept, is_between_turns}
 use Rattle.mot_numbers.specs.Reading.{is_empty}
 use Rattle.mot_numbers.specs.declared.geometry.TheConstants.{MAX_OBJECTS}
 use Rattle.mot_numbers.specs.declared.numbers.TheConstants.{MAX_SEGMENT, MIN_SEGMENT}
@@ -42,27 +42,28 @@ asks (event ∷ events) = asks events
 -- again the first counts; and if the directory is not asked for within the turn, none is.
 abbrev pub TurnsOnAirRead : Type 0
 TurnsOnAirRead =
-    (limit size : ℕ) (c now last : Carousel) (address room : ℕ) (follows : Bool)
+    (limit size : ℕ) (c now last : Carousel) (address room : ℕ) (follows : Option ℕ)
     (before during : List Event) (place new : Place) (packets : List (List ℕ))
     → limit ≤ MAX_OBJECTS → (MIN_SEGMENT ≤ size) × (size ≤ MAX_SEGMENT) → 0 < room → IsSound c
     → Happen limit size c
     (record (opened_place address room size (turn_of_carousel c size)) { follows = follows })
     before now place
-    → begins_turn follows true true before ≡ true → AllKeepRules now
+    → begins_turn (is_some follows) true true before ≡ true → AllKeepRules now
     → Happen limit size now place during last new → is_turn during ≡ true
     → AreOf during packets → ReadAsTurn (asks during) packets now size
 
 -- Where a turn has ended, or none was begun, the next whole turn on air reads as exactly the
--- carousel that stands there, whatever commands were accepted since that end, followed or not: of
--- each segment that is sent again the first counts.
+-- carousel that stands there, whatever commands were accepted since that end, followed or not, if
+-- the carousels up to there keep the rules of their fields: of each segment that is sent again the
+-- first counts.
 abbrev pub ChangedTurnsOnAirRead : Type 0
 ChangedTurnsOnAirRead =
-    (limit size : ℕ) (c now last : Carousel) (address room : ℕ) (follows : Bool)
+    (limit size : ℕ) (c now last : Carousel) (address room : ℕ) (follows : Option ℕ)
     (before during : List Event) (place new : Place) (packets : List (List ℕ))
     → limit ≤ MAX_OBJECTS → (MIN_SEGMENT ≤ size) × (size ≤ MAX_SEGMENT) → 0 < room → IsSound c
     → Happen limit size c
     (record (opened_place address room size (turn_of_carousel c size)) { follows = follows })
     before now place
-    → is_between_turns true before ≡ true → AllKeepRules now
+    → is_between_turns true before ≡ true → AllKeepRules c → RulesAreKept limit c before
     → Happen limit size now place during last new → is_turn during ≡ true
     → AreOf during packets → ReadsOnceAs packets now size

@@ -22,7 +22,8 @@ use mot_update::Update;
 use std::alloc::Global;
 
 /// As `feed`, but an accepted command does not begin the turn anew: what it changed comes next, and
-/// then the turn goes on.
+/// then the turn goes on. Of the bodies that changed and are not begun, at most `early` come next;
+/// another one comes in its place in the turn.
 ///
 /// The directory is asked for in front of each turn, which changes nothing there, and then again
 /// and again: after the packet that follows, `every` packets go out until the next time, or ten
@@ -38,6 +39,7 @@ pub fn feed_often<D: Disk, O: Outlet, U: Update>(
     turns: u64,
     every: u64,
     look: u64,
+    early: usize,
 ) -> Result<(), Refusal>
     ensures keeps { KeepsLength (D.state server.old.disk) (D.state server.new.disk) }
     ensures calm { OnOk result
@@ -47,12 +49,12 @@ pub fn feed_often<D: Disk, O: Outlet, U: Update>(
     ensures fed { (s : Standing) → Holds server.old.view s (D.state server.old.disk)
         → (D.state server.new.disk).IsHonest
         → (feeds : Feeds U.tells look turns (fault_of result) update.old update.new
-        (following_server server.old) server.new
+        (following_server early server.old) server.new
         (D.state server.old.disk) (D.state server.new.disk) s
         (O.writes outlet.old) (O.writes outlet.new))
         × IsOften every feeds.events }
 {
-    server.follow_changes();
+    server.follow_changes(early);
     let mut left = turns;
     let mut between_turns = true;
     let mut until = 0;
@@ -84,6 +86,7 @@ pub fn feed_every<D: Disk, O: Outlet, U: Update>(
     turns: u64,
     every: u32,
     look: u32,
+    early: u32,
 ) -> Result<(), Refusal>
     ensures keeps { KeepsLength (D.state server.old.disk) (D.state server.new.disk) }
     ensures calm { OnOk result
@@ -93,7 +96,7 @@ pub fn feed_every<D: Disk, O: Outlet, U: Update>(
     ensures fed { (s : Standing) → Holds server.old.view s (D.state server.old.disk)
         → (D.state server.new.disk).IsHonest
         → (feeds : Feeds U.tells (look_in every look) turns (fault_of result)
-        update.old update.new (server_for every server.old) server.new
+        update.old update.new (server_for every early server.old) server.new
         (D.state server.old.disk) (D.state server.new.disk) s
         (O.writes outlet.old) (O.writes outlet.new))
         × (0 < every → IsOften every feeds.events) }
@@ -103,7 +106,8 @@ pub fn feed_every<D: Disk, O: Outlet, U: Update>(
     ensures turns_read { TurnsOnAirRead }
     ensures changed_turns_read { ChangedTurnsOnAirRead }
 
-    // Who begins to listen at any packet, up to the next command.
+    // Who begins to listen at any packet, up to the next command; and behind a command after how
+    // many packets at most, whatever commands came before it.
     ensures listeners { ListenersHear }
 {
     if every == 0 {
@@ -117,6 +121,7 @@ pub fn feed_every<D: Disk, O: Outlet, U: Update>(
         turns,
         u64::from(every),
         u64::from(look),
+        early as usize,
     )
 }
 

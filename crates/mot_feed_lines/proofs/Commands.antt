@@ -73,6 +73,7 @@ module _ {D : Type 0} (old new : ServerView D) (start now : State) (s : Standing
       last = run.leaves.last;
       after = run.leaves.after;
       marked = run.leaves.marked.2;
+      rules = run.leaves.rules;
       agrees = run.leaves.agrees;
       going = run.leaves.going;
       any_moment = run.leaves.any_moment;
@@ -90,6 +91,7 @@ module _ {D : Type 0} (old new : ServerView D) (start now : State) (s : Standing
       last = run.leaves.last;
       after = run.leaves.after;
       marked = run.leaves.marked;
+      rules = run.leaves.rules;
       agrees = run.leaves.agrees;
       going = λ e. run.leaves.going refl;
       any_moment = run.leaves.any_moment;

@@ -16,7 +16,8 @@ use Rattle.mot_player.specs.Place.{Change, Place, Put, Replaced, Same, Sent, Ste
 use Rattle.mot_player.specs.Place.{Withdrawn}
 use Rattle.mot_player.specs.Place.{Directory, Follow, NewTurn, Request, change_between}
 use Rattle.mot_player.specs.Place.{directory_segments, early_after, early_of, first_sent, follow}
-use Rattle.mot_player.specs.Place.{fresh_segments, group_for, hear_directory, in_its_place, left_of}
+use Rattle.mot_player.specs.Place.{fresh_segments, goes_early, group_for, hear_directory}
+use Rattle.mot_player.specs.Place.{in_its_place, left_of}
 use Rattle.mot_player.specs.Place.{left_with, next_sent, of_bodies, opened_place, packet_sent}
 use Rattle.mot_player.specs.Place.{request}
 use Rattle.mot_player.specs.Place.{rest_after, rest_of, sent_by, that_stay, to_send, with_begun}
@@ -185,35 +186,35 @@ put-packets room rest fresh true = omega (arith, packets-nil room)
 put-packets room rest fresh false = omega (arith, packets-append room rest fresh)
 
 -- what is left of the rest takes no more than before, and the new body
-abbrev KeepsRest : (room size : ℕ) → List Segment → Change → Type 0
-KeepsRest room size rest change =
-    packets_for room (rest_after change (fresh_segments size change) rest)
+abbrev KeepsRest : (room size : ℕ) → Bool → List Segment → Change → Type 0
+KeepsRest room size early rest change =
+    packets_for room (rest_after change early (fresh_segments size change) rest)
     ≤ packets_for room rest + packets_for room (fresh_segments size change)
 
-keeps-rest : (room size : ℕ) (olds news : List Pair) (done rest : List Segment) →
+keeps-rest : (room size : ℕ) (olds news : List Pair) (early : Bool) (done rest : List Segment) →
     IsOneChange olds news → is_distinct (map (λ (b : Pair). b.0) olds) ≡ true →
     segments_of_bodies size olds ≡ done ++ rest →
-    KeepsRest room size rest (change_between olds news)
-keeps-rest room size olds news done rest (same h) distinct e =
-    subst (KeepsRest room size rest) (sym (ap (change_between olds) h ∙ between-same olds))
+    KeepsRest room size early rest (change_between olds news)
+keeps-rest room size olds news early done rest (same h) distinct e =
+    subst (KeepsRest room size early rest) (sym (ap (change_between olds) h ∙ between-same olds))
     (let l : packets_for room rest ≤ packets_for room rest + packets_for room [] = omega arith in l)
-keeps-rest room size olds news done rest (put f h) distinct e =
-    subst (KeepsRest room size rest) (sym (ap (change_between olds) h ∙ between-put olds f))
-    (put-packets room rest (segments_of 4 f.0 size f.1) (is_empty rest))
-keeps-rest room size olds news done rest (replaced before after g f h i o) distinct e =
+keeps-rest room size olds news early done rest (put f h) distinct e =
+    subst (KeepsRest room size early rest) (sym (ap (change_between olds) h ∙ between-put olds f))
+    (put-packets room rest (segments_of 4 f.0 size f.1) (is_empty rest && early))
+keeps-rest room size olds news early done rest (replaced before after g f h i o) distinct e =
     let once : is_distinct (map (λ (b : Pair). b.0) (before ++ g ∷ after)) ≡ true =
     ap (λ (bs : List Pair). is_distinct (map (λ (b : Pair). b.0) bs)) (sym h) ∙ distinct in
     let others = others-both before after g once in
-    subst (KeepsRest room size rest)
+    subst (KeepsRest room size early rest)
     (sym (ap (λ (bs : List Pair). change_between bs news) h
     ∙ ap (change_between (before ++ g ∷ after)) i ∙ between-replaced before after g f o))
     (packets-once room size (segments_of 4 f.0 size f.1) before after g done rest others.0 others.1
     (ap (segments_of_bodies size) (sym h) ∙ e))
-keeps-rest room size olds news done rest (withdrawn before after g h i) distinct e =
+keeps-rest room size olds news early done rest (withdrawn before after g h i) distinct e =
     let once : is_distinct (map (λ (b : Pair). b.0) (before ++ g ∷ after)) ≡ true =
     ap (λ (bs : List Pair). is_distinct (map (λ (b : Pair). b.0) bs)) (sym h) ∙ distinct in
     let others = others-both before after g once in
-    subst (KeepsRest room size rest)
+    subst (KeepsRest room size early rest)
     (sym (ap (λ (bs : List Pair). change_between bs news) h
     ∙ ap (change_between (before ++ g ∷ after)) i ∙ between-withdrawn before after g others.1))
     (subst (λ (ss : List Segment). packets_for room ss
@@ -244,6 +245,11 @@ stay-fewer room (Replaced old f) xs =
     filter-fewer room (λ (s : Segment). not (s.tid == old)) xs
 stay-fewer room (Withdrawn old) xs =
     filter-fewer room (λ (s : Segment). not (s.tid == old)) xs
+
+if-fewer : (room : ℕ) (fresh : List Segment) (b : Bool) →
+    packets_for room (if b then fresh else []) ≤ packets_for room fresh
+if-fewer room fresh true = omega arith
+if-fewer room fresh false = omega (arith, packets-nil room)
 
 -- the packets that are left of a turn, with those of the group under way
 abbrev pub left_all : ℕ → Place → ℕ
@@ -312,11 +318,11 @@ record GoesOn (size room : ℕ) (turn : Turn) (place : Place) : Type 0 where
   room_is : place.room ≡ room
   rest : IsRest size turn place.early (left_of place)
 
-opened-goes : (address room size : ℕ) (turn : Turn) → 0 < room →
-    GoesOn size room turn (record (opened_place address room size turn) { follows = true })
-opened-goes address room size turn some =
-    let place : Place = record (opened_place address room size turn) { follows = true } in
-    let on : IsOnAir size turn place = opened-on address room size turn true some in record {
+opened-goes : (address room size most : ℕ) (turn : Turn) → 0 < room →
+    GoesOn size room turn (record (opened_place address room size turn) { follows = Some most })
+opened-goes address room size most turn some =
+    let place : Place = record (opened_place address room size turn) { follows = Some most } in
+    let on : IsOnAir size turn place = opened-on address room size turn (Some most) some in record {
       on = on;
       room_is = refl;
       rest = rest-ended size turn place on refl refl;
@@ -354,14 +360,15 @@ follow-goes size room old turn place some was is change g =
     let here : 0 < place.segment_size = subst (λ (n : ℕ). 0 < n) (sym g.on.size_is) some in
     let c : Change = change_between place.turn.bodies turn.bodies in
     let next = (changes-come-next place turn here is.directory).rest in
-    let made = renews size old.bodies turn.bodies g.rest.0 (rest_of place) some change was.distinct
-    was.some g.rest.1 in
-    let same : rest_after (change_between old.bodies turn.bodies)
+    let early : Bool = goes_early c place in
+    let made = renews size old.bodies turn.bodies early g.rest.0 (rest_of place) some change
+    was.distinct was.some g.rest.1 in
+    let same : rest_after (change_between old.bodies turn.bodies) early
     (fresh_segments size (change_between old.bodies turn.bodies)) (rest_of place)
     ≡ rest_of (follow turn place) =
-    ap (λ (t : Turn). rest_after (change_between t.bodies turn.bodies)
+    ap (λ (t : Turn). rest_after (change_between t.bodies turn.bodies) early
     (fresh_segments size (change_between t.bodies turn.bodies)) (rest_of place)) (sym g.on.turn_is)
-    ∙ ap (λ (n : ℕ). rest_after c (fresh_segments n c) (rest_of place)) (sym g.on.size_is)
+    ∙ ap (λ (n : ℕ). rest_after c early (fresh_segments n c) (rest_of place)) (sym g.on.size_is)
     ∙ sym next in
     record {
       on = followed-on size old turn place some is.directory followable g.on;
@@ -437,10 +444,12 @@ follow-adds room turn place done some has change distinct e =
       ap (packets_for room) (followed-left c turn place some has),
       packets-append room (directory ++ early) (renewed c place),
       packets-append room directory early,
-      packets-append room (that_stay c (early_of place)) fresh,
+      packets-append room (that_stay c (early_of place))
+          (if goes_early c place then fresh else []),
+      if-fewer room fresh (goes_early c place),
       stay-fewer room c (early_of place),
-      keeps-rest room place.segment_size place.turn.bodies turn.bodies done (rest_of place) change
-          distinct e,
+      keeps-rest room place.segment_size place.turn.bodies turn.bodies (goes_early c place) done
+          (rest_of place) change distinct e,
       packets-append room (early_of place) (rest_of place),
       ap (packets_for room) (take-append-drop place.early (of_bodies (left_of place))),
       packets-bodies room (left_of place),
@@ -526,11 +535,11 @@ left-fewer room place (Some u) =
     waits-cases (t ∷ waiting) whole = omega arith
 
 pub turns_end_soon : TurnsEndSoon
-turns_end_soon address room size first before during earlier sents place new some large is followed
-    came later happens none =
-    let start : Place = record (opened_place address room size first) { follows = true } in
+turns_end_soon address room size most first before during earlier sents place new some large is
+    followed came later happens none =
+    let start : Place = record (opened_place address room size first) { follows = Some most } in
     let at = steps-go size room first before start earlier place large is
-    (opened-goes address room size first some) followed came in
+    (opened-goes address room size most first some) followed came in
     let turn : Turn = turn_behind first before in
     let on : IsOnAir size turn place = at.0.on in
     let long : longest_group place ≡ div_ceil (size + 11) room =

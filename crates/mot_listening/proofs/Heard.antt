@@ -75,7 +75,7 @@ left-on size turn place None s t of_turn =
     of_turn
 left-on size turn place (Some u) s t of_turn = of_turn
 
-pub opened-on : (address room size : ℕ) (turn : Turn) (follows : Bool) → 0 < room →
+pub opened-on : (address room size : ℕ) (turn : Turn) (follows : Option ℕ) → 0 < room →
     IsOnAir size turn (record (opened_place address room size turn) { follows = follows })
 opened-on address room size turn follows some = record {
   room = some;

@@ -5,6 +5,9 @@
 pub use Rattle.mot_listening.proofs.Heard.{IsOnAir, heard-on, opened-on, sent-on}
 pub use Rattle.mot_listening.proofs.Counts.{packets-are, packets_for}
 pub use Rattle.mot_listening.proofs.OfTurn.{changed-on}
+-- few bodies come early, and the one that comes with a change is among them
+pub use Rattle.mot_listening.proofs.Early.{IsEarlyOn, early-changed, early-heard, early-opened}
+pub use Rattle.mot_listening.proofs.Early.{early-sent, early-short, hears-new}
 pub use Rattle.mot_listening.proofs.DirectoryNext.{asked_packets, asks_once, room-kept}
 pub use Rattle.mot_listening.proofs.DirectoryNext.{group-fewer, group_left, some-packets}
 pub use Rattle.mot_listening.proofs.DirectoryNext.{until_asked}

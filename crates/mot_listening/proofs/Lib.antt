@@ -1,6 +1,8 @@
 pub mod Collected
 pub mod Counts
 pub mod DirectoryNext
+pub mod Early
+pub mod EarlyBodies
 pub mod Ends
 pub mod Heard
 pub mod Laws

@@ -4,7 +4,7 @@ use Rattle.std.proofs.Common.{refl, sym, subst, map, ap, ◌∙◌, eq-eqb}
 use Rattle.std.proofs.lemmas.List.{take-append-drop}
 use Rattle.std.proofs.lemmas.List.Elements.{filter-append}
 use Rattle.std.proofs.lemmas.Grind.{flat_map-append}
-use Rattle.std.specs.Prelude.{◌==◌, ◌||◌, flat_map, if◌then◌else◌}
+use Rattle.std.specs.Prelude.{◌==◌, ◌&&◌, ◌||◌, flat_map, if◌then◌else◌, is_some}
 use Rattle.std.specs.List.{list_any, AllByRecursion}
 use Rattle.mot_groups.specs.Entity.{numbered_segments, pieces, segments_of}
 use Rattle.mot_groups.specs.Group.{Segment}
@@ -13,7 +13,7 @@ use Rattle.mot_objects.specs.Ids.{is_distinct}
 use Rattle.mot_player.specs.Followable.{IsFollowable, IsOneChange, put, replaced, same, withdrawn}
 use Rattle.mot_player.specs.Place.{Change, Place, Put, Replaced, Same, Withdrawn, change_between}
 use Rattle.mot_player.specs.Place.{change_turn, changed, directory_segments, early_after, early_of}
-use Rattle.mot_player.specs.Place.{follow, in_its_place, left_of}
+use Rattle.mot_player.specs.Place.{follow, goes_early, in_its_place, left_of}
 use Rattle.mot_player.specs.Place.{of_bodies, rest_of, without}
 use Rattle.mot_player.specs.Repeats.{is_same_segment}
 use Rattle.mot_player.specs.Staying.{HasDirectory}
@@ -84,6 +84,11 @@ all-in_place P old fresh (x ∷ xs) p q =
     all-append P (in_its_place old fresh x) (flat_map (in_its_place old fresh) xs)
     (place-cases P fresh x (x.tid == old) (x.number == 0) p.0 q)
     (all-in_place P old fresh xs p.1 q)
+
+if-all : (P : Segment → Type 0) (fresh : List Segment) (b : Bool) → AllByRecursion P fresh →
+    AllByRecursion P (if b then fresh else [])
+if-all P fresh true p = p
+if-all P fresh false p = tt
 
 put-all : (P : Segment → Type 0) (rest fresh : List Segment) (b : Bool) →
     AllByRecursion P rest → AllByRecursion P fresh →
@@ -206,8 +211,9 @@ module _ (place : Place) (olds news : List Pair)
 
   after-same : news ≡ olds → After Same
   after-same e = (
-    all-append (Of news) (early_of place) []
-        (subst (λ (bs : List Pair). AreOfBodies piece_size bs (early_of place)) (sym e) early) tt,
+    all-append (Of news) (early_of place) (if goes_early Same place then [] else [])
+        (subst (λ (bs : List Pair). AreOfBodies piece_size bs (early_of place)) (sym e) early)
+        (if-all (Of news) [] (goes_early Same place) tt),
     subst (λ (bs : List Pair). AreOfBodies piece_size bs (rest_of place)) (sym e) rest,
   )
 
@@ -224,10 +230,12 @@ module _ (place : Place) (olds news : List Pair)
       let fresh : AllByRecursion (Of news) (segments_of 4 f.0 piece_size f.1) =
       subst (λ (bs : List Pair). AreOfBodies piece_size bs (segments_of 4 f.0 piece_size f.1))
       (sym e) (middle-had piece_size olds [] f) in (
-        all-append (Of news) (early_of place) (segments_of 4 f.0 piece_size f.1)
-            (all-of (Of olds) (Of news) (early_of place) wider early) fresh,
+        all-append (Of news) (early_of place)
+            (if goes_early (Put f) place then segments_of 4 f.0 piece_size f.1 else [])
+            (all-of (Of olds) (Of news) (early_of place) wider early)
+            (if-all (Of news) (segments_of 4 f.0 piece_size f.1) (goes_early (Put f) place) fresh),
         put-all (Of news) (rest_of place) (segments_of 4 f.0 piece_size f.1)
-            (is_empty (rest_of place))
+            (is_empty (rest_of place) && goes_early (Put f) place)
             (all-of (Of olds) (Of news) (rest_of place) wider rest) fresh,
       )
 
@@ -240,9 +248,12 @@ module _ (place : Place) (olds news : List Pair)
       let fresh : AllByRecursion (Of news) (segments_of 4 f.0 piece_size f.1) =
       subst (λ (bs : List Pair). AreOfBodies piece_size bs (segments_of 4 f.0 piece_size f.1))
       (sym e) (middle-had piece_size before after f) in (
-        all-append (Of news) (without g.0 (early_of place)) (segments_of 4 f.0 piece_size f.1)
+        all-append (Of news) (without g.0 (early_of place))
+            (if goes_early (Replaced g.0 f) place then segments_of 4 f.0 piece_size f.1 else [])
             (all-without (Of news) g.0 (early_of place)
-            (but-of (Of olds) (Of news) g.0 (early_of place) stay early)) fresh,
+            (but-of (Of olds) (Of news) g.0 (early_of place) stay early))
+            (if-all (Of news) (segments_of 4 f.0 piece_size f.1)
+            (goes_early (Replaced g.0 f) place) fresh),
         all-in_place (Of news) g.0 (segments_of 4 f.0 piece_size f.1) (rest_of place)
             (but-of (Of olds) (Of news) g.0 (rest_of place) stay rest) fresh,
       )
@@ -253,9 +264,11 @@ module _ (place : Place) (olds news : List Pair)
       let stay : (s : Segment) → Of olds s → (s.tid == g.0) ≡ false → Of news s = λ s h o.
       subst (λ (bs : List Pair). Of bs s) (sym e)
       (stays-withdrawn piece_size before after g s (subst (λ (bs : List Pair). Of bs s) d h) o) in (
-        all-append (Of news) (without g.0 (early_of place)) []
+        all-append (Of news) (without g.0 (early_of place))
+            (if goes_early (Withdrawn g.0) place then [] else [])
             (all-without (Of news) g.0 (early_of place)
-            (but-of (Of olds) (Of news) g.0 (early_of place) stay early)) tt,
+            (but-of (Of olds) (Of news) g.0 (early_of place) stay early))
+            (if-all (Of news) [] (goes_early (Withdrawn g.0) place) tt),
         all-without (Of news) g.0 (rest_of place)
             (but-of (Of olds) (Of news) g.0 (rest_of place) stay rest),
       )
@@ -417,4 +430,4 @@ pub changed-on : (size : ℕ) (old turn : Turn) (place : Place) → 0 < size →
     IsFollowable old turn → IsOnAir size old place → IsOnAir size turn (changed turn place)
 unfolding changed
 changed-on size old turn place some has followable on =
-    change-cases place.follows size old turn place some has followable on
+    change-cases (is_some place.follows) size old turn place some has followable on

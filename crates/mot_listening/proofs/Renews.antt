@@ -3,7 +3,7 @@ use Rattle.std.proofs.Common.{◌≡◌, ℕ, ◌+◌, ◌<◌, List, [], ◌∷
 use Rattle.std.proofs.Common.{false, refl, sym, subst, map, length, ap, ◌∙◌, append-nil}
 use Rattle.std.proofs.Common.{append_assoc}
 use Rattle.std.proofs.lemmas.Grind.{flat_map-append}
-use Rattle.std.specs.Prelude.{◌==◌, flat_map, if◌then◌else◌}
+use Rattle.std.specs.Prelude.{◌==◌, ◌&&◌, flat_map, if◌then◌else◌}
 use Rattle.std.specs.List.{AllByRecursion}
 use Rattle.mot_groups.specs.Entity.{numbered_segments, pieces, segments_of}
 use Rattle.mot_groups.specs.Group.{Segment}
@@ -89,20 +89,21 @@ some-inside (b ∷ before) after g s = some-inside before after g s.1
 -- ---- the rest is the end of the bodies
 
 -- what was the end of the old bodies' segments is, changed, the end of the new ones'
-abbrev pub Renews : (size : ℕ) (olds news : List Pair) (rest : List Segment) → Change → Type 0
-Renews size olds news rest change = (done : List Segment)
+abbrev pub Renews : (size : ℕ) (olds news : List Pair) (early : Bool) (rest : List Segment) →
+    Change → Type 0
+Renews size olds news early rest change = (done : List Segment)
     × (segments_of_bodies size news
-    ≡ done ++ rest_after change (fresh_segments size change) rest)
+    ≡ done ++ rest_after change early (fresh_segments size change) rest)
 
 put-cases : (size : ℕ) (olds : List Pair) (f : Pair) (done rest : List Segment) →
-    segments_of_bodies size olds ≡ done ++ rest → (b : Bool) → is_empty rest ≡ b →
+    segments_of_bodies size olds ≡ done ++ rest → (b : Bool) →
     (more : List Segment) × (segments_of_bodies size (olds ++ f ∷ [])
     ≡ more ++ (if b then [] else rest ++ segments_of 4 f.0 size f.1))
-put-cases size olds f done rest e true is = (
+put-cases size olds f done rest e true = (
   segments_of_bodies size (olds ++ f ∷ []),
   sym (append-nil (segments_of_bodies size (olds ++ f ∷ []))),
 )
-put-cases size olds f done rest e false is =
+put-cases size olds f done rest e false =
     let fresh : List Segment = segments_of 4 f.0 size f.1 in (
       done,
       both-bodies size olds (f ∷ [])
@@ -124,38 +125,38 @@ in_place-renews size fresh before after g done rest some body others e =
           ∙ ap (flat_map f) e ∙ flat_map-append f done rest,
     )
 
-pub renews : (size : ℕ) (olds news : List Pair) (done rest : List Segment) → 0 < size →
-    IsOneChange olds news → is_distinct (map (λ (b : Pair). b.0) olds) ≡ true →
+pub renews : (size : ℕ) (olds news : List Pair) (early : Bool) (done rest : List Segment) →
+    0 < size → IsOneChange olds news → is_distinct (map (λ (b : Pair). b.0) olds) ≡ true →
     AreSomeBodies olds → segments_of_bodies size olds ≡ done ++ rest →
-    Renews size olds news rest (change_between olds news)
-renews size olds news done rest some (same h) distinct bodies e =
-    subst (Renews size olds news rest)
+    Renews size olds news early rest (change_between olds news)
+renews size olds news early done rest some (same h) distinct bodies e =
+    subst (Renews size olds news early rest)
     (sym (ap (change_between olds) h ∙ between-same olds))
     (done, ap (segments_of_bodies size) h ∙ e)
-renews size olds news done rest some (put f h) distinct bodies e =
-    let cases = put-cases size olds f done rest e (is_empty rest) refl in
-    subst (Renews size olds news rest)
+renews size olds news early done rest some (put f h) distinct bodies e =
+    let cases = put-cases size olds f done rest e (is_empty rest && early) in
+    subst (Renews size olds news early rest)
     (sym (ap (change_between olds) h ∙ between-put olds f))
     (cases.0, ap (segments_of_bodies size) h ∙ cases.1)
-renews size olds news done rest some (replaced before after g f h i o) distinct bodies e =
+renews size olds news early done rest some (replaced before after g f h i o) distinct bodies e =
     let fresh : List Segment = segments_of 4 f.0 size f.1 in
     let once : is_distinct (map (λ (b : Pair). b.0) (before ++ g ∷ after)) ≡ true =
     ap (λ (bs : List Pair). is_distinct (map (λ (b : Pair). b.0) bs)) (sym h) ∙ distinct in
     let made = in_place-renews size fresh before after g done rest some
     (some-inside before after g (subst AreSomeBodies h bodies)) (others-both before after g once)
     (ap (segments_of_bodies size) (sym h) ∙ e) in
-    subst (Renews size olds news rest)
+    subst (Renews size olds news early rest)
     (sym (ap (λ (bs : List Pair). change_between bs news) h
     ∙ ap (change_between (before ++ g ∷ after)) i ∙ between-replaced before after g f o))
     (made.0, ap (segments_of_bodies size) i ∙ both-bodies size before (f ∷ after) ∙ made.1)
-renews size olds news done rest some (withdrawn before after g h i) distinct bodies e =
+renews size olds news early done rest some (withdrawn before after g h i) distinct bodies e =
     let once : is_distinct (map (λ (b : Pair). b.0) (before ++ g ∷ after)) ≡ true =
     ap (λ (bs : List Pair). is_distinct (map (λ (b : Pair). b.0) bs)) (sym h) ∙ distinct in
     let others = others-both before after g once in
     let made = in_place-renews size [] before after g done rest some
     (some-inside before after g (subst AreSomeBodies h bodies)) others
     (ap (segments_of_bodies size) (sym h) ∙ e) in
-    subst (Renews size olds news rest)
+    subst (Renews size olds news early rest)
     (sym (ap (λ (bs : List Pair). change_between bs news) h
     ∙ ap (change_between (before ++ g ∷ after)) i ∙ between-withdrawn before after g others.1)) (
       made.0,

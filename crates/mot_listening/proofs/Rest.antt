@@ -5,7 +5,7 @@ use Rattle.std.proofs.Common.{arith, drop, take, append_assoc, eq-eqb}
 use Rattle.std.proofs.lemmas.List.{take-append-drop}
 use Rattle.std.proofs.lemmas.List.Elements.{filter-append}
 use Rattle.std.proofs.lemmas.Option.{none-some, same_Some}
-use Rattle.std.specs.Prelude.{◌==◌, if◌then◌else◌}
+use Rattle.std.specs.Prelude.{◌==◌, if◌then◌else◌, is_some}
 use Rattle.std.specs.List.{AllByRecursion}
 use Rattle.mot_groups.specs.Entity.{pieces}
 use Rattle.mot_groups.specs.Group.{GroupFields, Segment, bytes_of_group}
@@ -148,12 +148,15 @@ bodies-again (x ∷ xs) = again-cases (x.kind == 4) refl (bodies-again xs)
     again-cases true e f = rw (e, f) refl
     again-cases false e f = f
 
-pub rest-heard : (size : ℕ) (turn : Turn) (place : Place) → 0 < size → HasDirectory turn →
-    IsOnAir size turn place → IsRest size turn place.early (left_of place) →
-    IsRest size turn (hear_directory place).early (left_of (hear_directory place))
+-- a directory that is asked for leaves what is left of the bodies
+pub bodies-heard : (size : ℕ) (turn : Turn) (place : Place) → 0 < size → HasDirectory turn →
+    IsOnAir size turn place →
+    of_bodies (left_of (hear_directory place)) ≡ of_bodies (left_of place)
 unfolding hear_directory
-rest-heard size turn place some has on (done, e) =
-    (done, e ∙ ap (λ (ss : List Segment). done ++ drop place.early ss) (sym same))
+bodies-heard size turn place some has on =
+    heard-cases (heard-left place place.under_way place.waiting (is_empty place.waiting) refl
+    (subst (λ (n : ℕ). 0 < n) (sym on.size_is) some)
+    (subst HasDirectory (sym on.turn_is) has))
   where
     directory : List Segment
     directory = directory_segments place.turn place.segment_size
@@ -169,10 +172,15 @@ rest-heard size turn place some has on (done, e) =
         (of_bodies-directory place.turn.tid 0 (pieces place.segment_size place.turn.directory))
         ∙ bodies-again (left_of place)
 
-    same : of_bodies (left_of (hear_directory place)) ≡ of_bodies (left_of place)
-    same = heard-cases (heard-left place place.under_way place.waiting (is_empty place.waiting) refl
-        (subst (λ (n : ℕ). 0 < n) (sym on.size_is) some)
-        (subst HasDirectory (sym on.turn_is) has))
+pub rest-heard : (size : ℕ) (turn : Turn) (place : Place) → 0 < size → HasDirectory turn →
+    IsOnAir size turn place → IsRest size turn place.early (left_of place) →
+    IsRest size turn (hear_directory place).early (left_of (hear_directory place))
+unfolding hear_directory
+rest-heard size turn place some has on (done, e) = (
+  done,
+  e ∙ ap (λ (ss : List Segment). done ++ drop place.early ss)
+      (sym (bodies-heard size turn place some has on)),
+)
 
 -- the rest is to be sent
 left-to_send : (place : Place) (u : Option UnderWay) →
@@ -240,4 +248,4 @@ pub changed-comes : (turn : Turn) (place : Place) → 0 < place.segment_size →
     (others : List Segment) × (to_send (changed turn place)
     ≡ directory_segments turn place.segment_size ++ (early_of (changed turn place) ++ others))
 unfolding changed
-changed-comes turn place some has = change-cases place.follows turn place some has
+changed-comes turn place some has = change-cases (is_some place.follows) turn place some has

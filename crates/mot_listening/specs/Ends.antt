@@ -1,9 +1,10 @@
 -- However many changes are followed, a turn ends, and each body that stays is sent in it.
-use Rattle.std.specs.Prelude.{◌≡◌, ℕ, ◌+◌, ◌*◌, ◌<◌, true, List, [], ◌∷◌, Some, length, map, ⊤}
+use Rattle.std.specs.Prelude.{◌≡◌, ℕ, ◌+◌, ◌*◌, ◌<◌, ◌≤◌, true, List, [], ◌∷◌, Some, length, map}
+use Rattle.std.specs.Prelude.{⊤}
 use Rattle.std.specs.List.{AllByRecursion}
 use Rattle.mot_groups.specs.Entity.{own_segments}
 use Rattle.mot_groups.specs.Group.{Segment}
-use Rattle.mot_listening.specs.Waits.{left_packets, longest_group}
+use Rattle.mot_listening.specs.Waits.{early_packets, left_packets, longest_body, longest_group}
 use Rattle.mot_objects.specs.Ids.{is_distinct}
 use Rattle.mot_player.specs.Followable.{IsOneChange}
 use Rattle.mot_player.specs.Place.{Place, Sent, Step, Request, NewTurn, Directory, Follow}
@@ -52,14 +53,24 @@ turn_behind turn (step ∷ steps) = turn_behind turn steps
 -- those of what is to be sent, and those that are added meanwhile.
 abbrev pub TurnsEndSoon : Type 0
 TurnsEndSoon =
-    (address room size : ℕ) (first : Turn) (before during : List Step) (earlier sents : List Sent)
-    (place new : Place) → 0 < room → 0 < size → HasBodies first → AreFollowed first before →
-    sent_by (record (opened_place address room size first) { follows = true }) before
+    (address room size most : ℕ) (first : Turn) (before during : List Step)
+    (earlier sents : List Sent) (place new : Place) → 0 < room → 0 < size → HasBodies first →
+    AreFollowed first before →
+    sent_by (record (opened_place address room size first) { follows = Some most }) before
     ≡ Some (earlier, place) →
     AreFollowed (turn_behind first before) during → sent_by place during ≡ Some (sents, new) →
     none_ends sents ≡ true →
     length sents < longest_group place + left_packets place
     + added_packets room size (turn_behind first before) during
+
+-- However many changes are followed, what comes early takes no more packets than one body more than
+-- may come so, each as long as the longest of the turn.
+abbrev pub EarlyIsShort : Type 0
+EarlyIsShort =
+    (address room size most : ℕ) (first : Turn) (steps : List Step) (sents : List Sent)
+    (place : Place) → 0 < room → 0 < size → HasBodies first → AreFollowed first steps →
+    sent_by (record (opened_place address room size first) { follows = Some most }) steps
+    ≡ Some (sents, place) → early_packets place ≤ (most + 1) * longest_body place
 
 -- Up to the packet that ends a turn, each body that stays is sent with all of its segments that are
 -- left, in their order and each once, whatever directories and changes come between: from the

@@ -1,11 +1,12 @@
 -- What a receiver has that begins to listen at any packet (EN 300 401, EN 301 234).
-use Rattle.std.specs.Prelude.{◌≡◌, ℕ, zero, suc, ◌+◌, ◌==◌, max, true, if◌then◌else◌, List, []}
+use Rattle.std.specs.Prelude.{◌≡◌, ℕ, zero, suc, ◌+◌, ◌==◌, max, true, false, if◌then◌else◌, List, []}
 use Rattle.std.specs.Prelude.{◌∷◌, ◌++◌, filter, map, Option, Some, None}
 use Rattle.std.specs.List.{list_any, AllByRecursion}
 use Rattle.mot_groups.specs.Entity.{entity_of, own_segments, segments_of}
 use Rattle.mot_groups.specs.Group.{Segment, GroupFields, read_group}
 use Rattle.mot_numbers.specs.Reading.{◌>>=◌, read_each}
 use Rattle.mot_objects.specs.Carousel.{Carousel, Object}
+use Rattle.mot_objects.specs.Ids.{contains}
 use Rattle.mot_packets.specs.Gather.{groups_after, have_one_address}
 use Rattle.mot_packets.specs.Packet.{PacketFields, read_packet}
 use Rattle.mot_player.specs.Reading.{TurnFields, read_segments}
@@ -76,3 +77,10 @@ HearsBodiesIn packets c size segments =
     AllByRecursion (λ (o : Object).
     own_segments 4 o.tid segments ≡ segments_of 4 o.tid size o.body →
     HearsEntity packets 4 o.tid o.body) c.objects
+
+-- so it has each body of this carousel that is new in it: whose id no object of the one before had
+abbrev pub HearsNewBodies : List (List ℕ) → (old now : Carousel) → Type 0
+HearsNewBodies packets old now =
+    AllByRecursion (λ (o : Object).
+    contains (map (λ (o : Object). o.tid) old.objects) o.tid ≡ false →
+    HearsEntity packets 4 o.tid o.body) now.objects

@@ -3,7 +3,7 @@ use Rattle.std.proofs.Common.{◌≡◌, ℕ, ◌<◌, ◌≤◌, Bool, true, fa
 use Rattle.std.proofs.Common.{Some, None, ◌⊎◌, inl, inr, refl, sym, subst, ap, ◌∙◌, ◌+◌, length}
 use Rattle.std.proofs.lemmas.List.Elements.{filter-append}
 use Rattle.std.proofs.lemmas.Option.{none-some, same_Some}
-use Rattle.std.specs.Prelude.{◌&&◌, ◌||◌, ◌==◌, IfSome, if◌then◌else◌}
+use Rattle.std.specs.Prelude.{◌&&◌, ◌||◌, ◌==◌, IfSome, if◌then◌else◌, is_some}
 use Rattle.mot_groups.specs.Entity.{pieces}
 use Rattle.mot_groups.specs.Group.{GroupFields, Segment, bytes_of_group}
 use Rattle.mot_numbers.specs.Reading.{is_empty}
@@ -35,7 +35,7 @@ pub record StandsAt (follows between whole : Bool) (size : ℕ) (turn : Turn) (p
     Type 0 where
   pub room : 0 < place.room
   pub size_is : place.segment_size ≡ size
-  pub follows_is : place.follows ≡ follows
+  pub follows_is : is_some place.follows ≡ follows
   pub turn_is : place.turn ≡ turn
   pub keeps : KeepsIndexes place
   pub between_is : is_between place.under_way ≡ between
@@ -45,8 +45,8 @@ not_yet : {A : Type 0} → false ≡ true → A
 not_yet e = absurd (let f : false ≡ true = e in cc)
 
 -- nothing was begun
-pub stands-opened : (address room size : ℕ) (turn : Turn) (follows : Bool) → 0 < room →
-    StandsAt follows true true size turn
+pub stands-opened : (address room size : ℕ) (turn : Turn) (follows : Option ℕ) → 0 < room →
+    StandsAt (is_some follows) true true size turn
     (record (opened_place address room size turn) { follows = follows })
 stands-opened address room size turn follows some = record {
   room = some;
@@ -71,7 +71,8 @@ ended-none false waiting e = not_yet e
 
 -- the next packet of a group
 module _ (follows whole : Bool) (size : ℕ) (turn : Turn) (place : Place) (group : List ℕ) (at : ℕ)
-    (some : 0 < place.room) (same : place.segment_size ≡ size) (is : place.follows ≡ follows)
+    (some : 0 < place.room) (same : place.segment_size ≡ size)
+    (is : is_some place.follows ≡ follows)
     (turn_is : place.turn ≡ turn) (keeps : KeepsIndexes place)
     (next : whole ≡ true → IsNext place) where
   abbrev sent : Sent
@@ -177,7 +178,7 @@ pub stands-changed : (follows between whole : Bool) (size : ℕ) (old : Turn) (p
     StandsAt follows between (not follows) size turn (changed turn place)
 unfolding changed
 stands-changed follows between whole size old place turn st =
-    changed-cases place.follows follows between whole size old place turn st.follows_is st
+    changed-cases (is_some place.follows) follows between whole size old place turn st.follows_is st
 
 whole-heard : (turn : Turn) (size : ℕ) →
     directory_segments turn size ++ of_bodies (segments_of_turn turn size)

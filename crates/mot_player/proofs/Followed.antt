@@ -3,7 +3,7 @@ use Rattle.std.proofs.Common.{◌≡◌, ℕ, suc, zero, ◌+◌, ◌*◌, ◌<�
 use Rattle.std.proofs.Common.{◌∷◌, ◌++◌, length, refl, sym, ap, ◌∙◌, arith, append-nil, eq-eqb}
 use Rattle.std.proofs.Common.{take, drop, subst}
 use Rattle.std.proofs.Math.Seq.{take-append_seam, drop-append_seam}
-use Rattle.std.proofs.lemmas.Bool.{and_parts, eqb-true, ne_eqb, not_from_false}
+use Rattle.std.proofs.lemmas.Bool.{and_parts, eqb-true, lt-ltb, ne_eqb, not_from_false}
 use Rattle.std.proofs.lemmas.Bool.{not_from_true, or_parts}
 use Rattle.std.proofs.lemmas.Grind.{div_ceil_times, flat_map-append}
 use Rattle.std.proofs.lemmas.List.{take-append-drop}
@@ -17,9 +17,11 @@ use Rattle.mot_groups.specs.Group.{Segment}
 use Rattle.mot_numbers.specs.Reading.{is_empty}
 use Rattle.mot_player.specs.Place.{Place, Change, Same, Put, Replaced, Withdrawn, change_between}
 use Rattle.mot_player.specs.Place.{directory_segments, early_after, early_of, follow, followed_by}
-use Rattle.mot_player.specs.Place.{fresh_segments, in_its_place, left_of, of_bodies, rest_after}
+use Rattle.mot_player.specs.Place.{fresh_segments, goes_early, in_its_place, left_of, of_bodies}
+use Rattle.mot_player.specs.Place.{bodies_not_begun, most_early, rest_after}
 use Rattle.mot_player.specs.Place.{rest_of, that_stay, to_send, without}
-use Rattle.mot_player.specs.Staying.{ChangesComeNext, HasDirectory, ReplacedKeepsItsPlace, touches}
+use Rattle.mot_player.specs.Staying.{ChangesComeNext, ChangesGoEarly, HasDirectory}
+use Rattle.mot_player.specs.Staying.{ReplacedKeepsItsPlace, touches}
 use Rattle.mot_player.specs.Turn.{Turn}
 use Rattle.mot_player.proofs.Left.{filter-within, is_empty-append, left-some, own}
 use Rattle.mot_player.proofs.Left.{own-of_bodies, some-directory}
@@ -33,7 +35,7 @@ bodies-kept : (b : Bool) (s : Segment) (xs : List Segment) → (b ≡ true → s
 bodies-kept true s xs k r = (k refl, r)
 bodies-kept false s xs k r = r
 
-bodies-of_bodies : (xs : List Segment) → AreBodies (of_bodies xs)
+pub bodies-of_bodies : (xs : List Segment) → AreBodies (of_bodies xs)
 bodies-of_bodies [] = tt
 bodies-of_bodies (x ∷ xs) =
     bodies-kept (x.kind == 4) x (of_bodies xs) (λ e. eqb-true x.kind 4 e) (bodies-of_bodies xs)
@@ -69,7 +71,7 @@ pub bodies-numbered : (tid n : ℕ) (ps : List (List ℕ)) → AreBodies (number
 bodies-numbered tid n [] = tt
 bodies-numbered tid n (p ∷ ps) = (refl, bodies-numbered tid (n + 1) ps)
 
-of_bodies-same : (xs : List Segment) → AreBodies xs → of_bodies xs ≡ xs
+pub of_bodies-same : (xs : List Segment) → AreBodies xs → of_bodies xs ≡ xs
 of_bodies-same [] k = refl
 of_bodies-same (x ∷ xs) k =
     rw (eq-eqb x.kind 4 k.0) (ap (λ (ss : List Segment). x ∷ ss) (of_bodies-same xs k.1))
@@ -120,29 +122,37 @@ bodies-put : (fresh rest : List Segment) (b : Bool) → AreBodies fresh → AreB
 bodies-put fresh rest true f k = tt
 bodies-put fresh rest false f k = bodies-append rest fresh k f
 
-bodies-rest_after : (change : Change) (fresh rest : List Segment) → AreBodies fresh →
-    AreBodies rest → AreBodies (rest_after change fresh rest)
-bodies-rest_after Same fresh rest f k = k
-bodies-rest_after (Put new) fresh rest f k = bodies-put fresh rest (is_empty rest) f k
-bodies-rest_after (Replaced old new) fresh rest f k = bodies-in_place old fresh rest f k
-bodies-rest_after (Withdrawn old) fresh rest f k =
+bodies-rest_after : (change : Change) (early : Bool) (fresh rest : List Segment) →
+    AreBodies fresh → AreBodies rest → AreBodies (rest_after change early fresh rest)
+bodies-rest_after Same early fresh rest f k = k
+bodies-rest_after (Put new) early fresh rest f k =
+    bodies-put fresh rest (is_empty rest && early) f k
+bodies-rest_after (Replaced old new) early fresh rest f k = bodies-in_place old fresh rest f k
+bodies-rest_after (Withdrawn old) early fresh rest f k =
     bodies-filter (λ (s : Segment). not (s.tid == old)) rest k
+
+bodies-if : (b : Bool) (xs : List Segment) → AreBodies xs → AreBodies (if b then xs else [])
+bodies-if true xs k = k
+bodies-if false xs k = tt
 
 pub bodies-early_after : (change : Change) (place : Place) → AreBodies (early_after change place)
 bodies-early_after change place =
-    bodies-append (that_stay change (early_of place)) (fresh_segments place.segment_size change)
+    let fresh : List Segment = fresh_segments place.segment_size change in
+    let goes : Bool = goes_early change place in
+    bodies-append (that_stay change (early_of place)) (if goes then fresh else [])
     (bodies-that_stay change (early_of place) (bodies-early_of place))
-    (bodies-fresh place.segment_size change)
+    (bodies-if goes fresh (bodies-fresh place.segment_size change))
 
 -- the rest of the turn of a place after a change
 abbrev pub renewed : Change → Place → List Segment
 renewed change place =
-    rest_after change (fresh_segments place.segment_size change) (rest_of place)
+    rest_after change (goes_early change place) (fresh_segments place.segment_size change)
+    (rest_of place)
 
 pub bodies-renewed : (change : Change) (place : Place) → AreBodies (renewed change place)
 bodies-renewed change place =
-    bodies-rest_after change (fresh_segments place.segment_size change) (rest_of place)
-    (bodies-fresh place.segment_size change) (bodies-rest_of place)
+    bodies-rest_after change (goes_early change place) (fresh_segments place.segment_size change)
+    (rest_of place) (bodies-fresh place.segment_size change) (bodies-rest_of place)
 
 -- the new directory waits, and so something is left
 followed-waits : (change : Change) (turn : Turn) (place : Place) → 0 < place.segment_size →
@@ -166,18 +176,16 @@ followed-left change turn place some has =
     left-some (followed_by change turn place) place.under_way
     (followed-waits change turn place some has)
 
--- of bodies, those that come early are left, and the rest
-pub followed-bodies : (change : Change) (turn : Turn) (place : Place) → 0 < place.segment_size →
-    HasDirectory turn →
-    of_bodies (left_of (followed_by change turn place))
+-- of bodies, those that come early wait, and the rest
+pub followed-waiting : (change : Change) (turn : Turn) (place : Place) →
+    of_bodies (followed_by change turn place).waiting
     ≡ early_after change place ++ renewed change place
-followed-bodies change turn place some has =
+followed-waiting change turn place =
     let directory : List Segment = directory_segments turn place.segment_size in
     let early : List Segment = early_after change place in
     let rest : List Segment = renewed change place in
     let is_body : Segment → Bool = λ (s : Segment). s.kind == 4 in
-    ap of_bodies (followed-left change turn place some has)
-    ∙ filter-append is_body (directory ++ early) rest
+    filter-append is_body (directory ++ early) rest
     ∙ ap (λ (ss : List Segment). ss ++ of_bodies rest)
     (filter-append is_body directory early
     ∙ ap (λ (ss : List Segment). ss ++ of_bodies early)
@@ -185,6 +193,14 @@ followed-bodies change turn place some has =
     ∙ of_bodies-same early (bodies-early_after change place))
     ∙ ap (λ (ss : List Segment). early ++ ss)
     (of_bodies-same rest (bodies-renewed change place))
+
+-- and those are left
+pub followed-bodies : (change : Change) (turn : Turn) (place : Place) → 0 < place.segment_size →
+    HasDirectory turn →
+    of_bodies (left_of (followed_by change turn place))
+    ≡ early_after change place ++ renewed change place
+followed-bodies change turn place some has =
+    ap of_bodies (followed-left change turn place some has) ∙ followed-waiting change turn place
 
 followed-early : (change : Change) (turn : Turn) (place : Place) → 0 < place.segment_size →
     HasDirectory turn → early_of (followed_by change turn place) ≡ early_after change place
@@ -264,50 +280,65 @@ own-in_place p old fresh (x ∷ xs) w f =
 abbrev pub IsOfOthers : (Segment → Bool) → Change → Type 0
 IsOfOthers p change = (s : Segment) → p s ≡ true → touches change s.tid ≡ false
 
+-- of the body that came none pass
+none-fresh : (p : Segment → Bool) (change : Change) (size : ℕ) → IsOfOthers p change →
+    filter p (fresh_segments size change) ≡ []
+none-fresh p Same size w = refl
+none-fresh p (Put new) size w = none-of p size new w
+none-fresh p (Replaced old new) size w =
+    none-of p size new (λ s e. (or_parts (s.tid == old) (s.tid == new.0) (w s e)).1)
+none-fresh p (Withdrawn old) size w = refl
+
+none-if : (p : Segment → Bool) (b : Bool) (xs : List Segment) → filter p xs ≡ [] →
+    filter p (if b then xs else []) ≡ []
+none-if p true xs e = e
+none-if p false xs e = refl
+
+-- of what stays those that pass are as they were
+others-stay : (p : Segment → Bool) (change : Change) (xs : List Segment) → IsOfOthers p change →
+    filter p (that_stay change xs) ≡ filter p xs
+others-stay p Same xs w = refl
+others-stay p (Put new) xs w = refl
+others-stay p (Replaced old new) xs w =
+    filter-within p (λ (s : Segment). not (s.tid == old))
+    (λ s e. not_from_false (s.tid == old) (or_parts (s.tid == old) (s.tid == new.0) (w s e)).0) xs
+others-stay p (Withdrawn old) xs w =
+    filter-within p (λ (s : Segment). not (s.tid == old))
+    (λ s e. not_from_false (s.tid == old) (w s e)) xs
+
 -- of what comes early, and of the rest, those that pass are as they were
 others-early : (p : Segment → Bool) (change : Change) (place : Place) → IsOfOthers p change →
     filter p (early_after change place) ≡ filter p (early_of place)
-others-early p Same place w = ap (filter p) (append-nil (early_of place))
-others-early p (Put new) place w =
-    let early : List Segment = early_of place in
-    filter-append p early (segments_of 4 new.0 place.segment_size new.1)
-    ∙ ap (λ (ss : List Segment). filter p early ++ ss) (none-of p place.segment_size new w)
-    ∙ append-nil (filter p early)
-others-early p (Replaced old new) place w =
-    let early : List Segment = early_of place in
-    let stays : List Segment = without old early in
-    filter-append p stays (segments_of 4 new.0 place.segment_size new.1)
+others-early p change place w =
+    let stays : List Segment = that_stay change (early_of place) in
+    let fresh : List Segment = fresh_segments place.segment_size change in
+    let goes : Bool = goes_early change place in
+    filter-append p stays (if goes then fresh else [])
     ∙ ap (λ (ss : List Segment). filter p stays ++ ss)
-    (none-of p place.segment_size new
-    (λ s e. (or_parts (s.tid == old) (s.tid == new.0) (w s e)).1))
-    ∙ append-nil (filter p stays)
-    ∙ filter-within p (λ (s : Segment). not (s.tid == old))
-    (λ s e. not_from_false (s.tid == old) (or_parts (s.tid == old) (s.tid == new.0) (w s e)).0) early
-others-early p (Withdrawn old) place w =
-    let early : List Segment = early_of place in
-    ap (filter p) (append-nil (without old early))
-    ∙ filter-within p (λ (s : Segment). not (s.tid == old))
-    (λ s e. not_from_false (s.tid == old) (w s e)) early
+    (none-if p goes fresh (none-fresh p change place.segment_size w))
+    ∙ append-nil (filter p stays) ∙ others-stay p change (early_of place) w
 
-others-put : (p : Segment → Bool) (fresh rest : List Segment) → filter p fresh ≡ [] →
-    filter p (if is_empty rest then [] else rest ++ fresh) ≡ filter p rest
-others-put p fresh [] f = refl
-others-put p fresh (x ∷ rest) f =
+others-put : (p : Segment → Bool) (fresh rest : List Segment) (early : Bool) →
+    filter p fresh ≡ [] →
+    filter p (if is_empty rest && early then [] else rest ++ fresh) ≡ filter p rest
+others-put p fresh [] true f = refl
+others-put p fresh [] false f = f
+others-put p fresh (x ∷ rest) early f =
     filter-append p (x ∷ rest) fresh
     ∙ ap (λ (ss : List Segment). filter p (x ∷ rest) ++ ss) f
     ∙ append-nil (filter p (x ∷ rest))
 
-others-rest : (p : Segment → Bool) (change : Change) (size : ℕ) (rest : List Segment) →
-    IsOfOthers p change →
-    filter p (rest_after change (fresh_segments size change) rest) ≡ filter p rest
-others-rest p Same size rest w = refl
-others-rest p (Put new) size rest w =
-    others-put p (segments_of 4 new.0 size new.1) rest (none-of p size new w)
-others-rest p (Replaced old new) size rest w =
+others-rest : (p : Segment → Bool) (change : Change) (early : Bool) (size : ℕ)
+    (rest : List Segment) → IsOfOthers p change →
+    filter p (rest_after change early (fresh_segments size change) rest) ≡ filter p rest
+others-rest p Same early size rest w = refl
+others-rest p (Put new) early size rest w =
+    others-put p (segments_of 4 new.0 size new.1) rest early (none-of p size new w)
+others-rest p (Replaced old new) early size rest w =
     others-in_place p old (segments_of 4 new.0 size new.1) rest
     (λ s e. (or_parts (s.tid == old) (s.tid == new.0) (w s e)).0)
     (none-of p size new (λ s e. (or_parts (s.tid == old) (s.tid == new.0) (w s e)).1))
-others-rest p (Withdrawn old) size rest w =
+others-rest p (Withdrawn old) early size rest w =
     filter-within p (λ (s : Segment). not (s.tid == old))
     (λ s e. not_from_false (s.tid == old) (w s e)) rest
 
@@ -330,7 +361,8 @@ own-followed id turn place some has stays =
     ∙ ap (λ (ss : List Segment). ss ++ own_segments 4 id (renewed change place))
     (others-early (own id) change place others)
     ∙ ap (λ (ss : List Segment). own_segments 4 id (early_of place) ++ ss)
-    (others-rest (own id) change place.segment_size (rest_of place) others)
+    (others-rest (own id) change (goes_early change place) place.segment_size (rest_of place)
+    others)
     ∙ sym (filter-append (own id) (early_of place) (rest_of place))
     ∙ ap (own_segments 4 id) (take-append-drop place.early left)
     ∙ own-of_bodies id (left_of place)
@@ -409,24 +441,29 @@ gone-early Same id place apart e = absurd (let f : false ≡ true = e in cc)
 gone-early (Put new) id place apart e = absurd (let f : false ≡ true = e in cc)
 gone-early (Replaced old new) id place apart e =
     let fresh : List Segment = segments_of 4 new.0 place.segment_size new.1 in
-    filter-append (own id) (without old (early_of place)) fresh
-    ∙ ap (λ (ss : List Segment). ss ++ own_segments 4 id fresh)
+    let goes : Bool = goes_early (Replaced old new) place in
+    filter-append (own id) (without old (early_of place)) (if goes then fresh else [])
+    ∙ ap (λ (ss : List Segment). ss ++ own_segments 4 id (if goes then fresh else []))
     (without-none id old (early_of place) (eqb-true id old e))
-    ∙ fresh-none id place.segment_size old new (eqb-true id old e) apart
+    ∙ none-if (own id) goes fresh
+    (fresh-none id place.segment_size old new (eqb-true id old e) apart)
 gone-early (Withdrawn old) id place apart e =
-    ap (own_segments 4 id) (append-nil (without old (early_of place)))
-    ∙ without-none id old (early_of place) (eqb-true id old e)
+    let goes : Bool = goes_early (Withdrawn old) place in
+    filter-append (own id) (without old (early_of place)) (if goes then [] else [])
+    ∙ ap (λ (ss : List Segment). ss ++ own_segments 4 id (if goes then [] else []))
+    (without-none id old (early_of place) (eqb-true id old e))
+    ∙ none-if (own id) goes [] refl
 
-gone-rest : (change : Change) (id size : ℕ) (rest : List Segment) → IsApart change →
-    takes_away change id ≡ true →
-    own_segments 4 id (rest_after change (fresh_segments size change) rest) ≡ []
-gone-rest Same id size rest apart e = absurd (let f : false ≡ true = e in cc)
-gone-rest (Put new) id size rest apart e = absurd (let f : false ≡ true = e in cc)
-gone-rest (Replaced old new) id size rest apart e =
+gone-rest : (change : Change) (early : Bool) (id size : ℕ) (rest : List Segment) →
+    IsApart change → takes_away change id ≡ true →
+    own_segments 4 id (rest_after change early (fresh_segments size change) rest) ≡ []
+gone-rest Same early id size rest apart e = absurd (let f : false ≡ true = e in cc)
+gone-rest (Put new) early id size rest apart e = absurd (let f : false ≡ true = e in cc)
+gone-rest (Replaced old new) early id size rest apart e =
     own-in_place (own id) old (segments_of 4 new.0 size new.1) rest
     (λ s f. eq-eqb s.tid old (own-id id s f ∙ eqb-true id old e))
     (fresh-none id size old new (eqb-true id old e) apart)
-gone-rest (Withdrawn old) id size rest apart e =
+gone-rest (Withdrawn old) early id size rest apart e =
     without-none id old rest (eqb-true id old e)
 
 own-gone : (change : Change) (id : ℕ) (turn : Turn) (place : Place) → 0 < place.segment_size →
@@ -438,7 +475,7 @@ own-gone change id turn place some has apart e =
     ∙ filter-append (own id) (early_after change place) (renewed change place)
     ∙ ap (λ (ss : List Segment). ss ++ own_segments 4 id (renewed change place))
     (gone-early change id place apart e)
-    ∙ gone-rest change id place.segment_size (rest_of place) apart e
+    ∙ gone-rest change (goes_early change place) id place.segment_size (rest_of place) apart e
 
 -- of a body that is gone no segment comes
 pub gone-none : (id : ℕ) (turn : Turn) (place : Place) → 0 < place.segment_size →
@@ -468,6 +505,41 @@ changes-come-next place turn some has =
           record { kind = 4; tid = id; number = 0; last = true; bytes = [] } in
           gone-none id turn place some has (gone-taken change s (e s refl));
     }
+
+-- of what stays no more bodies are not begun
+fewer-cases : (b c : Bool) (x : Segment) (ys zs : List Segment) →
+    bodies_not_begun ys ≤ bodies_not_begun zs → (x.number == 0) ≡ c →
+    bodies_not_begun (if b then x ∷ ys else ys) ≤ bodies_not_begun (x ∷ zs)
+fewer-cases true true x ys zs l e = rw e (omega (arith, l))
+fewer-cases true false x ys zs l e = rw e l
+fewer-cases false true x ys zs l e = rw e (omega (arith, l))
+fewer-cases false false x ys zs l e = rw e l
+
+fewer-filter : (p : Segment → Bool) (xs : List Segment) →
+    bodies_not_begun (filter p xs) ≤ bodies_not_begun xs
+fewer-filter p [] = omega arith
+fewer-filter p (x ∷ xs) =
+    fewer-cases (p x) (x.number == 0) x (filter p xs) xs (fewer-filter p xs) refl
+
+pub fewer-stay : (change : Change) (xs : List Segment) →
+    bodies_not_begun (that_stay change xs) ≤ bodies_not_begun xs
+fewer-stay Same xs = omega arith
+fewer-stay (Put new) xs = omega arith
+fewer-stay (Replaced old new) xs = fewer-filter (λ (s : Segment). not (s.tid == old)) xs
+fewer-stay (Withdrawn old) xs = fewer-filter (λ (s : Segment). not (s.tid == old)) xs
+
+-- changes go early where fewer do so than may
+pub changes-go-early : ChangesGoEarly
+unfolding follow
+changes-go-early place turn some has fewer =
+    let change : Change = change_between place.turn.bodies turn.bodies in
+    let early : List Segment = early_of place in
+    let goes : goes_early change place ≡ true =
+    lt-ltb (bodies_not_begun (that_stay change early)) (most_early place)
+    (omega (arith, fewer, fewer-stay change early)) in
+    followed-early change turn place some has
+    ∙ ap (λ (b : Bool). that_stay change early
+    ++ (if b then fresh_segments place.segment_size change else [])) goes
 
 -- where none of the old body stood, all stays
 kept-place : (fresh : List Segment) (x : Segment) (rest : List Segment) (t z k : Bool) →

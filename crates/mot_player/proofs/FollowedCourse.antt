@@ -6,7 +6,7 @@ use Rattle.std.proofs.lemmas.Bool.{cases_lt, eqb-false, eqb-true, le-ltb, lt-ltb
 use Rattle.std.proofs.lemmas.List.{length-append}
 use Rattle.std.proofs.lemmas.List.Elements.{filter-append}
 use Rattle.std.specs.List.{AllByRecursion}
-use Rattle.std.specs.Prelude.{◌==◌, not, if◌then◌else◌}
+use Rattle.std.specs.Prelude.{◌==◌, ◌&&◌, not, if◌then◌else◌}
 use Rattle.mot_groups.specs.Entity.{segments_of}
 use Rattle.mot_groups.specs.Group.{Segment}
 use Rattle.mot_numbers.specs.Reading.{is_empty}
@@ -43,11 +43,11 @@ pub record GoesOn (size : ℕ) (old new : Entity) (olds news : List (ℕ × List
       ≡ that_stay change (queued size (entities old olds) q)
   pub fresh : queued size (entities new news) (one_more (fresh_of difference count) [])
       ≡ fresh_segments size change
-  pub rest : (e s : ℕ) → 0 < e → e ≤ count → (e ≡ count → s ≡ 0) →
+  pub rest : (early : Bool) (e s : ℕ) → 0 < e → e ≤ count → (e ≡ count → s ≡ 0) →
       is_empty (segments_from size (entities old olds) e s) ≡ (e == count) →
-      segments_from size (entities new news) (rest_from difference count (waits e s)).entity
-      (rest_from difference count (waits e s)).segment
-      ≡ rest_after change (fresh_segments size change)
+      segments_from size (entities new news) (rest_from difference early count (waits e s)).entity
+      (rest_from difference early count (waits e s)).segment
+      ≡ rest_after change early (fresh_segments size change)
       (segments_from size (entities old olds) e s)
 
 -- of a body that is queued
@@ -110,7 +110,7 @@ pub goes_on-same : (size : ℕ) (old new : Entity) (bodies : List (ℕ × List �
 goes_on-same size old new bodies = record {
   queue = λ q all. queue-of size old new bodies bodies Nothing Same q (λ k s q l. refl) all;
   fresh = refl;
-  rest = λ e s some l ends empty. rest-same size old new bodies e s some;
+  rest = λ early e s some l ends empty. rest-same size old new bodies e s some;
 }
 
 -- where one is put behind them
@@ -128,35 +128,47 @@ fresh-put size new olds f (suc k) h =
     ap (λ (ss : List Segment). ss ++ []) (one-behind size olds (f ∷ []) k 0 0 (omega (arith, h)))
     ∙ append-nil (segments_of 4 f.0 size f.1)
 
+none-empty : (xs : List Segment) → is_empty xs ≡ true → xs ≡ []
+none-empty [] e = refl
+none-empty (x ∷ xs) e = absurd (let g : false ≡ true = e in cc)
+
 rest-put : (size : ℕ) (old new : Entity) (olds : List (ℕ × List ℕ)) (f : ℕ × List ℕ)
-    (k s : ℕ) (t : Bool) → suc k ≤ length olds + 1 → (suc k == length olds + 1) ≡ t →
-    is_empty (from size olds k s) ≡ t →
+    (k s : ℕ) (t early : Bool) → suc k ≤ length olds + 1 → (suc k ≡ length olds + 1 → s ≡ 0) →
+    (suc k == length olds + 1) ≡ t → is_empty (from size olds k s) ≡ t →
     segments_from size (entities new (olds ++ f ∷ []))
-    (if t then waits (length olds + 1 + 1) 0 else waits (suc k) s).entity
-    (if t then waits (length olds + 1 + 1) 0 else waits (suc k) s).segment
-    ≡ (if t then [] else from size olds k s ++ segments_of 4 f.0 size f.1)
-rest-put size old new olds f k s true l e empty =
+    (if t && early then waits (length olds + 1 + 1) 0 else waits (suc k) s).entity
+    (if t && early then waits (length olds + 1 + 1) 0 else waits (suc k) s).segment
+    ≡ (if t && early then [] else from size olds k s ++ segments_of 4 f.0 size f.1)
+rest-put size old new olds f k s true false l ends e empty =
+    let last : suc k ≡ length olds + 1 = eqb-true (suc k) (length olds + 1) e in
+    from-behind size olds (f ∷ []) k 0 s (omega (arith, last))
+    ∙ append-nil (drop s (segments_of 4 f.0 size f.1))
+    ∙ ap (λ (n : ℕ). drop n (segments_of 4 f.0 size f.1)) (ends last)
+    ∙ ap (λ (ss : List Segment). ss ++ segments_of 4 f.0 size f.1)
+    (sym (none-empty (from size olds k s) empty))
+rest-put size old new olds f k s true true l ends e empty =
     let two : length olds + 1 + 1 ≡ suc (length olds + 1) = omega arith in
     ap (λ (n : ℕ). segments_from size (entities new (olds ++ f ∷ [])) n 0) two
     ∙ from-behind size olds (f ∷ []) (length olds + 1) 1 0 refl
-rest-put size old new olds f k s false l e empty =
+rest-put size old new olds f k s false early l ends e empty =
     let less : k < length olds =
     omega (arith, l, eqb-false (suc k) (length olds + 1) e) in
     from-append size olds (f ∷ []) k s less
     ∙ ap (λ (ss : List Segment). from size olds k s ++ ss) (append-nil (segments_of 4 f.0 size f.1))
 
 rest-put-at : (size : ℕ) (old new : Entity) (olds : List (ℕ × List ℕ)) (f : ℕ × List ℕ)
-    (e s : ℕ) → 0 < e → e ≤ length olds + 1 →
+    (early : Bool) (e s : ℕ) → 0 < e → e ≤ length olds + 1 → (e ≡ length olds + 1 → s ≡ 0) →
     is_empty (segments_from size (entities old olds) e s) ≡ (e == length olds + 1) →
     segments_from size (entities new (olds ++ f ∷ []))
-    (rest_from Added (length olds + 1) (waits e s)).entity
-    (rest_from Added (length olds + 1) (waits e s)).segment
-    ≡ rest_after (Put f) (segments_of 4 f.0 size f.1) (segments_from size (entities old olds) e s)
-rest-put-at size old new olds f zero s some l empty = absurd (omega (arith, some))
-rest-put-at size old new olds f (suc k) s some l empty =
-    rest-put size old new olds f k s (suc k == length olds + 1) l refl empty
-    ∙ ap (λ (t : Bool). if t then [] else from size olds k s ++ segments_of 4 f.0 size f.1)
-    (sym empty)
+    (rest_from Added early (length olds + 1) (waits e s)).entity
+    (rest_from Added early (length olds + 1) (waits e s)).segment
+    ≡ rest_after (Put f) early (segments_of 4 f.0 size f.1)
+    (segments_from size (entities old olds) e s)
+rest-put-at size old new olds f early zero s some l ends empty = absurd (omega (arith, some))
+rest-put-at size old new olds f early (suc k) s some l ends empty =
+    rest-put size old new olds f k s (suc k == length olds + 1) early l ends refl empty
+    ∙ ap (λ (t : Bool). if t && early then []
+    else from size olds k s ++ segments_of 4 f.0 size f.1) (sym empty)
 
 pub goes_on-put : (size : ℕ) (old new : Entity) (olds : List (ℕ × List ℕ)) (f : ℕ × List ℕ) →
     GoesOn size old new olds (olds ++ f ∷ []) (length olds + 1) Added (Put f)
@@ -164,7 +176,8 @@ goes_on-put size old new olds f = record {
   queue = λ q all. queue-of size old new olds (olds ++ f ∷ []) Added (Put f) q
       (one-put size new olds f) all;
   fresh = fresh-put size new olds f (length olds + 1) refl;
-  rest = λ e s some l ends empty. rest-put-at size old new olds f e s some l empty;
+  rest = λ early e s some l ends empty. rest-put-at size old new olds f early e s some l ends
+      empty;
 }
 
 -- where the others lie: before the one that goes, or behind it
@@ -230,14 +243,16 @@ rest-replaced-inside size new before after f k s false e z =
     ∙ from-first size (map body_entity after)
 
 rest-replaced : (size : ℕ) (old new : Entity) (before after : List (ℕ × List ℕ))
-    (g f : ℕ × List ℕ) (count e s : ℕ) → 0 < size → IsGoing before after g → 0 < e →
+    (g f : ℕ × List ℕ) (early : Bool) (count e s : ℕ) → 0 < size → IsGoing before after g →
+    0 < e →
     segments_from size (entities new (before ++ f ∷ after))
-    (rest_from (Changed (1 + length before)) count (waits e s)).entity
-    (rest_from (Changed (1 + length before)) count (waits e s)).segment
-    ≡ rest_after (Replaced g.0 f) (segments_of 4 f.0 size f.1)
+    (rest_from (Changed (1 + length before)) early count (waits e s)).entity
+    (rest_from (Changed (1 + length before)) early count (waits e s)).segment
+    ≡ rest_after (Replaced g.0 f) early (segments_of 4 f.0 size f.1)
     (segments_from size (entities old (before ++ g ∷ after)) e s)
-rest-replaced size old new before after g f count zero s some is l = absurd (omega (arith, l))
-rest-replaced size old new before after g f count (suc k) s some is l =
+rest-replaced size old new before after g f early count zero s some is l =
+    absurd (omega (arith, l))
+rest-replaced size old new before after g f early count (suc k) s some is l =
     let n : ℕ = 1 + length before in
     let fresh : List Segment = segments_of 4 f.0 size f.1 in
     elim (cases_lt k (length before)) [
@@ -266,7 +281,7 @@ goes_on-replaced size old new before after g f some is = record {
       (Changed (1 + length before)) (Replaced g.0 f) q
       (one-replaced size new before after g f some is) all;
   fresh = fresh-replaced size new before after f (1 + length before) refl;
-  rest = λ e s l m ends empty. rest-replaced size old new before after g f
+  rest = λ early e s l m ends empty. rest-replaced size old new before after g f early
       (length (before ++ g ∷ after) + 1) e s some is l;
 }
 
@@ -313,14 +328,16 @@ none-or true xs = refl
 none-or false xs = refl
 
 rest-withdrawn : (size : ℕ) (old new : Entity) (before after : List (ℕ × List ℕ))
-    (g : ℕ × List ℕ) (count e s : ℕ) → 0 < size → IsGoing before after g → 0 < e →
+    (g : ℕ × List ℕ) (early : Bool) (count e s : ℕ) → 0 < size → IsGoing before after g →
+    0 < e →
     segments_from size (entities new (before ++ after))
-    (rest_from (Removed (1 + length before)) count (waits e s)).entity
-    (rest_from (Removed (1 + length before)) count (waits e s)).segment
-    ≡ rest_after (Withdrawn g.0) []
+    (rest_from (Removed (1 + length before)) early count (waits e s)).entity
+    (rest_from (Removed (1 + length before)) early count (waits e s)).segment
+    ≡ rest_after (Withdrawn g.0) early []
     (segments_from size (entities old (before ++ g ∷ after)) e s)
-rest-withdrawn size old new before after g count zero s some is l = absurd (omega (arith, l))
-rest-withdrawn size old new before after g count (suc k) s some is l =
+rest-withdrawn size old new before after g early count zero s some is l =
+    absurd (omega (arith, l))
+rest-withdrawn size old new before after g early count (suc k) s some is l =
     let n : ℕ = 1 + length before in
     let olds : List (ℕ × List ℕ) = before ++ g ∷ after in
     elim (cases_lt k (length before)) [
@@ -364,6 +381,6 @@ goes_on-withdrawn size old new before after g some is = record {
       (Removed (1 + length before)) (Withdrawn g.0) q
       (one-withdrawn size new before after g some is) all;
   fresh = refl;
-  rest = λ e s l m ends empty. rest-withdrawn size old new before after g
+  rest = λ early e s l m ends empty. rest-withdrawn size old new before after g early
       (length (before ++ g ∷ after) + 1) e s some is l;
 }

@@ -6,18 +6,19 @@ use Rattle.std.proofs.Math.Seq.{take-append_seam, drop-append_seam}
 use Rattle.std.proofs.lemmas.Bool.{lt-ltb}
 use Rattle.std.proofs.lemmas.List.{append_assoc, length-map}
 use Rattle.std.specs.List.{AllByRecursion}
-use Rattle.std.specs.Prelude.{if◌then◌else◌, slice_index}
+use Rattle.std.specs.Prelude.{if◌then◌else◌, nat_lt, slice_index, unwrap_or}
 use Rattle.mot_groups.specs.Group.{Segment}
 use Rattle.mot_player.specs.Course.{CourseView, Entity, entities_of, entity_in, queued}
 use Rattle.mot_player.specs.Course.{segments_from, segments_in, waiting_of}
-use Rattle.mot_player.specs.Inner.Course.{followed, fresh_of, has_ended, has_ended_with, kept_of}
-use Rattle.mot_player.specs.Inner.Course.{left_course, one_more, whole_course}
+use Rattle.mot_player.specs.Inner.Course.{followed, fresh_of, has_ended, has_ended_with, is_queued}
+use Rattle.mot_player.specs.Inner.Course.{kept_of, left_course, one_more, whole_course}
 use Rattle.mot_player.specs.Inner.Difference.{difference_from, difference_in}
 use Rattle.mot_player.specs.PlayerView.{AreBodiesFor, BodyPlan, PlayerView, TurnPlan}
 use Rattle.mot_player.specs.PlayerView.{place_of, turn_with, with_bodies}
 use Rattle.mot_player.specs.Followable.{IsFollowable}
 use Rattle.mot_player.specs.Inner.Entities.{IsInside, IsOnCourse, IsPlannable, IsWithinTurn}
-use Rattle.mot_player.specs.Place.{Change, Place, UnderWay, change_between, directory_segments}
+use Rattle.mot_player.specs.Place.{Change, Place, UnderWay, bodies_not_begun, change_between}
+use Rattle.mot_player.specs.Place.{directory_segments, goes_early}
 use Rattle.mot_player.specs.Place.{early_after, early_of, follow, fresh_segments, left_of, left_with, of_bodies}
 use Rattle.mot_player.specs.Place.{rest_after, rest_of, that_stay}
 use Rattle.mot_player.specs.Turn.{Turn}
@@ -26,7 +27,9 @@ use Rattle.mot_player.specs.declared.difference.Difference.{Difference}
 use Rattle.mot_player.proofs.Followed.{renewed}
 use Rattle.mot_player.proofs.FollowedCourse.{GoesOn, IsOfBody}
 use Rattle.mot_player.proofs.FollowedTurn.{AreSome, IsFound, found-one, plans}
+use Rattle.mot_player.proofs.Moved.{kept-on}
 use Rattle.mot_player.proofs.NextSegment.{first-at-end, waits-none}
+use Rattle.mot_player.proofs.NotBegun.{queued-not_begun}
 use Rattle.mot_player.proofs.Passing.{bodies-waiting, course-ended, course-whole, on-whole}
 use Rattle.mot_player.proofs.Segments.{body_entity, length-with_bodies}
 
@@ -73,6 +76,11 @@ queued-append size es (x ∷ xs) ys =
     let first : List Segment = drop x.segment (segments_in size (entity_in es x.entity)) in
     ap (λ (ss : List Segment). first ++ ss) (queued-append size es xs ys)
     ∙ sym (append_assoc first (queued size es xs) (queued size es ys))
+
+queued-if : (size : ℕ) (es : List Entity) (q : List Waiting) (ss : List Segment) (b : Bool) →
+    queued size es q ≡ ss → queued size es (if b then q else []) ≡ (if b then ss else [])
+queued-if size es q ss true e = e
+queued-if size es q ss false e = refl
 
 -- What is left of a turn that goes on by this course, where so much is under way.
 pub record IsLeft (s : PlayerView) (bodies : List (List ℕ)) (under : Option UnderWay)
@@ -129,10 +137,10 @@ pub record IsFollowedOn (s : PlayerView) (new : TurnPlan) (bodies next : List (L
   pub difference : Difference
   pub found : difference_from 1 s.turn.bodies new.bodies ≡ Some difference
   pub waiting : waiting_of s.segment_size (turn_with new next)
-      (followed difference (length s.turn.bodies + 1) c)
+      (followed difference (unwrap_or s.follows 0) (length s.turn.bodies + 1) c)
       ≡ (follow (turn_with new next) (place_of s bodies)).waiting
   pub early : length (queued s.segment_size (entities_of (turn_with new next))
-      (followed difference (length s.turn.bodies + 1) c).queue)
+      (followed difference (unwrap_or s.follows 0) (length s.turn.bodies + 1) c).queue)
       ≡ (follow (turn_with new next) (place_of s bodies)).early
 
 within-count : (plan : TurnPlan) (size e s : ℕ) → IsWithinTurn plan size e s →
@@ -142,11 +150,11 @@ within-count plan size e s (inr h) = omega (arith, h.0)
 
 pub followed-on : (s : PlayerView) (new : TurnPlan) (bodies next : List (List ℕ))
     (c : CourseView) → 0 < s.segment_size → AreBodiesFor s.turn bodies → AreBodiesFor new next →
-    IsPlannable s.turn → IsLeft s bodies s.under_way c →
+    IsPlannable s.turn → IsPlannable new → IsLeft s bodies s.under_way c →
     IsFollowable (turn_with s.turn bodies) (turn_with new next) →
     IsFollowedOn s new bodies next c
 unfolding follow
-followed-on s new bodies next c some are next_are plannable is followable =
+followed-on s new bodies next c some are next_are plannable new_plannable is followable =
     let size : ℕ = s.segment_size in
     let old_turn : Turn = turn_with s.turn bodies in
     let turn : Turn = turn_with new next in
@@ -160,6 +168,7 @@ followed-on s new bodies next c some are next_are plannable is followable =
     followable.distinct (some-bodies s.turn.bodies bodies are plannable.bodies)
     followable.change in
     let n : ℕ = length s.turn.bodies + 1 in
+    let most : ℕ = unwrap_or s.follows 0 in
     let d : Difference = one.difference in
     let goes_on : GoesOn size (record { kind = 6; tid = s.turn.tid; bytes = s.turn.directory })
     (record { kind = 6; tid = new.tid; bytes = new.directory }) old_turn.bodies turn.bodies n d
@@ -180,28 +189,44 @@ followed-on s new bodies next c some are next_are plannable is followable =
     let rest_is : rest_of place ≡ rest =
     ap (λ (k : ℕ). drop k (of_bodies (left_of place))) is.early ∙ ap (drop (length soon)) left
     ∙ drop-append_seam soon rest in
-    let queue : queued size (entities_of turn) (followed d n c).queue ≡ early_after change place =
-    queued-append size (entities_of turn) (kept_of d c.queue) (one_more (fresh_of d n) [])
+    let found : difference_from 1 s.turn.bodies new.bodies ≡ Some d =
+    ap (λ (bs : List BodyPlan). difference_from 1 bs new.bodies)
+    (sym (plans-are s.turn.bodies bodies are))
+    ∙ ap (difference_from 1 (plans old_turn.bodies))
+    (sym (plans-are new.bodies next next_are)) ∙ one.found in
+    let stays : queued size (entities_of turn) (kept_of d c.queue)
+    ≡ that_stay change (early_of place) =
+    goes_on.queue c.queue (queued-bodies s.turn size c.queue is.on.queue)
+    ∙ ap (that_stay change) (sym early_is) in
+    let early : Bool = is_queued d most c.queue in
+    let goes : early ≡ goes_early change place =
+    ap (λ (k : ℕ). nat_lt k most)
+    (sym (queued-not_begun new next size (kept_of d c.queue) some next_are
+    (kept-on s.turn new size new_plannable d c.queue found is.on.queue))
+    ∙ ap bodies_not_begun stays) in
+    let queue : queued size (entities_of turn) (followed d most n c).queue
+    ≡ early_after change place =
+    queued-append size (entities_of turn) (kept_of d c.queue)
+    (if early then one_more (fresh_of d n) [] else [])
     ∙ ap (λ (ss : List Segment). ss
-    ++ queued size (entities_of turn) (one_more (fresh_of d n) []))
-    (goes_on.queue c.queue (queued-bodies s.turn size c.queue is.on.queue))
-    ∙ ap (λ (ss : List Segment). that_stay change soon ++ ss) goes_on.fresh
-    ∙ ap (λ (ss : List Segment). that_stay change ss ++ fresh) (sym early_is) in
-    let behind : segments_from size (entities_of turn) (followed d n c).entity
-    (followed d n c).segment ≡ renewed change place =
-    goes_on.rest c.entity c.segment is.on.body
+    ++ queued size (entities_of turn) (if early then one_more (fresh_of d n) [] else [])) stays
+    ∙ ap (λ (ss : List Segment). that_stay change (early_of place) ++ ss)
+    (queued-if size (entities_of turn) (one_more (fresh_of d n) []) fresh early goes_on.fresh)
+    ∙ ap (λ (b : Bool). that_stay change (early_of place) ++ (if b then fresh else [])) goes in
+    let behind : segments_from size (entities_of turn) (followed d most n c).entity
+    (followed d most n c).segment ≡ renewed change place =
+    goes_on.rest early c.entity c.segment is.on.body
     (within-count s.turn size c.entity c.segment is.on.within)
     (first-at-end s.turn size c.entity c.segment is.on.within)
     (waits-none s.turn bodies size c.entity c.segment some are is.on.within)
-    ∙ ap (rest_after change fresh) (sym rest_is) in
+    ∙ ap (rest_after change early fresh) (sym rest_is)
+    ∙ ap (λ (b : Bool). rest_after change b fresh (rest_of place)) goes in
     record {
       difference = d;
-      found = ap (λ (bs : List BodyPlan). difference_from 1 bs new.bodies)
-          (sym (plans-are s.turn.bodies bodies are))
-          ∙ ap (difference_from 1 (plans old_turn.bodies))
-          (sym (plans-are new.bodies next next_are)) ∙ one.found;
+      found = found;
       waiting = ap (λ (ss : List Segment). directory_segments turn size ++ ss
-          ++ segments_from size (entities_of turn) (followed d n c).entity (followed d n c).segment)
+          ++ segments_from size (entities_of turn) (followed d most n c).entity
+          (followed d most n c).segment)
           queue
           ∙ ap (λ (ss : List Segment). directory_segments turn size ++ early_after change place
           ++ ss) behind;

@@ -142,7 +142,7 @@ others-both (b ∷ before) after g e =
 abbrev pub AreSome : List (ℕ × List ℕ) → Type 0
 AreSome bodies = AllByRecursion (λ (b : ℕ × List ℕ). 0 < length b.1) bodies
 
-some-inside : (before after : List (ℕ × List ℕ)) (g : ℕ × List ℕ) →
+pub some-inside : (before after : List (ℕ × List ℕ)) (g : ℕ × List ℕ) →
     AreSome (before ++ g ∷ after) → 0 < length g.1
 some-inside [] after g all = all.0
 some-inside (b ∷ before) after g all = some-inside before after g all.1

@@ -1,13 +1,15 @@
 -- A turn of which no packet was sent, whatever changes were followed before it, reads as its
 -- carousel.
-use Rattle.std.proofs.Common.{◌≡◌, ℕ, suc, ◌+◌, ◌<◌, ◌≤◌, List, [], ◌∷◌, ◌++◌, Bool, true}
+use Rattle.std.proofs.Common.{◌≡◌, ℕ, suc, zero, ◌+◌, ◌<◌, ◌≤◌, List, [], ◌∷◌, ◌++◌, Bool, true}
 use Rattle.std.proofs.Common.{false, Option, Some, None, ◌⊎◌, inl, inr, refl, sym, subst, map}
 use Rattle.std.proofs.Common.{length, ap, ◌∙◌, arith, append-nil, eq-eqb, not}
-use Rattle.std.proofs.lemmas.Bool.{and_parts, eqb-true, not-true, not_from_false}
+use Rattle.std.proofs.lemmas.Bool.{and_parts, eqb-true, ltb-false, not-true, not_from_false}
+use Rattle.std.proofs.lemmas.Grind.{div_ceil_times}
 use Rattle.std.proofs.lemmas.List.{append_assoc, take-append-drop}
 use Rattle.std.proofs.lemmas.List.Elements.{filter-append}
 use Rattle.std.proofs.lemmas.Option.{none-some, same_Some}
-use Rattle.std.specs.Prelude.{◌==◌, ◌&&◌, All, IfSome, flat_map, if◌then◌else◌}
+use Rattle.std.specs.Int.{div_ceil}
+use Rattle.std.specs.Prelude.{◌==◌, ◌&&◌, All, IfSome, filter, flat_map, if◌then◌else◌, is_some}
 use Rattle.std.specs.List.{AllByRecursion}
 use Rattle.std.specs.Cmp.{nat_eq_equiv}
 use Rattle.mot_directory.specs.Directory.{bytes_of_directory, bytes_of_entries}
@@ -22,7 +24,8 @@ use Rattle.mot_packets.specs.Gather.{gather, gather_front, groups_after}
 use Rattle.mot_player.specs.Followable.{IsFollowable, IsOneChange, put, replaced, same, withdrawn}
 use Rattle.mot_player.specs.Laws.{AreSent, IsPlace}
 use Rattle.mot_player.specs.Place.{Change, Place, Put, Replaced, Same, Sent, Step, UnderWay}
-use Rattle.mot_player.specs.Place.{Withdrawn, change_between, change_turn, changed}
+use Rattle.mot_player.specs.Place.{Withdrawn, bodies_not_begun, change_between, change_turn}
+use Rattle.mot_player.specs.Place.{changed, goes_early, most_early}
 use Rattle.mot_player.specs.Place.{directory_segments, early_after, early_of, first_sent, follow}
 use Rattle.mot_player.specs.Place.{followed_by, group_for, hear_directory}
 use Rattle.mot_player.specs.Place.{in_its_place, left_of, left_with, next_sent, of_bodies}
@@ -31,22 +34,25 @@ use Rattle.mot_player.specs.Place.{with_begun, without}
 use Rattle.mot_player.specs.Reading.{read_segments}
 use Rattle.mot_player.specs.Repeats.{ReadsOnceAs, ends_at_last}
 use Rattle.mot_player.specs.Repeats.{read_turn_once, received}
-use Rattle.mot_player.specs.Staying.{HasDirectory, touches}
+use Rattle.mot_player.specs.Staying.{AreFewEarly, HasDirectory, touches}
 use Rattle.mot_player.specs.Turn.{IsPlayable, IsSendable, IsTurnOf, Turn}
 use Rattle.mot_player.specs.Turn.{segments_of_bodies, segments_of_turn, turn_of_carousel}
 use Rattle.mot_player.proofs.Asked.{keep_turn}
 use Rattle.mot_player.proofs.Addresses.{one_address, steps-address}
 use Rattle.mot_player.proofs.Beginnings.{StandsAt}
+use Rattle.mot_player.proofs.FewEarly.{both-counted}
 use Rattle.mot_player.proofs.Followed.{AreBodies, bodies-append, bodies-early_after}
 use Rattle.mot_player.proofs.Followed.{takes_away}
 use Rattle.mot_player.proofs.Followed.{bodies-renewed, followed-bodies, gone-none}
 use Rattle.mot_player.proofs.Followed.{followed-left, own-followed, renewed}
 use Rattle.mot_player.proofs.Followed.{of_bodies-directory}
 use Rattle.mot_player.proofs.FollowedTurn.{between-put, between-replaced, between-same}
-use Rattle.mot_player.proofs.FollowedTurn.{between-withdrawn, ids, other-inside, others-both}
+use Rattle.mot_player.proofs.FollowedTurn.{AreSome, between-withdrawn, ids, other-inside}
+use Rattle.mot_player.proofs.FollowedTurn.{others-both, some-inside}
 use Rattle.mot_player.proofs.FreshReads.{IsOwn, all-again, body-absent, body_of, copies}
 use Rattle.mot_player.proofs.FreshReads.{map-ids, own-whole, reads-again}
 use Rattle.mot_player.proofs.Left.{filter-within, own, own-directory, own-of_bodies}
+use Rattle.mot_player.proofs.NotBegun.{first-counted}
 use Rattle.mot_player.proofs.Repeated.{heard-left, none-behind, of_bodies-all}
 use Rattle.mot_player.proofs.Requests.{packets_of}
 use Rattle.mot_player.proofs.TurnOnce.{IsWithin, bodies-bodies, steps-send}
@@ -101,7 +107,7 @@ fresh-whole place none next d =
           (own-turn id size place.turn d);
     }
 
-pub fresh-opened : (address room size : ℕ) (turn : Turn) (follows : Bool) → IsApartTurn turn →
+pub fresh-opened : (address room size : ℕ) (turn : Turn) (follows : Option ℕ) → IsApartTurn turn →
     IsFresh (record (opened_place address room size turn) { follows = follows })
 fresh-opened address room size turn follows d =
     fresh-whole (record (opened_place address room size turn) { follows = follows }) refl
@@ -270,41 +276,121 @@ none-front [] ys e = refl
 none-front (x ∷ xs) ys e = absurd (omega (arith, ap length e))
 
 abbrev AreCopies : List Segment → List Segment → Type 0
-AreCopies segments fresh = (n : ℕ) × (segments ≡ copies n fresh)
+AreCopies segments fresh = (n : ℕ) × (segments ≡ copies (suc n) fresh)
 
-put-copies : (id : ℕ) (rest fresh : List Segment) (b : Bool) → own_segments 4 id rest ≡ [] →
-    own_segments 4 id fresh ≡ fresh →
-    AreCopies (own_segments 4 id (if b then [] else rest ++ fresh)) fresh
-put-copies id rest fresh true e f = (0, refl)
-put-copies id rest fresh false e f = (
+put-behind : (id : ℕ) (rest fresh : List Segment) → own_segments 4 id rest ≡ [] →
+    own_segments 4 id fresh ≡ fresh → own_segments 4 id (rest ++ fresh) ≡ fresh
+put-behind id rest fresh e f =
+    filter-append (own id) rest fresh ∙ ap (λ ss. ss ++ own_segments 4 id fresh) e ∙ f
+
+put-copies : (id : ℕ) (rest fresh : List Segment) (b early : Bool) →
+    own_segments 4 id rest ≡ [] → own_segments 4 id fresh ≡ fresh →
+    AreCopies (own_segments 4 id (if early then fresh else [])
+    ++ own_segments 4 id (if b && early then [] else rest ++ fresh)) fresh
+put-copies id rest fresh true true e f = (0, ap (λ ss. ss ++ []) f)
+put-copies id rest fresh true false e f =
+    (0, put-behind id rest fresh e f ∙ sym (append-nil fresh))
+put-copies id rest fresh false true e f = (
   1,
-  filter-append (own id) rest fresh ∙ ap (λ ss. ss ++ own_segments 4 id fresh) e ∙ f
-      ∙ sym (append-nil fresh),
+  ap (λ ss. ss ++ own_segments 4 id (rest ++ fresh)) f
+      ∙ ap (λ ss. fresh ++ ss) (put-behind id rest fresh e f ∙ sym (append-nil fresh)),
 )
+put-copies id rest fresh false false e f =
+    (0, put-behind id rest fresh e f ∙ sym (append-nil fresh))
 
 none-first : (b : Bool) (x : Segment) (ys : List Segment) → (if b then x ∷ ys else ys) ≡ [] →
     (b ≡ false) × (ys ≡ [])
 none-first true x ys e = absurd (omega (arith, ap length e))
 none-first false x ys e = (refl, e)
 
-in_place-cases : (id : ℕ) (fresh later : List Segment) (x : Segment) (t z : Bool) →
-    own id x ≡ false → own_segments 4 id fresh ≡ fresh → AreCopies later fresh →
-    AreCopies (own_segments 4 id (if t then if z then fresh else [] else x ∷ []) ++ later) fresh
-in_place-cases id fresh later x true true o f l =
-    (suc l.0, ap (λ ss. ss ++ later) f ∙ ap (λ ss. fresh ++ ss) l.1)
-in_place-cases id fresh later x true false o f l = l
-in_place-cases id fresh later x false z o f l = (l.0, rw o l.1)
+-- of bodies, the first segments of those of this id
+abbrev is_of : ℕ → Segment → Bool
+is_of id = λ (s : Segment). s.tid == id
 
+abbrev first_ones : ℕ → List Segment → ℕ
+first_ones id segments = bodies_not_begun (filter (is_of id) segments)
+
+in_place-cases : (id old n : ℕ) (fresh later xs : List Segment) (x : Segment) (t z : Bool) →
+    own id x ≡ false → (x.number == 0) ≡ z → own_segments 4 id fresh ≡ fresh →
+    n ≡ bodies_not_begun xs → later ≡ copies n fresh →
+    own_segments 4 id (if t then if z then fresh else [] else x ∷ []) ++ later
+    ≡ copies (bodies_not_begun (if t then x ∷ xs else xs)) fresh
+in_place-cases id old n fresh later xs x true true o e f m l =
+    rw e (ap (λ ss. ss ++ later) f ∙ ap (λ ss. fresh ++ ss) l
+    ∙ ap (λ (k : ℕ). copies (suc k) fresh) m)
+in_place-cases id old n fresh later xs x true false o e f m l =
+    rw e (l ∙ ap (λ (k : ℕ). copies k fresh) m)
+in_place-cases id old n fresh later xs x false z o e f m l =
+    rw o (l ∙ ap (λ (k : ℕ). copies k fresh) m)
+
+-- each first segment of the one that went stands for the one that came
 in_place-copies : (id old : ℕ) (fresh xs : List Segment) → own_segments 4 id fresh ≡ fresh →
     own_segments 4 id xs ≡ [] →
-    AreCopies (own_segments 4 id (flat_map (in_its_place old fresh) xs)) fresh
-in_place-copies id old fresh [] f e = (0, refl)
+    own_segments 4 id (flat_map (in_its_place old fresh) xs) ≡ copies (first_ones old xs) fresh
+in_place-copies id old fresh [] f e = refl
 in_place-copies id old fresh (x ∷ xs) f e =
     let none = none-first (own id x) x (own_segments 4 id xs) e in
     let rest : List Segment = flat_map (in_its_place old fresh) xs in
-    let all = in_place-cases id fresh (own_segments 4 id rest) x (x.tid == old) (x.number == 0)
-    none.0 f (in_place-copies id old fresh xs f none.1) in
-    (all.0, filter-append (own id) (in_its_place old fresh x) rest ∙ all.1)
+    filter-append (own id) (in_its_place old fresh x) rest
+    ∙ in_place-cases id old (first_ones old xs) fresh (own_segments 4 id rest)
+    (filter (is_of old) xs) x (x.tid == old) (x.number == 0) none.0 refl f refl
+    (in_place-copies id old fresh xs f none.1)
+
+-- a body's own segments are those of this id of bodies
+own-cases : (old : ℕ) (x : Segment) (bodies owns : List Segment) (four : Bool) →
+    filter (is_of old) bodies ≡ owns →
+    filter (is_of old) (if four then x ∷ bodies else bodies)
+    ≡ (if four && x.tid == old then x ∷ owns else owns)
+own-cases old x bodies owns true e =
+    ap (λ (ss : List Segment). if x.tid == old then x ∷ ss else ss) e
+own-cases old x bodies owns false e = e
+
+own-of : (old : ℕ) (xs : List Segment) →
+    filter (is_of old) (of_bodies xs) ≡ own_segments 4 old xs
+own-of old [] = refl
+own-of old (x ∷ xs) =
+    own-cases old x (of_bodies xs) (own_segments 4 old xs) (x.kind == 4) (own-of old xs)
+
+-- each first segment is one of those that stay, or of those of this id
+split-cases : (x : Segment) (xs ys zs : List Segment) (t z : Bool) → (x.number == 0) ≡ z →
+    bodies_not_begun xs ≡ bodies_not_begun ys + bodies_not_begun zs →
+    bodies_not_begun (x ∷ xs)
+    ≡ bodies_not_begun (if not t then x ∷ ys else ys) + bodies_not_begun (if t then x ∷ zs else zs)
+split-cases x xs ys zs true true e h = rw e (omega (arith, h))
+split-cases x xs ys zs true false e h = rw e h
+split-cases x xs ys zs false true e h = rw e (omega (arith, h))
+split-cases x xs ys zs false false e h = rw e h
+
+split-first : (id : ℕ) (xs : List Segment) →
+    bodies_not_begun xs ≡ bodies_not_begun (without id xs) + first_ones id xs
+split-first id [] = refl
+split-first id (x ∷ xs) =
+    split-cases x xs (without id xs) (filter (is_of id) xs) (x.tid == id) (x.number == 0) refl
+    (split-first id xs)
+
+both-first : (id : ℕ) (xs ys : List Segment) →
+    first_ones id (xs ++ ys) ≡ first_ones id xs + first_ones id ys
+both-first id xs ys =
+    ap bodies_not_begun (filter-append (is_of id) xs ys)
+    ∙ both-counted (filter (is_of id) xs) (filter (is_of id) ys)
+
+-- of a body that is left whole, at least one is not begun
+whole-first : (id size n : ℕ) (bytes : List ℕ) (segments : List Segment) → 0 < size →
+    0 < length bytes → segments ≡ copies (suc n) (segments_of 4 id size bytes) →
+    0 < bodies_not_begun segments
+whole-first id size n bytes segments some body e =
+    let whole : List Segment = segments_of 4 id size bytes in
+    let one : bodies_not_begun whole ≡ 1 =
+    first-counted 4 id (div_ceil (length bytes) size) size bytes body
+    (div_ceil_times (length bytes) size some).0 in
+    omega (arith, ap bodies_not_begun e, both-counted whole (copies n whole), one)
+
+replaced-copies : (id : ℕ) (fresh : List Segment) (b : Bool) (n : ℕ) →
+    own_segments 4 id fresh ≡ fresh → (b ≡ false → 0 < n) →
+    AreCopies (own_segments 4 id (if b then fresh else []) ++ copies n fresh) fresh
+replaced-copies id fresh true n f w = (n, ap (λ ss. ss ++ copies n fresh) f)
+replaced-copies id fresh false zero f w = absurd (omega (arith, w refl))
+replaced-copies id fresh false (suc n) f w = (n, refl)
 
 -- behind a turn that is followed, where none of this id was left
 module _ (id : ℕ) (turn : Turn) (place : Place) (some : 0 < place.segment_size)
@@ -343,20 +429,43 @@ module _ (id : ℕ) (turn : Turn) (place : Place) (some : 0 < place.segment_size
   came-put bytes =
       let fresh : List Segment = segments_of 4 id size bytes in
       let own_fresh = own-numbered_segments 4 id 0 (pieces size bytes) in
-      let more = put-copies id (rest_of place) fresh (is_empty (rest_of place)) rest-none own_fresh
-      in (
+      let goes : Bool = goes_early (Put (id, bytes)) place in
+      let more = put-copies id (rest_of place) fresh (is_empty (rest_of place)) goes rest-none
+      own_fresh in (
         more.0,
         parts-of (Put (id, bytes))
             ∙ ap (λ ss. ss ++ own_segments 4 id (renewed (Put (id, bytes)) place))
-            (filter-append (own id) (early_of place) fresh
-            ∙ ap (λ ss. ss ++ own_segments 4 id fresh) early-none ∙ own_fresh)
-            ∙ ap (λ ss. fresh ++ ss) more.1,
+            (filter-append (own id) (early_of place) (if goes then fresh else [])
+            ∙ ap (λ ss. ss ++ own_segments 4 id (if goes then fresh else [])) early-none)
+            ∙ more.1,
       )
 
-  came-replaced : (old : ℕ) (bytes : List ℕ) → (id == old) ≡ false →
+  -- where it does not go early, its place is to come
+  early-or_place : (old : ℕ) (new : ℕ × List ℕ) → AreFewEarly place →
+      0 < bodies_not_begun (own_segments 4 old (left_of place)) →
+      goes_early (Replaced old new) place ≡ false → 0 < first_ones old (rest_of place)
+  early-or_place old new few waits e =
+      let early : List Segment = early_of place in
+      let left : List Segment = of_bodies (left_of place) in
+      let all : first_ones old early + first_ones old (rest_of place)
+      ≡ bodies_not_begun (own_segments 4 old (left_of place)) =
+      sym (both-first old early (rest_of place))
+      ∙ ap (first_ones old) (take-append-drop place.early left)
+      ∙ ap bodies_not_begun (own-of old (left_of place)) in
+      omega (
+        arith,
+        waits,
+        all,
+        split-first old early,
+        few.few,
+        ltb-false (bodies_not_begun (without old early)) (most_early place) e,
+      )
+
+  came-replaced : (old : ℕ) (bytes : List ℕ) → (id == old) ≡ false → AreFewEarly place →
+      0 < bodies_not_begun (own_segments 4 old (left_of place)) →
       IsOwn size id (Some bytes) (own_segments 4 id (left_of
       (followed_by (Replaced old (id, bytes)) turn place)))
-  came-replaced old bytes other =
+  came-replaced old bytes other few waits =
       let fresh : List Segment = segments_of 4 id size bytes in
       let own_fresh = own-numbered_segments 4 id 0 (pieces size bytes) in
       let stay : own_segments 4 id (without old (early_of place)) ≡ [] =
@@ -364,20 +473,25 @@ module _ (id : ℕ) (turn : Turn) (place : Place) (some : 0 < place.segment_size
       (λ s e. not_from_false (s.tid == old)
       (ap (λ (n : ℕ). n == old) (eqb-true s.tid id (and_parts (s.kind == 4) (s.tid == id) e).1)
       ∙ other)) (early_of place) ∙ early-none in
-      let more = in_place-copies id old fresh (rest_of place) own_fresh rest-none in (
+      let goes : Bool = goes_early (Replaced old (id, bytes)) place in
+      let more = replaced-copies id fresh goes (first_ones old (rest_of place)) own_fresh
+      (early-or_place old (id, bytes) few waits) in (
         more.0,
         parts-of (Replaced old (id, bytes))
             ∙ ap (λ ss. ss ++ own_segments 4 id (renewed (Replaced old (id, bytes)) place))
-            (filter-append (own id) (without old (early_of place)) fresh
-            ∙ ap (λ ss. ss ++ own_segments 4 id fresh) stay ∙ own_fresh)
-            ∙ ap (λ ss. fresh ++ ss) more.1,
+            (filter-append (own id) (without old (early_of place)) (if goes then fresh else [])
+            ∙ ap (λ ss. ss ++ own_segments 4 id (if goes then fresh else [])) stay)
+            ∙ ap (λ ss. own_segments 4 id (if goes then fresh else []) ++ ss)
+            (in_place-copies id old fresh (rest_of place) own_fresh rest-none)
+            ∙ more.1,
       )
 
 -- ---- a change is followed
 
 module _ (turn : Turn) (place : Place) (some : 0 < place.segment_size) (has : HasDirectory turn)
     (own_before : (id : ℕ) → IsOwn place.segment_size id (body_of id place.turn.bodies)
-    (own_segments 4 id (left_of place))) (id : ℕ) where
+    (own_segments 4 id (left_of place))) (few : AreFewEarly place)
+    (filled : AreSome place.turn.bodies) (id : ℕ) where
   abbrev IsThen : Option (List ℕ) → Type 0
   IsThen o = IsOwn place.segment_size id o (own_segments 4 id (left_of (follow turn place)))
 
@@ -442,11 +556,18 @@ module _ (turn : Turn) (place : Place) (some : 0 < place.segment_size) (has : Ha
       ∙ body-of_none before after f g n other in
       let behind : body_of id (before ++ f ∷ after) ≡ Some f.1 =
       ap (λ (k : ℕ). body_of k (before ++ f ∷ after)) mine ∙ body-of_fresh before after f n in
+      let old : body_of g.0 place.turn.bodies ≡ Some g.1 =
+      ap (body_of g.0) was ∙ body-of_fresh before after g d in
+      let left = subst (λ (o : Option (List ℕ)). IsOwn place.segment_size g.0 o
+      (own_segments 4 g.0 (left_of place))) old (own_before g.0) in
+      let waits : 0 < bodies_not_begun (own_segments 4 g.0 (left_of place)) =
+      whole-first g.0 place.segment_size left.0 g.1 (own_segments 4 g.0 (left_of place)) some
+      (some-inside before after g (subst AreSome was filled)) left.1 in
       subst IsThen (sym behind)
       (subst (λ (c : Change). IsOwn place.segment_size id (Some f.1)
       (own_segments 4 id (left_of (followed_by c turn place))))
       (ap (λ (k : ℕ). Replaced g.0 (k, f.1)) mine ∙ sym is)
-      (came-replaced id turn place some has (none-before none) g.0 f.1 e))
+      (came-replaced id turn place some has (none-before none) g.0 f.1 e few waits))
 
   withdrawn-own : (before after : List Pair) (g : Pair) (s : Bool) → (id == g.0) ≡ s →
       change_is (Withdrawn g.0) → place.turn.bodies ≡ before ++ g ∷ after →
@@ -487,9 +608,10 @@ module _ (turn : Turn) (place : Place) (some : 0 < place.segment_size) (has : Ha
       ∙ between-withdrawn before after g (others-both before after g once).1) h once)
 
 fresh-followed : (turn : Turn) (place : Place) → 0 < place.segment_size → HasDirectory turn →
-    IsFollowable place.turn turn → IsApartTurn turn → IsFresh place → IsFresh (follow turn place)
+    IsFollowable place.turn turn → IsApartTurn turn → AreFewEarly place →
+    AreSome place.turn.bodies → IsFresh place → IsFresh (follow turn place)
 unfolding follow
-fresh-followed turn place some has followable apart fresh =
+fresh-followed turn place some has followable apart few filled fresh =
     let change : Change = change_between place.turn.bodies turn.bodies in
     record {
       under_way = fresh.under_way;
@@ -499,7 +621,7 @@ fresh-followed turn place some has followable apart fresh =
           (renewed change place);
       are_bodies = bodies-append (early_after change place) (renewed change place)
           (bodies-early_after change place) (bodies-renewed change place);
-      own = λ id. changed-own turn place some has fresh.own id followable.change
+      own = λ id. changed-own turn place some has fresh.own few filled id followable.change
           followable.distinct apart;
     }
 
@@ -510,19 +632,21 @@ anew-fresh turn place apart fresh =
     fresh-whole (change_turn turn place) fresh.under_way (inr refl) apart
 
 change-cases : (b : Bool) (turn : Turn) (place : Place) → 0 < place.segment_size →
-    HasDirectory turn → IsFollowable place.turn turn → IsApartTurn turn → IsFresh place →
+    HasDirectory turn → IsFollowable place.turn turn → IsApartTurn turn → AreFewEarly place →
+    AreSome place.turn.bodies → IsFresh place →
     IsFresh (if b then follow turn place else change_turn turn place)
-change-cases true turn place some has followable apart fresh =
-    fresh-followed turn place some has followable apart fresh
-change-cases false turn place some has followable apart fresh = anew-fresh turn place apart fresh
+change-cases true turn place some has followable apart few filled fresh =
+    fresh-followed turn place some has followable apart few filled fresh
+change-cases false turn place some has followable apart few filled fresh =
+    anew-fresh turn place apart fresh
 
--- the turn changed
+-- the turn changed, of which no body was empty
 pub fresh-changed : (turn : Turn) (place : Place) → 0 < place.segment_size → HasDirectory turn →
-    IsFollowable place.turn turn → IsApartTurn turn → IsFresh place →
-    IsFresh (changed turn place)
+    IsFollowable place.turn turn → IsApartTurn turn → AreFewEarly place →
+    AreSome place.turn.bodies → IsFresh place → IsFresh (changed turn place)
 unfolding changed
-fresh-changed turn place some has followable apart fresh =
-    change-cases place.follows turn place some has followable apart fresh
+fresh-changed turn place some has followable apart few filled fresh =
+    change-cases (is_some place.follows) turn place some has followable apart few filled fresh
 
 -- ---- the turn of a carousel
 

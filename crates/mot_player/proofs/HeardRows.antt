@@ -55,12 +55,16 @@ gone_turn = turn_of 11 ((2, 1 ∷ 2 ∷ 3 ∷ []) ∷ [])
 abbrev same_turn : Turn
 same_turn = turn_of 11 ((2, 1 ∷ 2 ∷ 3 ∷ []) ∷ (4, 5 ∷ []) ∷ [])
 
+-- a player that follows, with so many bodies early that are not begun
+abbrev start_with : ℕ → Place
+start_with most = record (opened_place 1 91 2 old_turn) { follows = Some most }
+
 abbrev start : Place
-start = opened_place 1 91 2 old_turn
+start = start_with 3
 
 -- and with short packets, of which a group takes two
 abbrev short_start : Place
-short_start = opened_place 1 10 2 old_turn
+short_start = record (opened_place 1 10 2 old_turn) { follows = Some 3 }
 
 -- so many packets, the one that ends a turn, and so many more
 abbrev one_end : ℕ → ℕ → List Bool
@@ -280,3 +284,107 @@ late_gone-row : played short_start
 unfolding begun_by sent_by request hear_directory follow bytes_of_group crc_of bits_of
     bits_of_bytes number_of_bits added_to_front remainder
 late_gone-row = refl
+
+-- Many changes, of bodies of one segment each: so many are put behind the old ones, one of them is
+-- replaced, or the first is gone.
+abbrev many_turn : List (ℕ × List ℕ) → Turn
+many_turn fresh = turn_of 11 ((2, 1 ∷ 2 ∷ 3 ∷ []) ∷ (4, 5 ∷ []) ∷ fresh)
+
+abbrev five_puts : List Step
+five_puts =
+    Follow (many_turn ((6, 1 ∷ []) ∷ []))
+    ∷ Follow (many_turn ((6, 1 ∷ []) ∷ (8, 2 ∷ []) ∷ []))
+    ∷ Follow (many_turn ((6, 1 ∷ []) ∷ (8, 2 ∷ []) ∷ (10, 3 ∷ []) ∷ []))
+    ∷ Follow (many_turn ((6, 1 ∷ []) ∷ (8, 2 ∷ []) ∷ (10, 3 ∷ []) ∷ (12, 4 ∷ []) ∷ []))
+    ∷ Follow (many_turn ((6, 1 ∷ []) ∷ (8, 2 ∷ []) ∷ (10, 3 ∷ []) ∷ (12, 4 ∷ []) ∷ (14, 5 ∷ [])
+    ∷ [])) ∷ []
+
+-- of five bodies that are put in one look three come early, and all at the end
+five_puts-row : played start
+    (requests 2 ++ five_puts ++ requests 12)
+    ≡ (
+      (6, 9, 0) ∷ (4, 2, 0) ∷ (6, 11, 0) ∷ (4, 6, 0) ∷ (4, 8, 0) ∷ (4, 10, 0) ∷ (4, 2, 1) ∷
+          (4, 4, 0) ∷ (4, 6, 0) ∷ (4, 8, 0) ∷ (4, 10, 0) ∷ (4, 12, 0) ∷ (4, 14, 0) ∷
+          (6, 11, 0) ∷ [],
+      one_end 12 1,
+    )
+unfolding begun_by sent_by request hear_directory follow bytes_of_group crc_of bits_of
+    bits_of_bytes number_of_bits added_to_front remainder
+five_puts-row = refl
+
+-- one that waits early and is replaced makes room for the new one
+replaced_early-row : played start
+    (requests 2 ++ five_puts
+    ++ Follow (many_turn ((6, 1 ∷ []) ∷ (16, 6 ∷ []) ∷ (10, 3 ∷ []) ∷ (12, 4 ∷ [])
+    ∷ (14, 5 ∷ []) ∷ [])) ∷ requests 12)
+    ≡ (
+      (6, 9, 0) ∷ (4, 2, 0) ∷ (6, 11, 0) ∷ (4, 6, 0) ∷ (4, 10, 0) ∷ (4, 16, 0) ∷ (4, 2, 1) ∷
+          (4, 4, 0) ∷ (4, 6, 0) ∷ (4, 16, 0) ∷ (4, 10, 0) ∷ (4, 12, 0) ∷ (4, 14, 0) ∷
+          (6, 11, 0) ∷ [],
+      one_end 12 1,
+    )
+unfolding begun_by sent_by request hear_directory follow bytes_of_group crc_of bits_of
+    bits_of_bytes number_of_bits added_to_front remainder
+replaced_early-row = refl
+
+-- and one that waits only at the end does not, and keeps its place
+replaced_late-row : played start
+    (requests 2 ++ five_puts
+    ++ Follow (many_turn ((6, 1 ∷ []) ∷ (8, 2 ∷ []) ∷ (10, 3 ∷ []) ∷ (16, 6 ∷ [])
+    ∷ (14, 5 ∷ []) ∷ [])) ∷ requests 12)
+    ≡ (
+      (6, 9, 0) ∷ (4, 2, 0) ∷ (6, 11, 0) ∷ (4, 6, 0) ∷ (4, 8, 0) ∷ (4, 10, 0) ∷ (4, 2, 1) ∷
+          (4, 4, 0) ∷ (4, 6, 0) ∷ (4, 8, 0) ∷ (4, 10, 0) ∷ (4, 16, 0) ∷ (4, 14, 0) ∷
+          (6, 11, 0) ∷ [],
+      one_end 12 1,
+    )
+unfolding begun_by sent_by request hear_directory follow bytes_of_group crc_of bits_of
+    bits_of_bytes number_of_bits added_to_front remainder
+replaced_late-row = refl
+
+-- one that is begun leaves room for another: of one at most, a body of two segments is begun, and
+-- then one more comes early
+begun_early-row : played (start_with 1)
+    (requests 2 ++ Follow put_turn ∷ requests 2
+    ++ Follow (turn_of 11 ((2, 1 ∷ 2 ∷ 3 ∷ []) ∷ (4, 5 ∷ []) ∷ (6, 7 ∷ 8 ∷ 9 ∷ []) ∷ (8, 2 ∷ [])
+    ∷ [])) ∷ requests 9)
+    ≡ (
+      (6, 9, 0) ∷ (4, 2, 0) ∷ (6, 11, 0) ∷ (4, 6, 0) ∷ (6, 11, 0) ∷ (4, 6, 1) ∷ (4, 8, 0) ∷
+          (4, 2, 1) ∷ (4, 4, 0) ∷ (4, 6, 0) ∷ (4, 6, 1) ∷ (4, 8, 0) ∷ (6, 11, 0) ∷ [],
+      one_end 11 1,
+    )
+unfolding begun_by sent_by request hear_directory follow bytes_of_group crc_of bits_of
+    bits_of_bytes number_of_bits added_to_front remainder
+begun_early-row = refl
+
+-- with none early a body that is put comes at the end
+none_early-row : played (start_with 0)
+    (requests 2 ++ Follow put_turn ∷ requests 6)
+    ≡ (
+      (6, 9, 0) ∷ (4, 2, 0) ∷ (6, 11, 0) ∷ (4, 2, 1) ∷ (4, 4, 0) ∷ (4, 6, 0) ∷ (4, 6, 1) ∷
+          (6, 11, 0) ∷ [],
+      one_end 6 1,
+    )
+unfolding begun_by sent_by request hear_directory follow bytes_of_group crc_of bits_of
+    bits_of_bytes number_of_bits added_to_front remainder
+none_early-row = refl
+
+-- also where nothing of the rest is left, while the last group is under way
+none_left-row : played (record short_start { follows = Some 0 })
+    (requests 7 ++ Follow put_turn ∷ requests 9)
+    ≡ (
+      (6, 9, 0) ∷ (4, 2, 0) ∷ (4, 2, 1) ∷ (4, 4, 0) ∷ (6, 11, 0) ∷ (4, 6, 0) ∷ (4, 6, 1) ∷
+          (6, 11, 0) ∷ [],
+      one_end 13 2,
+    )
+unfolding begun_by sent_by request hear_directory follow bytes_of_group crc_of bits_of
+    bits_of_bytes number_of_bits added_to_front remainder
+none_left-row = refl
+
+-- and in a turn of no bodies
+empty_turn-row : played (record (opened_place 1 91 2 (turn_of 9 [])) { follows = Some 0 })
+    (Follow (turn_of 11 ((6, 1 ∷ []) ∷ [])) ∷ requests 3)
+    ≡ ((6, 11, 0) ∷ (4, 6, 0) ∷ (6, 11, 0) ∷ [], one_end 1 1)
+unfolding begun_by sent_by request hear_directory follow bytes_of_group crc_of bits_of
+    bits_of_bytes number_of_bits added_to_front remainder
+empty_turn-row = refl

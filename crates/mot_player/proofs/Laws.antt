@@ -13,7 +13,14 @@ pub use Rattle.mot_player.proofs.Rounds.{rounds_are_continuous}
 pub use Rattle.mot_player.proofs.GoesOn.{requests-go_on, steps-go_on}
 -- a directory that is asked for comes next, changes come next, and bodies that stay go on
 pub use Rattle.mot_player.proofs.Staying.{bodies-go_on, directory-comes, requests-take-in-order}
-pub use Rattle.mot_player.proofs.Followed.{changes-come-next, replaced-keeps-its_place}
+pub use Rattle.mot_player.proofs.Followed.{changes-come-next, changes-go-early}
+pub use Rattle.mot_player.proofs.Followed.{replaced-keeps-its_place}
+-- of what comes early no more bodies are not begun than may be, whatever comes
+pub use Rattle.mot_player.proofs.FewEarly.{StaysFew, few-anew, few-changed, few-followed, few-go-early}
+pub use Rattle.mot_player.proofs.FewEarly.{few-heard, few-opened, few-sent, few-steps}
+pub use Rattle.mot_player.proofs.FewEarly.{both-counted, none-later, one-numbered}
+pub use Rattle.mot_player.proofs.Followed.{fewer-stay, followed-waiting}
+pub use Rattle.mot_player.proofs.NotBegun.{first-counted, one-counted}
 -- each request brings the end of the turn nearer
 pub use Rattle.mot_player.proofs.Ending.{turns-end}
 -- where a player stands behind whatever steps, and that a turn begins where one has ended

@@ -8,6 +8,7 @@ pub mod PacketCounts
 pub mod Passing
 pub mod Cycles
 pub mod Ending
+pub mod FewEarly
 pub mod Followed
 pub mod FollowedCourse
 pub mod FollowedPlace
@@ -23,6 +24,7 @@ pub mod Left
 pub mod Moved
 pub mod Nearer
 pub mod NextSegment
+pub mod NotBegun
 pub mod Plans
 pub mod Renewed
 pub mod Repeated

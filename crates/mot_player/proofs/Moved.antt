@@ -10,7 +10,8 @@ use Rattle.std.specs.List.{AllByRecursion}
 use Rattle.std.specs.Prelude.{◌==◌, ◌&&◌, nat_lt, slice_index, if◌then◌else◌}
 use Rattle.mot_player.specs.Course.{CourseView}
 use Rattle.mot_player.specs.Inner.Course.{fresh_of, followed, kept, kept_of, one_more}
-use Rattle.mot_player.specs.Inner.Course.{changed_course, has_ended, left_course, rest_from}
+use Rattle.mot_player.specs.Inner.Course.{changed_course, has_ended, is_queued, left_course}
+use Rattle.mot_player.specs.Inner.Course.{rest_from}
 use Rattle.mot_player.specs.Inner.Course.{whole_course}
 use Rattle.mot_player.specs.Inner.Difference.{added, are_alike, difference_from, difference_here}
 use Rattle.mot_player.specs.Inner.Difference.{difference_in, is_same}
@@ -327,6 +328,27 @@ module _ (plan next : TurnPlan) (size : ℕ) (p : IsPlannable next) where
       one-on (kept d w) (kept_of d q) (one_more (fresh_of d count) [])
       (λ v h. kept-inside d w v m h a.0) (queue-on d count q m c a.1)
 
+  front-inside : (q rest : List Waiting) → AreInside (q ++ rest) → AreInside q
+  front-inside [] rest a = tt
+  front-inside (w ∷ q) rest a = (a.0, front-inside q rest a.1)
+
+  -- what stays queued is in it
+  pub kept-on : (d : Difference) (q : List Waiting) →
+      difference_from 1 plan.bodies next.bodies ≡ Some d →
+      AllByRecursion (λ (w : Waiting). (0 < w.entity) × IsInside plan size w) q →
+      AreInside (kept_of d q)
+  kept-on d q e a =
+      let count : ℕ = length plan.bodies + 1 in
+      front-inside (kept_of d q) (one_more (fresh_of d count) [])
+      (queue-on d count q (moves 1 plan.bodies next.bodies d e) refl a)
+
+  -- and what is queued then
+  queue-if : (q rest : List Waiting) (b : Bool) → AreInside (q ++ rest) →
+      AreInside (q ++ (if b then rest else []))
+  queue-if q rest true a = a
+  queue-if q rest false a =
+      subst AreInside (sym (append-nil q)) (front-inside q rest a)
+
   -- the rest of the turn is within the new one
   within-inside : (w : Waiting) → (0 < w.entity) → IsInside next size w → IsPlaced next size w
   within-inside w some inside = (some, inl inside)
@@ -340,16 +362,22 @@ module _ (plan next : TurnPlan) (size : ℕ) (p : IsPlannable next) where
   rest-same w f some (inr e) =
       first-placed next size w p some (omega (arith, ap length f, e.0)) e.1
 
-  rest-more : (w : Waiting) (b : BodyPlan) (count : ℕ) (t : Bool) → (w.entity == count) ≡ t →
+  rest-more : (w : Waiting) (b : BodyPlan) (count : ℕ) (t early : Bool) →
+      (w.entity == count) ≡ t →
       next.bodies ≡ plan.bodies ++ b ∷ [] → count ≡ length plan.bodies + 1 → 0 < w.entity →
       IsWithin w →
-      IsPlaced next size (if t then record { entity = count + 1; segment = 0 } else w)
-  rest-more w b count true e f c some i =
+      IsPlaced next size (if t && early then record { entity = count + 1; segment = 0 } else w)
+  rest-more w b count true false e f c some (inl i) =
+      within-inside w some (more-inside w b f some i)
+  rest-more w b count true false e f c some (inr i) =
+      first-placed next size w p some
+      (omega (arith, i.0, ap length f, length-append plan.bodies (b ∷ []))) i.1
+  rest-more w b count true true e f c some i =
       first-placed next size (record { entity = count + 1; segment = 0 }) p (omega arith)
       (omega (arith, c, ap length f, length-append plan.bodies (b ∷ []))) refl
-  rest-more w b count false e f c some (inl i) =
+  rest-more w b count false early e f c some (inl i) =
       within-inside w some (more-inside w b f some i)
-  rest-more w b count false e f c some (inr i) =
+  rest-more w b count false early e f c some (inr i) =
       absurd (eqb-false w.entity count e (omega (arith, i.0, c)))
 
   module _ (xs ys : List BodyPlan) (o : BodyPlan) (k : ℕ) (at : k ≡ 1 + length xs)
@@ -405,34 +433,36 @@ module _ (plan next : TurnPlan) (size : ℕ) (p : IsPlannable next) where
           ltb-false k w.entity h,
         )))
 
-  rest-on : (d : Difference) (count : ℕ) (w : Waiting) → Moves 1 plan.bodies next.bodies d →
-      count ≡ length plan.bodies + 1 → 0 < w.entity → IsWithin w →
-      IsPlaced next size (rest_from d count w)
-  rest-on d count w (nothing e f) c some i =
-      subst (λ (x : Difference). IsPlaced next size (rest_from x count w)) (sym e)
+  rest-on : (d : Difference) (early : Bool) (count : ℕ) (w : Waiting) →
+      Moves 1 plan.bodies next.bodies d → count ≡ length plan.bodies + 1 → 0 < w.entity →
+      IsWithin w → IsPlaced next size (rest_from d early count w)
+  rest-on d early count w (nothing e f) c some i =
+      subst (λ (x : Difference). IsPlaced next size (rest_from x early count w)) (sym e)
       (rest-same w f some i)
-  rest-on d count w (more b e f) c some i =
-      subst (λ (x : Difference). IsPlaced next size (rest_from x count w)) (sym e)
-      (rest-more w b count (w.entity == count) refl f c some i)
-  rest-on d count w (changed xs ys o m k e at f g) c some i =
-      subst (λ (x : Difference). IsPlaced next size (rest_from x count w)) (sym e)
+  rest-on d early count w (more b e f) c some i =
+      subst (λ (x : Difference). IsPlaced next size (rest_from x early count w)) (sym e)
+      (rest-more w b count (w.entity == count) early refl f c some i)
+  rest-on d early count w (changed xs ys o m k e at f g) c some i =
+      subst (λ (x : Difference). IsPlaced next size (rest_from x early count w)) (sym e)
       (rest-changed xs ys o k at f w m (w.entity == k) (w.segment == 0) refl refl g some i)
-  rest-on d count w (removed xs ys o k e at f g) c some i =
-      subst (λ (x : Difference). IsPlaced next size (rest_from x count w)) (sym e)
+  rest-on d early count w (removed xs ys o k e at f g) c some i =
+      subst (λ (x : Difference). IsPlaced next size (rest_from x early count w)) (sym e)
       (rest-removed xs ys o k at f w (w.entity == k) (nat_lt k w.entity) refl refl g some i)
 
   -- the course in the new turn is within it
-  pub on-followed : (d : Difference) (count : ℕ) (c : CourseView) →
+  pub on-followed : (d : Difference) (most count : ℕ) (c : CourseView) →
       difference_from 1 plan.bodies next.bodies ≡ Some d → count ≡ length plan.bodies + 1 →
-      IsOnCourse plan size c → IsOnCourse next size (followed d count c)
-  on-followed d count c e n on =
+      IsOnCourse plan size c → IsOnCourse next size (followed d most count c)
+  on-followed d most count c e n on =
       let m : Moves 1 plan.bodies next.bodies d = moves 1 plan.bodies next.bodies d e in
       let w : Waiting = record { entity = c.entity; segment = c.segment } in
-      let rest : IsPlaced next size (rest_from d count w) =
-      rest-on d count w m n on.body on.within in
+      let early : Bool = is_queued d most c.queue in
+      let rest : IsPlaced next size (rest_from d early count w) =
+      rest-on d early count w m n on.body on.within in
       record {
         directory = within-first next size p;
-        queue = queue-on d count c.queue m n on.queue;
+        queue = queue-if (kept_of d c.queue) (one_more (fresh_of d count) []) early
+            (queue-on d count c.queue m n on.queue);
         body = rest.0;
         within = rest.1;
       }
@@ -447,27 +477,29 @@ on-left : (plan : TurnPlan) (size count : ℕ) (c : CourseView) (idle : Bool) �
 on-left plan size count c true p on = on-ended_or plan size c (has_ended count c) p on
 on-left plan size count c false p on = on
 
-on-found : (plan next : TurnPlan) (size count : ℕ) (c : CourseView) (idle : Bool)
+on-found : (plan next : TurnPlan) (size most count : ℕ) (c : CourseView) (idle : Bool)
     (found : Option Difference) → difference_from 1 plan.bodies next.bodies ≡ found →
     IsPlannable plan → IsPlannable next → count ≡ length plan.bodies + 1 →
-    IsOnCourse plan size c → IsOnCourse next size (changed_course found idle count c)
-on-found plan next size count c idle None e p q n on = on-whole next size q
-on-found plan next size count c idle (Some d) e p q n on =
-    on-followed plan next size q d count (left_course idle count c) e n
+    IsOnCourse plan size c → IsOnCourse next size (changed_course found idle most count c)
+on-found plan next size most count c idle None e p q n on = on-whole next size q
+on-found plan next size most count c idle (Some d) e p q n on =
+    on-followed plan next size q d most count (left_course idle count c) e n
     (on-left plan size count c idle p on)
 
-on-changed-cases : (plan next : TurnPlan) (size count : ℕ) (c : CourseView) (idle t : Bool) →
+on-changed-cases : (plan next : TurnPlan) (size most count : ℕ) (c : CourseView) (idle t : Bool) →
     IsPlannable plan → IsPlannable next → count ≡ length plan.bodies + 1 →
     IsOnCourse plan size c → IsOnCourse next size
-    (changed_course (if t then difference_from 1 plan.bodies next.bodies else None) idle count c)
-on-changed-cases plan next size count c idle true p q n on =
-    on-found plan next size count c idle (difference_from 1 plan.bodies next.bodies) refl p q n on
-on-changed-cases plan next size count c idle false p q n on = on-whole next size q
+    (changed_course (if t then difference_from 1 plan.bodies next.bodies else None) idle most count
+    c)
+on-changed-cases plan next size most count c idle true p q n on =
+    on-found plan next size most count c idle (difference_from 1 plan.bodies next.bodies) refl p q n on
+on-changed-cases plan next size most count c idle false p q n on = on-whole next size q
 
 -- the course of a changed turn is within it
-pub on-changed : (plan next : TurnPlan) (size count room : ℕ) (c : CourseView)
+pub on-changed : (plan next : TurnPlan) (size most count room : ℕ) (c : CourseView)
     (idle follows : Bool) → IsPlannable plan → IsPlannable next →
     count ≡ length plan.bodies + 1 → IsOnCourse plan size c → IsOnCourse next size
-    (changed_course (difference_in follows room c plan.bodies next.bodies) idle count c)
-on-changed plan next size count room c idle follows p q n on =
-    on-changed-cases plan next size count c idle (follows && nat_lt (length c.queue) room) p q n on
+    (changed_course (difference_in follows room c plan.bodies next.bodies) idle most count c)
+on-changed plan next size most count room c idle follows p q n on =
+    on-changed-cases plan next size most count c idle (follows && nat_lt (length c.queue) room) p q
+    n on

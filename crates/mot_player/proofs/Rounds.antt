@@ -493,7 +493,7 @@ rounds_are_continuous address room size turn turns new packets rounds some sixte
     subst (λ (n : ℕ). Turns n whole opened (sents_of turns) new) sixteen
     (turns-gather turns opened new room size turn some refl refl refl refl refl are) in
     let once : IsContinuous packets =
-    steps-are-continuous address room size turn false sent.steps (sents_of turns) new packets some
+    steps-are-continuous address room size turn None sent.steps (sents_of turns) new packets some
     sent.sent read in
     let same_address : list_all (λ (p : PacketFields). p.address == address) fields ≡ true =
     steps-address sent.steps opened (sents_of turns) new sent.sent in

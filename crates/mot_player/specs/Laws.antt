@@ -1,6 +1,6 @@
 -- Laws of whole turns and of whole streams.
 use Rattle.std.specs.Prelude.{◌≡◌, ◌⊎◌, ℕ, ◌+◌, ◌-◌, length, Bool, ◌≤◌, ◌<◌, List, []}
-use Rattle.std.specs.Prelude.{◌∷◌, ◌++◌, map, replicate, Some, None, IfSome}
+use Rattle.std.specs.Prelude.{◌∷◌, ◌++◌, map, replicate, Option, Some, None, IfSome}
 use Rattle.std.specs.Option.{option_map_or}
 use Rattle.mot_groups.specs.Group.{Segment}
 use Rattle.mot_numbers.specs.Reading.{read_each}
@@ -64,8 +64,8 @@ AreSent sents packets = read_each read_packet packets ≡ Some (map (λ (s : Sen
 -- have their continuity indexes.
 abbrev pub StepsAreContinuous : Type 0
 StepsAreContinuous =
-    (address room size : ℕ) (turn : Turn) (follows : Bool) (steps : List Step) (sents : List Sent)
-    (new : Place) (packets : List (List ℕ)) → 0 < room →
+    (address room size : ℕ) (turn : Turn) (follows : Option ℕ) (steps : List Step)
+    (sents : List Sent) (new : Place) (packets : List (List ℕ)) → 0 < room →
     sent_by (record (opened_place address room size turn) { follows = follows }) steps
     ≡ Some (sents, new) →
     AreSent sents packets → IsContinuous packets

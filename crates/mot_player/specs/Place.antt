@@ -1,8 +1,8 @@
 -- The order of sending (own rules): where a player stands, and what a request and a change of the
 -- turn make of that.
-use Rattle.std.specs.Prelude.{ℕ, ◌+◌, ◌-◌, ◌%◌, Bool, true, false, ◌&&◌, ◌==◌, not, if◌then◌else◌}
+use Rattle.std.specs.Prelude.{ℕ, ◌+◌, ◌-◌, ◌%◌, Bool, ◌&&◌, ◌==◌, not, if◌then◌else◌, nat_lt}
 use Rattle.std.specs.Prelude.{List, [], ◌∷◌, ◌++◌, Option, Some, None, bytes_eq, drop, filter}
-use Rattle.std.specs.Prelude.{flat_map, length, take}
+use Rattle.std.specs.Prelude.{flat_map, is_some, length, take, unwrap_or}
 use Rattle.std.specs.Int.{div_ceil}
 use Rattle.std.specs.List.{sum_by}
 use Rattle.mot_groups.specs.Entity.{segments_of}
@@ -35,8 +35,9 @@ pub record Place : Type 0 where
   pub waiting : List Segment
   -- how many of the bodies' segments that wait come early
   pub early : ℕ
-  -- whether a changed turn is followed, or begins anew
-  pub follows : Bool
+  -- Whether a changed turn is followed, or begins anew; and if it is, how many of the bodies that
+  -- came and are not begun come early at most.
+  pub follows : Option ℕ
   pub turn : Turn
   pub index : ℕ
   pub last_directory : Option Last
@@ -51,7 +52,7 @@ opened_place address room size turn = record {
   under_way = None;
   waiting = [];
   early = 0;
-  follows = false;
+  follows = None;
   turn = turn;
   index = 0;
   last_directory = None;
@@ -206,14 +207,15 @@ abbrev pub in_its_place : ℕ → List Segment → Segment → List Segment
 in_its_place old fresh s =
     if s.tid == old then if s.number == 0 then fresh else [] else s ∷ []
 
--- The rest of a turn after a change. What neither came nor went goes on in its order. A body that
--- was put comes at its end too, if any of the rest is left. One that was replaced comes where the
--- old one's segments stood; where that was begun, what was left of it goes.
-abbrev pub rest_after : Change → List Segment → List Segment → List Segment
-rest_after Same fresh rest = rest
-rest_after (Put new) fresh rest = if is_empty rest then [] else rest ++ fresh
-rest_after (Replaced old new) fresh rest = flat_map (in_its_place old fresh) rest
-rest_after (Withdrawn old) fresh rest = without old rest
+-- The rest of a turn after a change, with which the body that came goes early or does not. What
+-- neither came nor went goes on in its order. A body that was put comes at its end too, if any of
+-- the rest is left or it does not go early. One that was replaced comes where the old one's
+-- segments stood; where that was begun, what was left of it goes.
+abbrev pub rest_after : Change → Bool → List Segment → List Segment → List Segment
+rest_after Same early fresh rest = rest
+rest_after (Put new) early fresh rest = if is_empty rest && early then [] else rest ++ fresh
+rest_after (Replaced old new) early fresh rest = flat_map (in_its_place old fresh) rest
+rest_after (Withdrawn old) early fresh rest = without old rest
 
 -- the bodies' segments that come early, and the rest of the turn
 abbrev pub early_of : Place → List Segment
@@ -222,31 +224,47 @@ early_of place = take place.early (of_bodies (left_of place))
 abbrev pub rest_of : Place → List Segment
 rest_of place = drop place.early (of_bodies (left_of place))
 
--- what comes early after a change: what did so before it and stays, and then the body that came
+-- of segments of bodies, how many are first ones: the bodies that are not begun
+abbrev pub bodies_not_begun : List Segment → ℕ
+bodies_not_begun segments = length (filter (λ (s : Segment). s.number == 0) segments)
+
+-- how many bodies that are not begun come early at most; none where no change is followed
+abbrev pub most_early : Place → ℕ
+most_early place = unwrap_or place.follows 0
+
+-- Whether the body that came goes early: of those that do so and stay, fewer are not begun.
+abbrev pub goes_early : Change → Place → Bool
+goes_early change place =
+    nat_lt (bodies_not_begun (that_stay change (early_of place))) (most_early place)
+
+-- What comes early after a change: what did so before it and stays, and then the body that came, if
+-- it goes early.
 abbrev pub early_after : Change → Place → List Segment
 early_after change place =
-    that_stay change (early_of place) ++ fresh_segments place.segment_size change
+    that_stay change (early_of place)
+    ++ (if goes_early change place then fresh_segments place.segment_size change else [])
 
 abbrev pub followed_by : Change → Turn → Place → Place
 followed_by change turn place = record place {
   turn = turn;
   waiting = directory_segments turn place.segment_size ++ early_after change place
-      ++ rest_after change (fresh_segments place.segment_size change) (rest_of place);
+      ++ rest_after change (goes_early change place) (fresh_segments place.segment_size change)
+      (rest_of place);
   early = length (early_after change place);
 }
 
 -- A changed turn is followed: behind the group under way come its directory, then the changed
--- bodies, and then the rest of the turn goes on.
+-- bodies that go early, and then the rest of the turn goes on.
 unfoldable pub follow : Turn → Place → Place
 follow turn place = followed_by (change_between place.turn.bodies turn.bodies) turn place
 
--- from now on changed turns are followed
-unfoldable pub following : Place → Place
-following place = record place { follows = true }
+-- from now on changed turns are followed, with at most so many bodies early that are not begun
+unfoldable pub following : ℕ → Place → Place
+following most place = record place { follows = Some most }
 
 -- what a changed turn makes of a place
 unfoldable pub changed : Turn → Place → Place
-changed turn place = if place.follows then follow turn place else change_turn turn place
+changed turn place = if is_some place.follows then follow turn place else change_turn turn place
 
 -- what happens to a player
 pub data Step : Type 0 where

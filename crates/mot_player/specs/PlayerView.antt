@@ -1,5 +1,5 @@
 -- Where a player stands but for the bodies, which stand elsewhere.
-use Rattle.std.specs.Prelude.{◌≡◌, ℕ, Bool, List, [], ◌∷◌, length, map, Option}
+use Rattle.std.specs.Prelude.{◌≡◌, ℕ, List, [], ◌∷◌, length, map, Option}
 use Rattle.mot_player.specs.Course.{CourseView, entities_of, queued, waiting_of}
 use Rattle.mot_player.specs.Place.{Last, UnderWay, Place}
 use Rattle.mot_player.specs.Turn.{Turn}
@@ -37,7 +37,7 @@ pub record PlayerView : Type 0 where
   pub under_way : Option UnderWay
   pub turn : TurnPlan
   pub course : CourseView
-  pub follows : Bool
+  pub follows : Option ℕ
   pub index : ℕ
   pub last_directory : Option Last
   pub last_body : Option Last

@@ -1,5 +1,5 @@
 -- Bodies that stay go on, whatever directories and changes come between the requests.
-use Rattle.std.specs.Prelude.{◌≡◌, ◌==◌, if◌then◌else◌, ℕ, ◌<◌, Bool, ◌||◌, not, true, false}
+use Rattle.std.specs.Prelude.{◌≡◌, ◌==◌, if◌then◌else◌, ℕ, ◌<◌, ◌≤◌, Bool, ◌||◌, not, true, false}
 use Rattle.std.specs.Prelude.{List, [], ◌∷◌, ◌++◌, drop, length, replicate, take}
 use Rattle.std.specs.Prelude.{Option, Some, None, ⊤}
 use Rattle.std.specs.List.{list_all}
@@ -7,9 +7,11 @@ use Rattle.mot_groups.specs.Entity.{own_segments, segments_of}
 use Rattle.mot_groups.specs.Group.{Segment}
 use Rattle.mot_numbers.specs.Reading.{◌>>=◌}
 use Rattle.mot_player.specs.Place.{Place, Sent, Step, Request, NewTurn, Directory, Follow, UnderWay}
-use Rattle.mot_player.specs.Place.{Change, Same, Put, Replaced, Withdrawn, change_between}
-use Rattle.mot_player.specs.Place.{change_turn, early_of, follow, fresh_segments, hear_directory}
-use Rattle.mot_player.specs.Place.{left_of, request, rest_after, rest_of, sent_by, that_stay, to_send}
+use Rattle.mot_player.specs.Place.{Change, Same, Put, Replaced, Withdrawn, bodies_not_begun}
+use Rattle.mot_player.specs.Place.{change_between, change_turn, early_of, follow, fresh_segments}
+use Rattle.mot_player.specs.Place.{goes_early, hear_directory, left_of, most_early, of_bodies}
+use Rattle.mot_player.specs.Place.{opened_place, request, rest_after, rest_of, sent_by, that_stay}
+use Rattle.mot_player.specs.Place.{to_send}
 use Rattle.mot_player.specs.Turn.{Turn}
 
 -- the segment whose group a request begins; none where it goes on with the group under way
@@ -76,17 +78,19 @@ DirectoryComes =
     ≡ segments_of 6 place.turn.tid place.segment_size place.turn.directory ++ others)
 
 -- A changed turn that is followed: behind the group under way come its whole directory, the bodies
--- that came early before and stay, and the body that came with it, whole; and behind them the rest
--- of the turn, as the change leaves it. No segment comes of a body that is gone: one of which no
--- segment stays.
+-- that came early before and stay, and the body that came with it, whole, if it goes early; and
+-- behind them the rest of the turn, as the change leaves it. No segment comes of a body that is
+-- gone: one of which no segment stays.
 pub record IsFollowed (place : Place) (turn : Turn) (change : Change) : Type 0 where
   pub next : to_send (follow turn place)
       ≡ segments_of 6 turn.tid place.segment_size turn.directory
       ++ early_of (follow turn place) ++ rest_of (follow turn place)
   pub early : early_of (follow turn place)
-      ≡ that_stay change (early_of place) ++ fresh_segments place.segment_size change
+      ≡ that_stay change (early_of place)
+      ++ (if goes_early change place then fresh_segments place.segment_size change else [])
   pub rest : rest_of (follow turn place)
-      ≡ rest_after change (fresh_segments place.segment_size change) (rest_of place)
+      ≡ rest_after change (goes_early change place) (fresh_segments place.segment_size change)
+      (rest_of place)
   pub gone : (id : ℕ) → ((s : Segment) → s.tid ≡ id → that_stay change (s ∷ []) ≡ []) →
       own_segments 4 id (left_of (follow turn place)) ≡ []
 
@@ -94,6 +98,31 @@ abbrev pub ChangesComeNext : Type 0
 ChangesComeNext =
     (place : Place) (turn : Turn) → 0 < place.segment_size → HasDirectory turn →
     IsFollowed place turn (change_between place.turn.bodies turn.bodies)
+
+-- The body that comes with a change goes early if of those that do so fewer are not begun than may
+-- be.
+abbrev pub ChangesGoEarly : Type 0
+ChangesGoEarly =
+    (place : Place) (turn : Turn) → 0 < place.segment_size → HasDirectory turn →
+    bodies_not_begun (early_of place) < most_early place →
+    early_of (follow turn place)
+    ≡ that_stay (change_between place.turn.bodies turn.bodies) (early_of place)
+    ++ fresh_segments place.segment_size (change_between place.turn.bodies turn.bodies)
+
+-- Of what comes early no more bodies are not begun than may be; and of what waits so many segments
+-- come early as are counted.
+pub record AreFewEarly (place : Place) : Type 0 where
+  pub counted : place.early ≤ length (of_bodies place.waiting)
+  pub few : bodies_not_begun (early_of place) ≤ most_early place
+
+-- However many changes are followed, of what comes early at most so many bodies are not begun.
+abbrev pub FewGoEarly : Type 0
+FewGoEarly =
+    (address room size most : ℕ) (turn : Turn) (steps : List Step) (sents : List Sent)
+    (new : Place) →
+    sent_by (record (opened_place address room size turn) { follows = Some most }) steps
+    ≡ Some (sents, new) →
+    bodies_not_begun (early_of new) ≤ most
 
 -- A body that is replaced keeps its place: where the old one's segments stood in the rest, the new
 -- one's come; and where the old one was begun, what was left of it goes.

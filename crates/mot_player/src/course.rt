@@ -4,7 +4,7 @@ ghost use Rattle.std.specs.Prelude.{None, OnSome, Some, true};
 
 use crate::Turn;
 use crate::difference::Difference;
-use crate::following::{fresh, keep, rest_from};
+use crate::following::{entities_not_begun, fresh, keep, rest_from};
 use crate::part::Part;
 use std::alloc::Global;
 
@@ -146,6 +146,7 @@ impl Course {
         &mut self,
         difference: Option<Difference>,
         is_idle: bool,
+        most: usize,
         entity_count: usize,
         room: Vec<Waiting>,
     )
@@ -155,14 +156,14 @@ impl Course {
         requires within { (0 < (course_of self.old).entity)
             × ((course_of self.old).entity ≤ entity_count) }
         requires few { entity_count < 2 ^ 32 }
-        ensures course { course_of self.new ≡ changed_course difference is_idle entity_count
+        ensures course { course_of self.new ≡ changed_course difference is_idle most entity_count
             (course_of self.old) }
     {
         let Some(difference) = difference else {
             return self.begin_turn();
         };
         self.begin_next(is_idle, entity_count);
-        self.follow(difference, entity_count, room);
+        self.follow(difference, most, entity_count, room);
     }
 
     /// The turn begins, where no group is under way and nothing waits.
@@ -180,25 +181,35 @@ impl Course {
     }
 
     /// Goes on in a turn that differs so: its directory comes, what is queued and stays, the body
-    /// that came, and then the rest. The queue is kept in the room for it.
-    fn follow(&mut self, difference: Difference, entity_count: usize, room: Vec<Waiting>)
+    /// that came if fewer than so many are queued that are not begun, and then the rest. The queue
+    /// is kept in the room for it.
+    fn follow(
+        &mut self,
+        difference: Difference,
+        most: usize,
+        entity_count: usize,
+        room: Vec<Waiting>,
+    )
         requires empty { vec_len room ≡ 0 }
         requires room { length (course_of self.old).queue < vec_capacity room }
         requires within { (course_of self.old).entity ≤ entity_count }
         requires few { entity_count < 2 ^ 32 }
-        ensures course { course_of self.new ≡ followed difference entity_count
+        ensures course { course_of self.new ≡ followed difference most entity_count
             (course_of self.old) }
     {
         let mut queue = room;
         keep(&mut queue, &self.queue.as_slice()[self.at..], difference);
-        if let Some(waiting) = fresh(difference, entity_count) {
-            queue.push_reserved(waiting);
+        let is_queued = entities_not_begun(queue.as_slice()) < most;
+        if is_queued {
+            if let Some(waiting) = fresh(difference, entity_count) {
+                queue.push_reserved(waiting);
+            }
         }
         let here = Waiting {
             entity: self.entity,
             segment: self.segment,
         };
-        let rest = rest_from(difference, entity_count, here);
+        let rest = rest_from(difference, is_queued, entity_count, here);
         self.directory = Some(0);
         self.at = 0;
         self.queue = queue;

@@ -1,6 +1,7 @@
 //! What goes on of a turn in the one that comes.
 ghost use Rattle.std.specs.Prelude.{◌≡◌, ◌+◌, ◌^◌, ◌<◌, ◌≤◌, ◌++◌, vec_capacity, vec_len, length};
-ghost use Rattle.mot_player.specs.Inner.Course.{fresh_of, kept, kept_of, rest_from};
+ghost use Rattle.mot_player.specs.Inner.Course.{entities_not_begun, fresh_of, kept, kept_of};
+ghost use Rattle.mot_player.specs.Inner.Course.{rest_from};
 
 use crate::course::Waiting;
 use crate::difference::Difference;
@@ -17,6 +18,19 @@ pub(crate) fn keep(queue: &mut Vec<Waiting>, waiting: &[Waiting], difference: Di
             queue.push_reserved(entity);
         }
     }
+}
+
+/// How many of them are not begun.
+pub(crate) fn entities_not_begun(queue: &[Waiting]) -> usize
+    ensures count { result ≡ entities_not_begun queue.now }
+{
+    let mut count = 0;
+    for waiting in queue {
+        if waiting.segment == 0 {
+            count += 1;
+        }
+    }
+    count
 }
 
 /// What waits of an entity, by its number in the turn that comes; `None` of one that went.
@@ -48,15 +62,20 @@ pub(crate) fn fresh(difference: Difference, entity_count: usize) -> Option<Waiti
     }
 }
 
-/// From which segment on the bodies come.
-pub(crate) fn rest_from(difference: Difference, entity_count: usize, waiting: Waiting) -> Waiting
+/// From which segment on the bodies come, where the body that came is queued or is not.
+pub(crate) fn rest_from(
+    difference: Difference,
+    is_queued: bool,
+    entity_count: usize,
+    waiting: Waiting,
+) -> Waiting
     requires within { waiting.entity ≤ entity_count }
     requires few { entity_count < 2 ^ 32 }
-    ensures { result ≡ rest_from difference entity_count waiting }
+    ensures { result ≡ rest_from difference is_queued entity_count waiting }
 {
     let Waiting { entity, segment } = waiting;
     match difference {
-        Difference::Added if entity == entity_count => Waiting {
+        Difference::Added if entity == entity_count && is_queued => Waiting {
             entity: entity + 1,
             segment: 0,
         },

@@ -1,6 +1,6 @@
 //! The player of a carousel.
 ghost use Rattle.std.specs.Prelude.{◌≡◌, ◌==◌, ◌^◌, ◌<◌, ℕ, List, length, not, true, false, Some};
-ghost use Rattle.std.specs.Prelude.{None, IfOk, IfErr, IfSome, IsOk, OnOk, OnErr};
+ghost use Rattle.std.specs.Prelude.{None, IfOk, IfErr, IfSome, IsOk, OnOk, OnErr, is_some};
 ghost use Rattle.mot_numbers.specs.PacketLength.{room_of};
 ghost use Rattle.mot_numbers.specs.declared.refusal.Refusal.TheVariants.{OutOfMemory};
 ghost use Rattle.mot_packets.specs.Packet.{read_packet};
@@ -12,8 +12,9 @@ ghost use Rattle.mot_player.specs.Laws.{bytes_left};
 ghost use Rattle.mot_player.specs.Followable.{IsFollowable};
 ghost use Rattle.mot_player.specs.Place.{Sent, change_turn, changed, directory_packets};
 ghost use Rattle.mot_player.specs.Place.{following, hear_directory, opened_place, request};
-ghost use Rattle.mot_player.specs.Staying.{BodiesGoOn, ChangesComeNext, DirectoryComes};
-ghost use Rattle.mot_player.specs.Staying.{ReplacedKeepsItsPlace, RequestsTakeInOrder};
+ghost use Rattle.mot_player.specs.Staying.{BodiesGoOn, ChangesComeNext, ChangesGoEarly};
+ghost use Rattle.mot_player.specs.Staying.{DirectoryComes, FewGoEarly, ReplacedKeepsItsPlace};
+ghost use Rattle.mot_player.specs.Staying.{RequestsTakeInOrder};
 ghost use Rattle.mot_player.specs.Repeats.{TurnsReadWithDirectories};
 ghost use Rattle.mot_player.specs.Rounds.{RoundsAreContinuous};
 
@@ -80,6 +81,8 @@ impl Player {
         // stay go on.
         ensures directory_comes { OnOk result DirectoryComes }
         ensures changes_next { OnOk result ChangesComeNext }
+        ensures changes_early { OnOk result ChangesGoEarly }
+        ensures few_early { OnOk result FewGoEarly }
         ensures bodies_go_on { OnOk result BodiesGoOn }
 
         // In the rest of a turn that is followed a replaced body keeps its place.
@@ -98,7 +101,7 @@ impl Player {
             segment_size,
             turn,
             course,
-            follows: false,
+            follows: None,
             group,
             sent: 0,
             index: 0,
@@ -109,25 +112,26 @@ impl Player {
         Ok(Player { state })
     }
 
-    /// From now on it follows changed turns.
-    pub fn follow_changes(&mut self)
+    /// From now on it follows changed turns. Of the bodies that came and are not begun at most so
+    /// many come before the turn goes on.
+    pub fn follow_changes(&mut self, most: usize)
         ensures place { (bodies : List (List ℕ))
-            → place_of self.new bodies ≡ following (place_of self.old bodies) }
+            → place_of self.new bodies ≡ following most (place_of self.old bodies) }
         ensures turn { self.new.turn ≡ self.old.turn }
         ensures size { self.new.segment_size ≡ self.old.segment_size }
     {
-        self.state.follows = true;
+        self.state.follows = Some(most);
     }
 
     /// The room that it takes to follow a changed turn. A player that does not follow needs none, and
     /// takes no memory. The only refusal is `OutOfMemory`.
     pub fn spare(&self, alloc: Global) -> Result<Spare, Refusal>
-        ensures room { IfOk result (λ spare. self.now.follows ≡ true
+        ensures room { IfOk result (λ spare. is_some self.now.follows ≡ true
             → length self.now.course.queue < spare) }
-        ensures none { self.now.follows ≡ false → IsOk result }
+        ensures none { is_some self.now.follows ≡ false → IsOk result }
         ensures refused { IfErr result (λ refusal. refusal ≡ OutOfMemory) }
     {
-        let count = if self.state.follows {
+        let count = if self.state.follows.is_some() {
             self.state.course.queued() + 1
         } else {
             0
@@ -159,17 +163,17 @@ impl Player {
     }
 
     /// As `changed`, but a player that follows goes on instead: behind the new directory come the
-    /// bodies that came, the last one whole, and then the rest of the turn. The room for that is
+    /// bodies that came and go early, and then the rest of the turn. The room for that is
     /// this player's, as it stands. It takes no memory.
     pub fn follow(&mut self, turn: Turn, spare: Spare)
-        ensures begun { (bodies next : List (List ℕ)) → self.old.follows ≡ false
+        ensures begun { (bodies next : List (List ℕ)) → is_some self.old.follows ≡ false
             → place_of self.new next
             ≡ change_turn (turn_with turn next) (place_of self.old bodies) }
 
         // Turns are followed that differ by one change.
         ensures place { (bodies next : List (List ℕ)) → AreBodiesFor self.old.turn bodies
             → AreBodiesFor turn next
-            → (self.old.follows ≡ true → (length self.old.course.queue < spare)
+            → (is_some self.old.follows ≡ true → (length self.old.course.queue < spare)
             × IsFollowable (turn_with self.old.turn bodies) (turn_with turn next))
             → place_of self.new next
             ≡ changed (turn_with turn next) (place_of self.old bodies) }

@@ -1,6 +1,7 @@
 //! The state of a player, and its buffers.
 ghost use Rattle.std.specs.Prelude.{◌≡◌, ℕ, ◌+◌, ◌^◌, ◌<◌, ◌≤◌, List, length, take, drop};
 ghost use Rattle.std.specs.Prelude.{vec_capacity, vec_len, true, false, Some, OnSome, OnOk, OnErr};
+ghost use Rattle.std.specs.Prelude.{is_some};
 
 use crate::course::{Course, Waiting};
 use crate::difference::Difference;
@@ -20,8 +21,9 @@ pub(crate) struct State {
     pub turn: Turn,
     /// Which segments come next.
     pub course: Course,
-    /// Whether a changed turn is followed, or begins anew.
-    pub follows: bool,
+    /// Whether a changed turn is followed, or begins anew; and if it is, how many bodies that came
+    /// and are not begun are queued at most.
+    pub follows: Option<usize>,
     /// The group under way, and how many of its bytes were sent; 0 if none is under way.
     pub group: Vec<u8>,
     pub sent: usize,
@@ -168,11 +170,11 @@ impl State {
         requires fitted { IsFitted self.old }
         requires empty { vec_len room ≡ 0 }
         ensures fitted { IsFitted self.new }
-        ensures begun { (bodies next : List (List ℕ)) → self.old.follows ≡ false
+        ensures begun { (bodies next : List (List ℕ)) → is_some self.old.follows ≡ false
             → place_with self.new next
             ≡ change_turn (turn_with turn next) (place_with self.old bodies) }
         ensures followed { (bodies next : List (List ℕ)) → AreBodiesFor self.old.turn bodies
-            → AreBodiesFor turn next → self.old.follows ≡ true
+            → AreBodiesFor turn next → is_some self.old.follows ≡ true
             → length (course_of self.old.course).queue < vec_capacity room
             → IsFollowable (turn_with self.old.turn bodies) (turn_with turn next)
             → place_with self.new next
@@ -187,17 +189,19 @@ impl State {
         let _ = turn.entity_count();
         let difference = self.difference(&turn, room.capacity());
         let count = self.turn.entity_count();
-        self.course.change(difference, self.sent == 0, count, room);
+        let most = self.follows.unwrap_or(0);
+        self.course
+            .change(difference, self.sent == 0, most, count, room);
         self.turn = turn;
     }
 
     /// The one change that a turn to be followed makes, if the queue has room for it.
     fn difference(&self, turn: &Turn, room: usize) -> Option<Difference>
-        ensures difference { result ≡ difference_in self.now.follows room
+        ensures difference { result ≡ difference_in (is_some self.now.follows) room
             (course_of self.now.course) self.now.turn.bodies turn.now.bodies }
         ensures room { OnSome result (length (course_of self.now.course).queue < room) }
     {
-        if self.follows && self.course.queued() < room {
+        if self.follows.is_some() && self.course.queued() < room {
             self.turn.difference(turn)
         } else {
             None

@@ -145,15 +145,17 @@ module _ (layout : Layout) (view view' : RepositoryView) (start mid now : State)
   -- a true mark more
   pub goes_on_true : (done : Done) → IsAnswered view view' mid now command (Ok done)
       → ((next : Standing) × (after_command view.journal.layout so_far.last command
-      ≡ Ok (next, done)) × Holds view' next now)
+      ≡ Ok (next, done)) × Holds view' next now) → (now.IsHonest → IsHonestDisk now)
       → Reached layout view' start now s commands (marks ++ true ∷ [])
-  goes_on_true done (accepted d e changed) step =
+  goes_on_true done (accepted d e changed) step sound =
       accepts layout view start mid now s commands marks command at so_far view' done step.0
       changed.layout
       (subst (λ l. after_command l so_far.last command ≡ Ok (step.0, done)) so_far.layout_is step.1)
-      step.2 time
-  goes_on_true done (refused refusal e why same still) step = absurd (not_ok done refusal (sym e))
-  goes_on_true done (failed e going rises halts) step = absurd (not_ok done DeviceFault (sym e))
+      (sound step.2.journal.honest) step.2 time
+  goes_on_true done (refused refusal e why same still) step sound =
+      absurd (not_ok done refusal (sym e))
+  goes_on_true done (failed e going rises halts) step sound =
+      absurd (not_ok done DeviceFault (sym e))
 
   -- a false mark more
   pub goes_on_false : (refusal : Refusal) → is_run_ending refusal ≡ false

@@ -7,16 +7,17 @@ use Rattle.disk_model.specs.Disk.{State, Throughout, IsHonestDisk, IsUnchanged}
 use Rattle.disk_model.proofs.Laws.{stays, joins, weakens}
 use Rattle.mot_journal.specs.declared.layout.Layout.{Layout}
 use Rattle.mot_journal.specs.Image.{Standing}
+use Rattle.mot_numbers.specs.declared.geometry.Geometry.{Geometry}
 use Rattle.mot_numbers.specs.declared.refusal.Refusal.{Refusal}
 use Rattle.mot_objects.specs.declared.command.Command.{Command}
 use Rattle.mot_repository.specs.Repository.{RepositoryView, Holds}
 use Rattle.mot_playout.specs.Marks.{AreMarks}
-use Rattle.mot_playout.specs.RunEnds.{RunLeaves}
+use Rattle.mot_playout.specs.RunEnds.{RulesAlong, RunLeaves}
 use Rattle.mot_playout.specs.Runs.{accepted_commands, commands_in_flight, IsAfter, StandsAfterSome}
 use Rattle.std.specs.Option.{option_map_or}
 use Rattle.mot_numbers.specs.Refusal.{is_device_fault}
 use Rattle.mot_playout.proofs.Read.{holds_still}
-use Rattle.mot_playout.proofs.Runs.{begins, rests, after_both, more, less_sure}
+use Rattle.mot_playout.proofs.Runs.{begins, rests, after_both, along_both, more, less_sure}
 
 -- ---- marks
 
@@ -117,6 +118,11 @@ runs_join first mid last start between now s commands others marks rest fault la
         marked = marks-join first.journal.layout s one.last two.last commands others marks rest
             whole one.marked
             (subst (λ l. AreMarks l one.last others rest two.last) layout two.marked);
+        rules = subst (RulesAlong s.geometry.objects s.carousel) (sym all)
+            (along_both s.geometry.objects done then_done s.carousel one.last.carousel one.rules
+            one.after.carousel
+            (subst (λ (g : Geometry). RulesAlong g.objects one.last.carousel then_done)
+            one.after.geometry two.rules));
         agrees = two.agrees;
         going = two.going;
         any_moment =
@@ -154,6 +160,7 @@ reads_leave_of first last start now s commands fault sound same honest still hol
       last = s;
       layout_is = refl;
       marked = refl;
+      rules = tt;
       holds = holds_still first first s start now holds honest still refl;
       time = stays start start now (StandsAfterSome s [] (accepted_commands commands []))
           reached.time still.time;

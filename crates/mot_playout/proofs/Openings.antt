@@ -186,7 +186,7 @@ pub opened_continuous : (address room size : ℕ) (turn : Turn) (packets : List 
     (place : Place) → StepsAreContinuous → 0 < room
     → HasPlayedTurn (opened_place address room size turn) packets place → IsContinuous packets
 opened_continuous address room size turn packets place law some played =
-    law address room size turn false (replicate (played.before + 1) Request) played.played.sents
+    law address room size turn None (replicate (played.before + 1) Request) played.played.sents
     place packets some played.played.sent.steps
     (HasPlayedTurn-read (opened_place address room size turn) place packets played)
 

@@ -1,5 +1,5 @@
 -- What a run makes of the player's place.
-use Rattle.std.proofs.Common.{◌≡◌, ℕ, Bool, false, List, [], ◌∷◌, ◌++◌, Option, Some, None, Ok}
+use Rattle.std.proofs.Common.{◌≡◌, ℕ, Bool, List, [], ◌∷◌, ◌++◌, Option, Some, None, Ok}
 use Rattle.std.proofs.Common.{Result, refl, sym, ◌∙◌, ap, subst}
 use Rattle.std.specs.Option.{option_map_or}
 use Rattle.mot_journal.specs.declared.layout.Layout.{Layout}
@@ -83,13 +83,13 @@ behind_one layout s next command done place e =
 
 -- ---- a player that does not follow
 
-begins_turn : (turn : Turn) (place : Place) → place.follows ≡ false
+begins_turn : (turn : Turn) (place : Place) → place.follows ≡ None
     → changed turn place ≡ change_turn turn place
 unfolding changed
 begins_turn turn place not = rw not refl
 
-follows_not : (turn : Turn) (place : Place) → place.follows ≡ false
-    → (change_turn turn place).follows ≡ false
+follows_not : (turn : Turn) (place : Place) → place.follows ≡ None
+    → (change_turn turn place).follows ≡ None
 unfolding change_turn
 follows_not turn place not = not
 
@@ -113,9 +113,9 @@ anew-next limit size (command ∷ commands) next last place e =
     only_last (turn_of_carousel next size) (turn_of_carousel last size) place
 
 anew-cases : (limit size : ℕ) (commands : List Command) (last : Carousel) (place : Place)
-    (o : Option Carousel) → place.follows ≡ false
+    (o : Option Carousel) → place.follows ≡ None
     → (o >>= λ next. carousel_after next limit commands) ≡ Some last
-    → ((next : Carousel) (p : Place) → p.follows ≡ false
+    → ((next : Carousel) (p : Place) → p.follows ≡ None
     → carousel_after next limit commands ≡ Some last
     → place_after limit size next commands p ≡ anew size commands last p)
     → option_map_or (λ next. place_after limit size next commands
@@ -129,7 +129,7 @@ anew-cases limit size commands last place (Some next) not e rest =
     ∙ anew-next limit size commands next last place e
 
 anew-is : (limit size : ℕ) (commands : List Command) (c last : Carousel) (place : Place)
-    → place.follows ≡ false → carousel_after c limit commands ≡ Some last
+    → place.follows ≡ None → carousel_after c limit commands ≡ Some last
     → place_after limit size c commands place ≡ anew size commands last place
 unfolding carousel_after
 anew-is limit size [] c last place not e = refl

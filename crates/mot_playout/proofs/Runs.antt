@@ -4,6 +4,7 @@ use Rattle.std.proofs.Common.{take, drop, Option, Some, None, Result, Ok, Err, r
 use Rattle.std.proofs.Common.{subst, arith}
 use Rattle.std.proofs.lemmas.List.{take-append-le, length-append, append-nil}
 use Rattle.std.proofs.Math.Seq.{take-append-add}
+use Rattle.std.proofs.lemmas.Option.{same_Some}
 use Rattle.std.specs.Prelude.{slice_get}
 use Rattle.disk_model.specs.Disk.{State, Throughout, Keeps, IsHonestDisk, IsUnchanged}
 use Rattle.disk_model.proofs.Laws.{begins as begins_moments, stays, joins, weakens, at_end}
@@ -17,16 +18,17 @@ use Rattle.mot_numbers.specs.declared.geometry.Geometry.{Geometry}
 use Rattle.mot_objects.specs.declared.command.Command.{Command}
 use Rattle.mot_objects.specs.declared.command.Done.{Done}
 use Rattle.mot_objects.specs.Carousel.{Carousel, change, carousel_after, carousel_if_accepted}
+use Rattle.mot_objects.specs.Rules.{AllKeepRules}
 use Rattle.mot_objects.specs.declared.carousel.Carousel as kept
 use Rattle.mot_objects.specs.Stands.{carousel_of, AreBodiesOf}
 use Rattle.mot_repository.specs.Answers.{IsHalted}
 use Rattle.mot_journal.specs.declared.layout.Layout.TheVariants.{Two}
 use Rattle.mot_repository.specs.Outcome.{after_command, has_long_name}
 use Rattle.mot_repository.specs.Repository.{RepositoryView, IsOf, Agrees, Holds, IsBeforeOrAfter}
-use Rattle.mot_repository.proofs.Laws.{accepted_parts}
+use Rattle.mot_repository.proofs.Laws.{accepted_parts, rules_kept}
 use Rattle.mot_playout.specs.Runs.{accepted_commands, commands_in_flight, IsAfter, StandsAfterSome}
 use Rattle.mot_playout.specs.Marks.{AreMarks}
-use Rattle.mot_playout.specs.RunEnds.{RunLeaves}
+use Rattle.mot_playout.specs.RunEnds.{RulesAlong, RunLeaves}
 use Rattle.mot_playout.proofs.Read.{holds_still}
 
 abbrev Missing : Option Command → Type 0
@@ -213,6 +215,40 @@ after_both s commands others mid last first second = record {
   rest = second.rest ∙ first.rest;
 }
 
+-- each carousel on the way keeps its rules, of one list of commands and of another
+pub along_both : (limit : ℕ) (commands others : List Command) (c mid : Carousel)
+    → RulesAlong limit c commands → carousel_after c limit commands ≡ Some mid
+    → RulesAlong limit mid others → RulesAlong limit c (commands ++ others)
+unfolding carousel_after
+along_both limit [] others c mid rules e two =
+    subst (λ d. RulesAlong limit d others) (sym (same_Some c mid e)) two
+along_both limit (command ∷ commands) others c mid rules e two = λ next made.
+    let step = rules next made in (
+      step.0,
+      along_both limit commands others next mid step.1
+          (sym (ap (λ (o : Option Carousel). o >>= λ d. carousel_after d limit commands) made)
+          ∙ e) two,
+    )
+
+-- so does one that the disk holds
+rules_held : (view : RepositoryView) (s : Standing) (state : State) → IsHonestDisk state
+    → Holds view s state → AllKeepRules s.carousel
+rules_held view s state sound holds =
+    rules_kept state.bytes s (sound.images state.bytes sound.bytes).are_bytes
+    (holds.each state.bytes sound.bytes).stands
+
+one_along : (layout : Layout) (s last next : Standing) (command : Command) (done : Done)
+    → last.geometry ≡ s.geometry → after_command layout last command ≡ Ok (next, done)
+    → AllKeepRules next.carousel → RulesAlong s.geometry.objects last.carousel (command ∷ [])
+one_along layout s last next command done same step rules = λ other made.
+    let parts = accepted_parts layout last command done next step in
+    let here = subst (λ (g : Geometry).
+    carousel_if_accepted (change last.carousel g.objects command) ≡ Some other) (sym same) made in
+    let is : Some next.carousel ≡ Some other =
+    sym (ap (λ (r : Result (Carousel × Done) Refusal). carousel_if_accepted r) parts.rules) ∙ here
+    in
+    (subst AllKeepRules (same_Some next.carousel other is) rules, tt)
+
 -- more commands that may have been done
 pub more : (s : Standing) (sure others rest : List Command) (image : List ℕ)
     → StandsAfterSome s sure others image → StandsAfterSome s sure (others ++ rest) image
@@ -297,6 +333,8 @@ pub record Reached (layout : Layout) (view : RepositoryView) (start now : State)
   pub layout_is : view.journal.layout ≡ layout
   -- each mark is right where it stands, and the last one leaves this
   pub marked : AreMarks layout s commands marks last
+  -- each carousel on the way keeps its rules
+  pub rules : RulesAlong s.geometry.objects s.carousel (accepted_commands commands marks)
   -- the repository and the disk hold it
   pub holds : Holds view last now
   -- at each moment so far a crash leaves a beginning of the accepted commands
@@ -310,6 +348,7 @@ begins view start s commands sound holds = record {
   last = s;
   layout_is = refl;
   marked = refl;
+  rules = tt;
   holds = holds;
   time = begins_moments start (StandsAfterSome s [] []) sound
       (λ image left. none_of s [] [] s image (after_none s) (holds.each image left));
@@ -339,13 +378,20 @@ module _ (layout : Layout) (view : RepositoryView) (start mid now : State) (s : 
   -- an accepted command leads the run on by a true mark
   pub accepts : (view' : RepositoryView) (done : Done) (next : Standing)
       → view'.journal.layout ≡ view.journal.layout
-      → after_command layout so_far.last command ≡ Ok (next, done) → Holds view' next now
+      → after_command layout so_far.last command ≡ Ok (next, done) → IsHonestDisk now
+      → Holds view' next now
       → Throughout mid now (IsBeforeOrAfter view.journal.layout so_far.last command)
       → Reached layout view' start now s commands (marks ++ true ∷ [])
-  accepts view' done next same_layout step holds time = record {
+  accepts view' done next same_layout step sound holds time = record {
     last = next;
     layout_is = same_layout ∙ so_far.layout_is;
     marked = one_true layout s commands marks so_far.last next command done at so_far.marked step;
+    rules = subst (RulesAlong s.geometry.objects s.carousel)
+        (sym (accepted-true commands marks command at))
+        (along_both s.geometry.objects (accepted_commands commands marks) (command ∷ [])
+        s.carousel so_far.last.carousel so_far.rules after.carousel
+        (one_along layout s so_far.last next command done after.geometry step
+        (rules_held view' next now sound holds)));
     holds = holds;
     time = subst (λ l. Throughout start now (StandsAfterSome s [] l))
         (sym (accepted-true commands marks command at)) (tried time);
@@ -358,6 +404,8 @@ module _ (layout : Layout) (view : RepositoryView) (start mid now : State) (s : 
   refuses refusal refused short holds same = record {
     last = so_far.last;
     layout_is = so_far.layout_is;
+    rules = subst (RulesAlong s.geometry.objects s.carousel)
+        (sym (accepted-false commands marks command at)) so_far.rules;
     marked = one_false layout s commands marks so_far.last command refusal at so_far.marked refused
         short;
     holds = holds;
@@ -381,6 +429,7 @@ module _ (layout : Layout) (view : RepositoryView) (start mid now : State) (s : 
         after = after;
         marked = subst (λ l. AreMarks l s commands marks so_far.last) (sym same_layout)
             so_far.marked;
+        rules = so_far.rules;
         agrees = still_agrees view view' so_far.last halts so_far.holds.agrees;
         going = λ e. absurd (not_both e);
         any_moment = subst (λ l. Throughout start now (StandsAfterSome s [] (done ++ l))) one
@@ -405,6 +454,7 @@ rests layout first view start now s commands marks fault same_layout so_far =
       last = so_far.last;
       after = after;
       marked = subst (λ l. AreMarks l s commands marks so_far.last) (sym same_layout) so_far.marked;
+      rules = so_far.rules;
       agrees = so_far.holds.agrees;
       going = λ e. so_far.holds;
       any_moment = weakens start now (StandsAfterSome s [] done)
@@ -424,6 +474,7 @@ idles layout view start mid now s commands marks so_far keeps same = record {
   last = so_far.last;
   layout_is = so_far.layout_is;
   marked = so_far.marked;
+  rules = so_far.rules;
   holds = holds_still view view so_far.last mid now so_far.holds
       (keeps.honest so_far.holds.journal.honest) same refl;
   time = stays start mid now (StandsAfterSome s [] (accepted_commands commands marks)) so_far.time

@@ -1,6 +1,6 @@
 -- A server's player plays what its repository keeps.
 use Rattle.std.proofs.Common.{◌≡◌, ℕ, true, List, [], ◌∷◌, length, map, refl, sym, ap, ◌∙◌, subst}
-use Rattle.std.specs.Prelude.{Result, Ok, Err, IfOk}
+use Rattle.std.specs.Prelude.{Result, Ok, Err, IfOk, is_some}
 use Rattle.mot_journal.specs.Image as journal
 use Rattle.mot_numbers.specs.Geometry.{packet_room}
 use Rattle.mot_numbers.specs.declared.geometry.Geometry.{Geometry}
@@ -148,9 +148,9 @@ pub comes_after : (view view' : RepositoryView) (s next : journal.Standing) (old
     → PlaysCarousel view'.carousel view'.journal.geometry.segment new
     → IsFollowable (turn_of_carousel s.carousel s.geometry.segment)
     (turn_of_carousel next.carousel next.geometry.segment)
-    → (old.follows ≡ true → HasRoom)
+    → (is_some old.follows ≡ true → HasRoom)
     → ((bodies came : List (List ℕ)) → AreBodiesFor old.turn bodies → AreBodiesFor plan came
-    → (old.follows ≡ true
+    → (is_some old.follows ≡ true
     → HasRoom × IsFollowable (turn_with old.turn bodies) (turn_with plan came))
     → place_of new came ≡ changed (turn_with plan came) (place_of old bodies))
     → place_of new (bodies_of next.carousel)

@@ -1,6 +1,6 @@
 -- How a run of commands ends, and what it leaves.
 use Rattle.std.specs.Prelude.{◌≡◌, ℕ, Bool, true, false, List, [], ◌∷◌, ◌++◌, Option, IsTrue}
-use Rattle.std.specs.Prelude.{IsFalse}
+use Rattle.std.specs.Prelude.{IsFalse, None, Some, ⊤}
 use Rattle.disk_model.specs.Disk.{State, Throughout}
 use Rattle.disk_model.specs.Failures.{Rises}
 use Rattle.mot_journal.specs.Image.{Standing}
@@ -8,6 +8,7 @@ use Rattle.mot_numbers.specs.declared.refusal.Refusal.{Refusal}
 use Rattle.mot_numbers.specs.declared.refusal.Refusal.TheVariants.{OutOfMemory, DeviceFault, Halted}
 use Rattle.mot_objects.specs.declared.command.Command.{Command}
 use Rattle.mot_objects.specs.Carousel.{Carousel, carousel_if_accepted, change}
+use Rattle.mot_objects.specs.Rules.{AllKeepRules}
 use Rattle.mot_player.specs.Place.{Place, change_turn, changed}
 use Rattle.mot_player.specs.Turn.{turn_of_carousel}
 use Rattle.mot_repository.specs.Repository.{RepositoryView, Agrees, Holds}
@@ -32,6 +33,13 @@ pub data IsRunFault (old new : RepositoryView) (start now : State)
   device : IsFalse old.halted → refusal ≡ DeviceFault → Rises start.failures now.failures
       → IsTrue new.halted → IsRunFault old new start now refusal
 
+-- each carousel that accepted commands make on the way keeps the rules of its fields
+abbrev pub RulesAlong : (limit : ℕ) → Carousel → List Command → Type 0
+RulesAlong limit c [] = ⊤
+RulesAlong limit c (command ∷ commands) =
+    (next : Carousel) → carousel_if_accepted (change c limit command) ≡ Some next
+    → AllKeepRules next × RulesAlong limit next commands
+
 -- What a run of commands leaves that began where the disk and the repository stood for s.
 pub record RunLeaves (old new : RepositoryView) (start now : State) (s : Standing)
     (commands : List Command) (marks : List Bool) (fault : Option Refusal) : Type 0 where
@@ -39,6 +47,7 @@ pub record RunLeaves (old new : RepositoryView) (start now : State) (s : Standin
   pub last : Standing
   pub after : IsAfter s (accepted_commands commands marks) last
   pub marked : AreMarks old.journal.layout s commands marks last
+  pub rules : RulesAlong s.geometry.objects s.carousel (accepted_commands commands marks)
   -- that is the carousel at the end
   pub agrees : Agrees new last
   -- where no device fault ended the run, the disk stands for it too
@@ -76,5 +85,5 @@ place_anew (command ∷ commands) last place =
 -- Where a player does not follow, only the last carousel's turn counts.
 abbrev pub TurnsBeginAnew : Type 0
 TurnsBeginAnew =
-    (s last : Standing) (commands : List Command) (place : Place) → place.follows ≡ false
+    (s last : Standing) (commands : List Command) (place : Place) → place.follows ≡ None
     → IsAfter s commands last → place_behind s commands place ≡ place_anew commands last place

@@ -1,5 +1,5 @@
 //! Commands in a row, up to the first that can't be answered.
-ghost use Rattle.std.specs.Prelude.{◌≡◌, ◌⊎◌, ◌<◌, false, [], ◌∷◌, length, vec_len, Ok, Some};
+ghost use Rattle.std.specs.Prelude.{◌≡◌, ◌⊎◌, ◌<◌, false, [], ◌∷◌, length, vec_len, None, Ok, Some};
 ghost use Rattle.std.specs.Prelude.{IfErr, IfOk, IsFalse, IsTrue, MatchResult, OnErr, OnOk};
 ghost use Rattle.mot_numbers.specs.Refusal.{IsCalm};
 ghost use Rattle.mot_numbers.specs.declared.refusal.Refusal.TheVariants.{DeviceFault, Halted};
@@ -132,7 +132,7 @@ impl<D: Disk> Server<D> {
             → place_in self.new last
             ≡ place_behind s (accepted_commands (command.now ∷ []) (marks_of result))
             (place_in self.old s) }
-        ensures anew { (s next : Standing) → self.old.player.follows ≡ false
+        ensures anew { (s next : Standing) → self.old.player.follows ≡ None
             → Agrees self.old.view s → Agrees self.new.view next → OnOk (answer_of result)
             (place_in self.new next
             ≡ change_turn (turn_of_carousel next.carousel next.geometry.segment)

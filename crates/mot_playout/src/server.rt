@@ -1,6 +1,6 @@
 //! The server: a repository, and a player of what it keeps.
 ghost use Rattle.std.specs.Prelude.{◌≡◌, ◌<◌, ◌≤◌, ◌==◌, ◌↔◌, ℕ, List, true, false, not};
-ghost use Rattle.std.specs.Prelude.{Ok, OnOk, OnErr, IfSome};
+ghost use Rattle.std.specs.Prelude.{None, Ok, OnOk, OnErr, IfSome};
 ghost use Rattle.std.specs.Prelude.{◌+◌, ◌^◌, ◌⊎◌, vec_len, IfOk, IfErr};
 ghost use Rattle.std.specs.Prelude.{IsFalse, IsTrue, MatchResult};
 ghost use Rattle.disk_model.specs.Disk.{Keeps, Costs, OnlyReads, OnlySyncs};
@@ -223,7 +223,7 @@ impl<D: Disk> Server<D> {
             → place_in self.new next
             ≡ changed (turn_of_carousel next.carousel next.geometry.segment)
             (place_in self.old s)) }
-        ensures anew { (s next : journal.Standing) → self.old.player.follows ≡ false
+        ensures anew { (s next : journal.Standing) → self.old.player.follows ≡ None
             → Agrees self.old.view s → Agrees self.new.view next → OnOk result
             (place_in self.new next
             ≡ change_turn (turn_of_carousel next.carousel next.geometry.segment)
@@ -239,15 +239,16 @@ impl<D: Disk> Server<D> {
     }
 
     /// From now on a command that is accepted does not begin the turn anew: the new directory and
-    /// the changed body come next, and then the turn goes on. It takes no memory, and does not call
-    /// the disk; each command then takes memory for a few more numbers.
-    pub fn follow_changes(&mut self)
+    /// the changed body come next, and then the turn goes on. A changed body comes in its place
+    /// alone while `early` others that are not begun wait to come before it. It takes no memory,
+    /// and does not call the disk; each command then takes memory for a few more numbers.
+    pub fn follow_changes(&mut self, early: usize)
         ensures disk { self.new.disk ≡ self.old.disk }
         ensures view { self.new.view ≡ self.old.view }
         ensures place { (s : journal.Standing)
-            → place_in self.new s ≡ following (place_in self.old s) }
+            → place_in self.new s ≡ following early (place_in self.old s) }
     {
-        self.player.follow_changes();
+        self.player.follow_changes(early);
     }
 
     /// Whether changed bodies wait, which come before the turn goes on.

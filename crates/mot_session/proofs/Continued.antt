@@ -1,7 +1,7 @@
 -- The packets of a session, in order.
-use Rattle.std.proofs.Common.{◌≡◌, ℕ, ◌-◌, ◌<◌, Bool, true, false, List, [], ◌∷◌, ◌++◌, Some}
+use Rattle.std.proofs.Common.{◌≡◌, ℕ, ◌-◌, ◌<◌, Bool, true, false, List, [], ◌∷◌, ◌++◌, None, Some}
 use Rattle.std.proofs.Common.{Result, Ok, Err}
-use Rattle.std.specs.Prelude.{if◌then◌else◌}
+use Rattle.std.specs.Prelude.{if◌then◌else◌, is_some}
 use Rattle.std.proofs.Common.{refl, sym, ap}
 use Rattle.std.proofs.Common.{◌∙◌, subst, inl, inr, arith, map}
 use Rattle.std.proofs.lemmas.List.{map-append}
@@ -68,7 +68,8 @@ Leads-cases place turn false = Leads-anew place turn
 Leads-change : (place : Place) (c : Carousel) (size : ℕ)
     → Leads place (changed (turn_of_carousel c size) place) []
 unfolding changed
-Leads-change place c size = Leads-cases place (turn_of_carousel c size) place.follows
+Leads-change place c size =
+    Leads-cases place (turn_of_carousel c size) (is_some place.follows)
 
 Leads-on : (before mid after : Place) (ps qs : List (List ℕ)) → Leads before mid ps
     → Leads mid after qs
@@ -155,7 +156,7 @@ continuous : (before : ServerState) (after : Place) (sent : List (List ℕ))
 continuous before after sent v opened l =
     let g = before.standing.geometry in
     let turn = turn_of_carousel before.standing.carousel g.segment in
-    steps-are-continuous g.address (packet_room g) g.segment turn false l.steps l.sents after
+    steps-are-continuous g.address (packet_room g) g.segment turn None l.steps l.sents after
     sent
     (some_room g.packet v.8)
     (subst (λ (p : Place). sent_by p l.steps ≡ Some (l.sents, after)) opened l.taken) l.read

@@ -55,6 +55,8 @@ struct Manner {
     turns: u64,
     directory: u32,
     look: u32,
+    /// How many changed bodies come before the turn goes on, at most.
+    early: u32,
     /// How many packets come between two reads of lines, and one more.
     lines: u32,
     /// How many packets come between two looks.
@@ -168,6 +170,7 @@ fn any_manner(chance: &mut Chance) -> Manner {
         looks: chance.one_of([8, 20, 50, 100]),
         at_once: chance.any(2) == 0,
         packets: chance.one_of([10, 30, 100, 200]),
+        early: chance.one_small([0, 1, 3, 8]),
     }
 }
 
@@ -366,11 +369,15 @@ fn is_fed<D: Disk, U: Update>(
         turns,
         directory,
         look,
+        early,
         ..
     } = manner;
     // Its sizes are in their ranges: each packet has room. (The line is there for the proof.)
     let _ = server.geometry();
-    feed_every(server, alloc, update, &mut air, turns, directory, look).is_ok()
+    feed_every(
+        server, alloc, update, &mut air, turns, directory, look, early,
+    )
+    .is_ok()
 }
 
 /// The folder of objects.

@@ -1,5 +1,5 @@
 -- The course of a turn: what is due, and what it becomes.
-use Rattle.std.specs.Prelude.{ℕ, ◌+◌, ◌-◌, Bool, false, ◌==◌, nat_lt, if◌then◌else◌}
+use Rattle.std.specs.Prelude.{ℕ, ◌+◌, ◌-◌, Bool, false, ◌&&◌, ◌==◌, nat_lt, if◌then◌else◌}
 use Rattle.std.specs.Prelude.{List, [], ◌∷◌, ◌++◌, Option, Some, None}
 use Rattle.mot_player.specs.Course.{CourseView}
 use Rattle.mot_player.specs.declared.course.Waiting.{Waiting}
@@ -95,28 +95,45 @@ abbrev pub kept_of : Difference → List Waiting → List Waiting
 kept_of difference [] = []
 kept_of difference (w ∷ queue) = one_more (kept difference w) (kept_of difference queue)
 
--- From which segment on the bodies come, of a turn that had so many entities. What was sent of a
--- body that went is not sent again, and what was not sent of it is dropped.
-abbrev pub rest_from : Difference → ℕ → Waiting → Waiting
-rest_from Nothing count w = w
-rest_from Added count w =
-    if w.entity == count then record { entity = count + 1; segment = 0 } else w
-rest_from (Changed n) count w =
+-- of what is queued, how many entities are not begun
+abbrev pub entities_not_begun : List Waiting → ℕ
+entities_not_begun [] = 0
+entities_not_begun (w ∷ queue) = (if w.segment == 0 then 1 else 0) + entities_not_begun queue
+
+-- Whether the body that came is queued: of what stays queued, fewer are not begun.
+abbrev pub is_queued : Difference → ℕ → List Waiting → Bool
+is_queued difference most queue = nat_lt (entities_not_begun (kept_of difference queue)) most
+
+-- what is queued after a change
+abbrev pub queue_after : Difference → ℕ → ℕ → List Waiting → List Waiting
+queue_after difference most count queue =
+    kept_of difference queue
+    ++ (if is_queued difference most queue then one_more (fresh_of difference count) [] else [])
+
+-- From which segment on the bodies come, of a turn that had so many entities, where the body that
+-- came is queued or is not. What was sent of a body that went is not sent again, and what was not
+-- sent of it is dropped.
+abbrev pub rest_from : Difference → Bool → ℕ → Waiting → Waiting
+rest_from Nothing early count w = w
+rest_from Added early count w =
+    if w.entity == count && early then record { entity = count + 1; segment = 0 } else w
+rest_from (Changed n) early count w =
     if w.entity == n then
     if w.segment == 0 then w else record { entity = w.entity + 1; segment = 0 }
     else w
-rest_from (Removed n) count w =
+rest_from (Removed n) early count w =
     if w.entity == n then record { entity = n; segment = 0 }
     else if nat_lt n w.entity then record { entity = w.entity - 1; segment = w.segment }
     else w
 
--- the course of a turn that is followed
-abbrev pub followed : Difference → ℕ → CourseView → CourseView
-followed difference count c =
-    let rest = rest_from difference count (record { entity = c.entity; segment = c.segment }) in
+-- the course of a turn that is followed, with at most so many queued that are not begun
+abbrev pub followed : Difference → ℕ → ℕ → CourseView → CourseView
+followed difference most count c =
+    let rest = rest_from difference (is_queued difference most c.queue) count
+    (record { entity = c.entity; segment = c.segment }) in
     record {
       directory = Some 0;
-      queue = kept_of difference c.queue ++ one_more (fresh_of difference count) [];
+      queue = queue_after difference most count c.queue;
       entity = rest.entity;
       segment = rest.segment;
     }
@@ -126,7 +143,7 @@ abbrev pub left_course : Bool → ℕ → CourseView → CourseView
 left_course idle count c = if idle then if has_ended count c then whole_course else c else c
 
 -- the course of a changed turn; where it cannot be followed, it begins
-abbrev pub changed_course : Option Difference → Bool → ℕ → CourseView → CourseView
-changed_course None idle count c = whole_course
-changed_course (Some difference) idle count c =
-    followed difference count (left_course idle count c)
+abbrev pub changed_course : Option Difference → Bool → ℕ → ℕ → CourseView → CourseView
+changed_course None idle most count c = whole_course
+changed_course (Some difference) idle most count c =
+    followed difference most count (left_course idle count c)

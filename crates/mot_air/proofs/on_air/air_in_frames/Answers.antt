@@ -12,25 +12,26 @@ use Rattle.mot_playout.specs.Attempts.{fault_of}
 use Rattle.mot_status.specs.Teller.{TellerView}
 
 -- the same of equal numbers, and of an equal hand
-same_numbers : (P : ℕ → ℕ → ℕ → Option (List ℕ × ℕ) → Type 0) {d e l m t u : ℕ}
-    {h k : Option (List ℕ × ℕ)} → d ≡ e → l ≡ m → t ≡ u → h ≡ k → P d l t h → P e m u k
-same_numbers P {d} {e} {l} {m} {t} {u} {h} {k} ds ls ts hs p =
-    subst (λ x. P e m u x) hs (subst (λ x. P e m x h) ts (subst (λ x. P e x t h) ls
-    (subst (λ x. P x l t h) ds p)))
+same_numbers : (P : ℕ → ℕ → ℕ → ℕ → Option (List ℕ × ℕ) → Type 0) {d e l m a b t u : ℕ}
+    {h k : Option (List ℕ × ℕ)} → d ≡ e → l ≡ m → a ≡ b → t ≡ u → h ≡ k → P d l a t h
+    → P e m b u k
+same_numbers P {d} {e} {l} {m} {a} {b} {t} {u} {h} {k} ds ls bs ts hs p =
+    subst (λ x. P e m b u x) hs (subst (λ x. P e m b x h) ts (subst (λ x. P e m x t h) bs
+    (subst (λ x. P e x a t h) ls (subst (λ x. P x l a t h) ds p))))
 
 module _ (same : Same) (w : Manner → Option Watch) (first : TellerView) (given : Inputs)
     (refused : Bool) (ending : Option Refusal) (before after : Option (List (List ℕ)))
     (start now : State) (log : Option (List ℕ)) where
-  abbrev AirsSo : ℕ → ℕ → ℕ → Option (List ℕ × ℕ) → Type 0
-  AirsSo directory look turns reads = (last : TellerView)
-      × Plays (tale_told same (w (manner directory look turns)) reads
-      (manner directory look turns) given refused first last) (manner directory look turns) ending
-      before after start now
+  abbrev AirsSo : ℕ → ℕ → ℕ → ℕ → Option (List ℕ × ℕ) → Type 0
+  AirsSo directory look early turns reads = (last : TellerView)
+      × Plays (tale_told same (w (manner directory look early turns)) reads
+      (manner directory look early turns) given refused first last)
+      (manner directory look early turns) ending before after start now
       × EndsAs reads ending turns last log
 
-  airs_so : {d e l m t u : ℕ} {h k : Option (List ℕ × ℕ)} → d ≡ e → l ≡ m → t ≡ u → h ≡ k
-      → AirsSo d l t h → AirsSo e m u k
-  airs_so ds ls ts hs is = same_numbers AirsSo ds ls ts hs is
+  airs_so : {d e l m a b t u : ℕ} {h k : Option (List ℕ × ℕ)} → d ≡ e → l ≡ m → a ≡ b → t ≡ u
+      → h ≡ k → AirsSo d l a t h → AirsSo e m b u k
+  airs_so ds ls bs ts hs is = same_numbers AirsSo ds ls bs ts hs is
 
 pub returns-in-Some : goal.returns-in-Some
 returns-in-Some g c =
@@ -41,7 +42,8 @@ returns-in-Some g c =
     (g.O.Outlet.writes c.args.outlet.now) (g.O.Outlet.writes c.play_and_answer.new.outlet)
     (g.D.Disk.state c.args.disk) (g.D.Disk.state c.play_and_answer.result.ended.disk)
     (g.L.Write.contents c.play_and_answer.result.log)
-    c.directory_of-directory.ensures c.look_of-look.ensures c.turns_of-turns.ensures
+    c.directory_of-directory.ensures c.look_of-look.ensures c.early_of-early.ensures
+    c.turns_of-turns.ensures
     (sym (ap (λ (o : Option (LineFolder _)). option_map (λ l. (l.hand, l.every - 1)) o) c.in-Some.is))
     c.play_and_answer.ensures
 
@@ -54,6 +56,7 @@ returns-in-None g c =
     (g.O.Outlet.writes c.args.outlet.now) (g.O.Outlet.writes c.play_disk.new.outlet)
     (g.D.Disk.state c.args.disk) (g.D.Disk.state c.play_disk.result.ended.disk)
     (g.L.Write.contents c.play_disk.result.log)
-    c.directory_of-directory.ensures c.look_of-look.ensures c.turns_of-turns.ensures
+    c.directory_of-directory.ensures c.look_of-look.ensures c.early_of-early.ensures
+    c.turns_of-turns.ensures
     (sym (ap (λ (o : Option (LineFolder _)). option_map (λ l. (l.hand, l.every - 1)) o) c.in-None.is))
     c.play_disk.ensures

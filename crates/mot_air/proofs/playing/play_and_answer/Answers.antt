@@ -9,7 +9,7 @@ use Rattle.mot_update.specs.Watching.{looks_known}
 
 pub returns-in-Some : goal.returns-in-Some
 returns-in-Some g c =
-    let how = manner c.args.directory c.args.look c.args.turns in
+    let how = manner c.args.directory c.args.look c.args.early c.args.turns in
     let told = c.play_answering-ended.ensures in
     let ended = c.play_answering-ended.result.0 in
     let before = g.O.Outlet.writes c.args.outlet.now in
@@ -26,7 +26,7 @@ returns-in-Some g c =
           (looks_known u.count u.folder.report.events.items u.before.items))
           (watch_in how (g.S.Shelf.path c.in-Some.followed.shelf) c.in-Some.followed.types.now
           c.in-Some.followed.allows_empty)
-          out.any_refused (c.looks_at-update.ensures.watch c.args.turns)
+          out.any_refused (c.looks_at-update.ensures.watch c.args.early c.args.turns)
           c.looks_at-update.ensures.none
           (ap (λ (u : _). u.looks.all) told.1 ∙ ap (λ (l : _). l.all) (sym c.looking.ensures.looks))
           (ap (λ (u : _). u.any_refused) told.1 ∙ sym c.looking.ensures.refused)
@@ -40,7 +40,7 @@ returns-in-Some g c =
 
 pub returns-in-None : goal.returns-in-None
 returns-in-None g c =
-    let how = manner c.args.directory c.args.look c.args.turns in
+    let how = manner c.args.directory c.args.look c.args.early c.args.turns in
     let told = c.play_answering-ended-in-None.ensures in
     let ended = c.play_answering-ended-in-None.result.0 in
     let before = g.O.Outlet.writes c.args.outlet.now in

@@ -8,7 +8,7 @@ use Rattle.mot_status.specs.Teller.{teller}
 
 pub returns : goal.returns
 returns g c =
-    let how = manner c.args.directory c.args.look c.args.turns in
+    let how = manner c.args.directory c.args.look c.args.early c.args.turns in
     let fed = c.feed_lines-fed.result in
     let ended = c.end_lines-ended.result in
     let before = g.O.Outlet.writes c.args.outlet.now in

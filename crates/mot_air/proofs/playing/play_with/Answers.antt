@@ -9,7 +9,7 @@ use Rattle.mot_playout.specs.Attempts.{fault_of}
 pub returns-in-Open-clause-ended : goal.returns-in-Open-clause-ended
 returns-in-Open-clause-ended g c =
     let state = g.D.Disk.state in
-    let how = manner c.args.directory c.args.look c.args.turns in
+    let how = manner c.args.directory c.args.look c.args.early c.args.turns in
     subst (λ d. Plays (tale_of g.U.Update.tells how c.args.update.now c.feed_disk.new.update) how
     (fault_of c.in-Open.result) (g.O.Outlet.writes c.args.outlet.now)
     (g.O.Outlet.writes c.feed_disk.new.outlet) (state c.args.disk) (state d))
@@ -19,7 +19,7 @@ pub returns-in-Open-clause-lives : goal.returns-in-Open-clause-lives
 returns-in-Open-clause-lives g c =
     let state = g.D.Disk.state in
     let ending = fault_of c.in-Open.result in
-    let how = manner c.args.directory c.args.look c.args.turns in λ geometry first done was.
+    let how = manner c.args.directory c.args.look c.args.early c.args.turns in λ geometry first done was.
     subst (λ d. (state d).IsHonest → IsSomeAnd ending (λ r.
     IsUnopened r (state c.args.disk) (state d))
     ⊎ AirsOn geometry first done (tale_of g.U.Update.tells how c.args.update.now

@@ -1,6 +1,6 @@
-use Rattle.std.proofs.Common.{◌≡◌, ◌<◌, ℕ, false, not, arith, subst, sym}
+use Rattle.std.proofs.Common.{◌≡◌, ◌<◌, ℕ, false, Some, arith, subst, sym}
 use Rattle.std.proofs.lemmas.Bool.{ne_eqb}
-use Rattle.std.specs.Prelude.{◌==◌, ◌||◌, if◌then◌else◌}
+use Rattle.std.specs.Prelude.{◌==◌, if◌then◌else◌}
 use Rattle.mot_feed.specs.Feeding.{Feeds}
 use Rattle.mot_feed.specs.Often.{IsOften, look_in, server_for}
 use Rattle.mot_feed.proofs.Fed.{continuous}
@@ -11,23 +11,25 @@ use Rattle.mot_playout.specs.Attempts.{fault_of}
 use Rattle.mot_playout.specs.Server.{ServerView, following_server}
 
 -- which look, and which server, by whether the directory is sent again
-module _ {D : Type 0} (look : ℕ) (old : ServerView D) (P : ℕ → ServerView D → Type 0) where
-  as_ever : (every : ℕ) → every ≡ 0 → P 0 old → P (look_in every look) (server_for every old)
-  as_ever every none p = subst (λ n. P (look_in n look) (server_for n old)) (sym none) p
+module _ {D : Type 0} (look early : ℕ) (old : ServerView D) (P : ℕ → ServerView D → Type 0) where
+  as_ever : (every : ℕ) → every ≡ 0 → P 0 old → P (look_in every look)
+      (server_for every early old)
+  as_ever every none p =
+      subst (λ n. P (look_in n look) (server_for n early old)) (sym none) p
 
-  followed : (every : ℕ) → (every ≡ 0 → ⊥) → P look (following_server old)
-      → P (look_in every look) (server_for every old)
+  followed : (every : ℕ) → (every ≡ 0 → ⊥) → P look (following_server early old)
+      → P (look_in every look) (server_for every early old)
   followed every some p =
       let differs : (every == 0) ≡ false = ne_eqb every 0 some in
       subst (λ b. P (if b then 0 else look) (record old {
-        player = record old.player { follows = not b || old.player.follows };
+        player = record old.player { follows = if b then old.player.follows else Some early };
       })) (sym differs) p
 
 pub returns-then-every-eq0-clause-fed : goal.returns-then-every-eq0-clause-fed
 returns-then-every-eq0-clause-fed g c = λ s holds honest.
     let state = g.D.Disk.state in
     let none = c.if-every-eq0.true in
-    as_ever c.args.look c.args.server.now
+    as_ever c.args.look c.args.early c.args.server.now
     (λ look old. (feeds : Feeds g.U.Update.tells look c.args.turns (fault_of c.feed.result)
     c.args.update.now c.feed.new.update old c.feed.new.server
     (state c.args.server.now.disk) (state c.feed.new.server.disk) s
@@ -39,7 +41,7 @@ returns-then-every-eq0-clause-fed g c = λ s holds honest.
 pub returns-clause-fed : goal.returns-clause-fed
 returns-clause-fed g c = λ s holds honest.
     let state = g.D.Disk.state in
-    followed c.args.look c.args.server.now
+    followed c.args.look c.args.early c.args.server.now
     (λ look old. (feeds : Feeds g.U.Update.tells look c.args.turns
     (fault_of c.feed_often.result) c.args.update.now c.feed_often.new.update old
     c.feed_often.new.server (state c.args.server.now.disk) (state c.feed_often.new.server.disk) s

@@ -26,11 +26,11 @@ use Rattle.mot_update.specs.Between.{IsUpdating, may_look}
 use Rattle.mot_update.proofs.Laws.{calm_on, fault_on}
 
 -- a server that was told to follow stands where one stands that follows
-told : {D : Type 0} (old mid : ServerView D) (s : Standing)
-    → place_in mid s ≡ following (place_in old s)
-    → place_in mid s ≡ place_in (following_server old) s
+told : {D : Type 0} (early : ℕ) (old mid : ServerView D) (s : Standing)
+    → place_in mid s ≡ following early (place_in old s)
+    → place_in mid s ≡ place_in (following_server early old) s
 unfolding following
-told old mid s is = is
+told early old mid s is = is
 
 pub loop-init : goal.loop-init
 loop-init g c =
@@ -51,10 +51,10 @@ loop-init g c =
           let sound = g.met.D.Disk.sound old.disk was in
           let still = subst (λ d. IsUnchanged (state old.disk) (state d)) (sym told_to.disk)
           (unchanged_none (state old.disk)) in
-          let place = told old mid s (told_to.place s) in (
-            fed_none tells c.args.look first (following_server old) mid (state old.disk)
+          let place = told c.args.early old mid s (told_to.place s) in (
+            fed_none tells c.args.look first (following_server c.args.early old) mid (state old.disk)
                 (state mid.disk) s c.args.turns writes told_to.view place sound honest still holds,
-            none_often tells c.args.every c.args.look first (following_server old) mid
+            none_often tells c.args.every c.args.look first (following_server c.args.early old) mid
                 (state old.disk) (state mid.disk) s c.args.turns writes told_to.view place sound
                 honest still holds,
           );
@@ -138,7 +138,7 @@ found : (g : given.Over) (c : After-send_one g) (s : Standing)
     → Holds c.args.server.now.view s (g.D.Disk.state c.args.server.now.disk)
     → (g.D.Disk.state c.ask.new.server.disk).IsHonest
     → (so_far : SoFar g.U.Update.tells c.args.look (Called None) c.args.update.now c.update.new.self
-    (following_server c.args.server.now) c.ask.new.server
+    (following_server c.args.early c.args.server.now) c.ask.new.server
     (g.D.Disk.state c.args.server.now.disk)
     (g.D.Disk.state c.ask.new.server.disk) s c.args.turns c.loop.left
     c.loop.between_turns c.loop.rest c.loop.counter (g.O.Outlet.writes c.args.outlet.now)

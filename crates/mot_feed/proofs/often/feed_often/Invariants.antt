@@ -17,7 +17,7 @@ invariant-loop g l = record {
   fed : (s : Standing) → Holds l.fn.server.view s (g.D.Disk.state l.fn.server.disk)
       → (g.D.Disk.state l.server.disk).IsHonest
       → (so_far : SoFar g.U.Update.tells l.look Ready l.fn.update l.update
-      (following_server l.fn.server) l.server
+      (following_server l.early l.fn.server) l.server
       (g.D.Disk.state l.fn.server.disk) (g.D.Disk.state l.server.disk) s
       l.turns l.left l.between_turns l.rest l.counter
       (g.O.Outlet.writes l.fn.outlet) (g.O.Outlet.writes l.outlet))

@@ -67,6 +67,7 @@ run_without_memory old new start now s commands marks run = record {
     last = run.leaves.last;
     after = run.leaves.after;
     marked = run.leaves.marked;
+    rules = run.leaves.rules;
     agrees = run.leaves.agrees;
     going = λ e. run.leaves.going refl;
     any_moment = run.leaves.any_moment;

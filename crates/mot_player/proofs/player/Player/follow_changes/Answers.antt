@@ -6,4 +6,4 @@ use Rattle.mot_player.proofs.player.Player.follow_changes.Goals as goal
 pub returns-clause-place : goal.returns-clause-place
 unfolding following
 returns-clause-place c = λ bodies.
-    ap (λ (s : PlayerView). following (place_of s bodies)) c.self.view_is
+    ap (λ (s : PlayerView). following c.args.most (place_of s bodies)) c.self.view_is

@@ -10,7 +10,9 @@ use Rattle.mot_player.proofs.GoesOn.{steps-go_on}
 use Rattle.mot_player.proofs.TurnOnce.{turns-read}
 use Rattle.mot_player.proofs.Segments.{segments_from-end}
 use Rattle.mot_player.proofs.Rounds.{rounds_are_continuous}
-use Rattle.mot_player.proofs.Followed.{changes-come-next, replaced-keeps-its_place}
+use Rattle.mot_player.proofs.FewEarly.{few-go-early}
+use Rattle.mot_player.proofs.Followed.{changes-come-next, changes-go-early}
+use Rattle.mot_player.proofs.Followed.{replaced-keeps-its_place}
 use Rattle.mot_player.proofs.Staying.{bodies-go_on, directory-comes, requests-take-in-order}
 use Rattle.mot_player.proofs.player.Player.new.Goals as goal
 
@@ -46,6 +48,12 @@ returns-clause-directory_comes c = directory-comes
 
 pub returns-clause-changes_next : goal.returns-clause-changes_next
 returns-clause-changes_next c = changes-come-next
+
+pub returns-clause-changes_early : goal.returns-clause-changes_early
+returns-clause-changes_early c = changes-go-early
+
+pub returns-clause-few_early : goal.returns-clause-few_early
+returns-clause-few_early c = few-go-early
 
 pub returns-clause-bodies_go_on : goal.returns-clause-bodies_go_on
 returns-clause-bodies_go_on c = bodies-go_on

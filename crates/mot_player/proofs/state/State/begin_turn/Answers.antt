@@ -1,6 +1,5 @@
-use Rattle.std.proofs.Common.{◌≡◌, ℕ, ap, length, ◌∙◌, subst, sym}
-use Rattle.mot_player.specs.Course.{CourseView, course_of, entities_of, queued, waiting_of}
-use Rattle.mot_player.specs.Inner.Course.{whole_course}
+use Rattle.std.proofs.Common.{ℕ, ap, length, ◌∙◌, subst, sym}
+use Rattle.mot_player.specs.Course.{CourseView, entities_of, queued, waiting_of}
 use Rattle.mot_player.specs.PlayerView.{turn_with}
 use Rattle.mot_player.specs.Inner.Entities.{IsOnCourse}
 use Rattle.mot_player.specs.Inner.Ready.{IsFitted, place_with}

@@ -113,7 +113,8 @@ returns-in-Ok-clause-leaves g c = λ s holds.
     (goes_on_true layout old.view new.view (state old.disk) (state old.disk) (state new.disk) s
     (command ∷ []) [] command refl so_far
     c.in-Ok.ensures.keeps (c.in-Ok.ensures.any_moment so_far.last so_far.holds) c.in-Ok.done
-    c.in-Ok.ensures.answered (c.in-Ok.ensures.ok so_far.last so_far.holds))
+    c.in-Ok.ensures.answered (c.in-Ok.ensures.ok so_far.last so_far.holds)
+    (g.met.D.Disk.sound new.disk))
 
 pub returns-in-Ok-clause-place : goal.returns-in-Ok-clause-place
 returns-in-Ok-clause-place g c = λ s last holds after.

@@ -1,5 +1,6 @@
 use Rattle.std.proofs.Common.{◌≡◌, ℕ, ◌+◌, ◌≤◌, ◌<◌, length, Err, inl, inr, refl, sym, ap, ◌∙◌}
-use Rattle.std.proofs.Common.{arith, subst}
+use Rattle.std.proofs.Common.{arith, subst, Option}
+use Rattle.std.specs.Prelude.{is_some}
 use Rattle.std.proofs.lemmas.Result.{IfOk-from_err, MatchResult-from_err}
 use Rattle.disk_model.proofs.Laws.{begins, keeps_none}
 use Rattle.disk_model.proofs.Laws.{unchanged_none}
@@ -73,7 +74,8 @@ returns-clause-anew g c = λ s next not was agrees.
     begins_after c.commit.new.self.view s next old new plan agrees c.follow.ensures.turn
     (invariant_of-self-2 g c)
     (λ bodies came. c.follow.ensures.begun bodies came
-    (ap (λ (p : PlayerView). p.follows) same ∙ not)
+    (ap (λ (p : PlayerView). is_some p.follows) same
+    ∙ ap (λ (o : Option ℕ). is_some o) not)
     ∙ ap (λ (p : PlayerView). change_turn (turn_with plan came) (place_of p bodies)) same)
 
 pub returns-clause-place : goal.returns-clause-place

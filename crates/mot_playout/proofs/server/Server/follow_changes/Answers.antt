@@ -17,4 +17,5 @@ pub returns-clause-place : goal.returns-clause-place
 returns-clause-place g c = λ s.
     let same : c.self.inside.player ≡ c.args.self.now.player = rw (← c.self.view_is) refl in
     c.follow_changes.ensures.place (bodies_of s.carousel)
-    ∙ ap (λ (p : PlayerView). following (place_of p (bodies_of s.carousel))) same
+    ∙ ap (λ (p : PlayerView). following c.args.early
+    (place_of p (bodies_of s.carousel))) same

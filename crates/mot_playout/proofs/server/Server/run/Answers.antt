@@ -179,7 +179,8 @@ loop-command-preserved g c =
                 (state c.loop-command.self.disk) (state c.execute.new.self.disk) s
                 c.args.commands.now c.loop-command.done.items c.command-item.result at so_far
                 run.keeps (run.any_moment so_far.last so_far.holds) w.in-Ok-execute.field-0
-                run.answered (run.ok so_far.last so_far.holds));
+                run.answered (run.ok so_far.last so_far.holds)
+                (g.met.D.Disk.sound c.execute.new.self.disk));
           }
       | in-Err+else-ends_run w ↦
           let now = ap (λ (v : Vec Bool). v.items) w.done-is
