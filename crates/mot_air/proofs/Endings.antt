@@ -6,6 +6,7 @@ use Rattle.mot_air.specs.Telling.{EndsTelling, no_looks}
 use Rattle.mot_air.specs.Telling.EndsTelling.{broken, ended}
 use Rattle.mot_events.specs.declared.event.LookEvent.{LookEvent}
 use Rattle.mot_folder.specs.Looked.{so_far}
+use Rattle.mot_folder.specs.declared.known.Known.{Known}
 use Rattle.mot_numbers.specs.declared.refusal.Refusal.{Refusal}
 use Rattle.mot_playout.specs.Attempts.{fault_of}
 use Rattle.mot_repository.specs.Repository.{RepositoryView}
@@ -31,13 +32,14 @@ is_ended (Err r) = ((λ is. let h = is in cc), (λ none. absurd (not_none r none
 
 -- no look has come
 pub none_yet : (left : ℕ) (given : List Given) (refused : Bool) (count : ℕ)
-    (events before : List LookEvent) → left ≡ 0 → given ≡ [] → refused ≡ false → count ≡ 0
-    → events ≡ [] → before ≡ []
-    → so_far left given refused (looks_known count events before) ≡ no_looks
-none_yet left given refused count events before due none fine uncounted untold unknown =
-    ap (λ n. so_far n given refused (looks_known count events before)) due
-    ∙ ap (λ g. so_far 0 g refused (looks_known count events before)) none
-    ∙ ap (λ r. so_far 0 [] r (looks_known count events before)) fine
-    ∙ ap (λ n. so_far 0 [] false (looks_known n events before)) uncounted
-    ∙ ap (λ e. so_far 0 [] false (looks_known 0 e before)) untold
-    ∙ ap (λ b. so_far 0 [] false (looks_known 0 [] b)) unknown
+    (events before : List LookEvent) (files : List Known) → left ≡ 0 → given ≡ [] → refused ≡ false → count ≡ 0
+    → events ≡ [] → before ≡ [] → files ≡ []
+    → so_far left given refused (looks_known count events before) files ≡ no_looks
+none_yet left given refused count events before files due none fine uncounted untold unknown no_file =
+    ap (λ n. so_far n given refused (looks_known count events before) files) due
+    ∙ ap (λ g. so_far 0 g refused (looks_known count events before) files) none
+    ∙ ap (λ r. so_far 0 [] r (looks_known count events before) files) fine
+    ∙ ap (λ n. so_far 0 [] false (looks_known n events before) files) uncounted
+    ∙ ap (λ e. so_far 0 [] false (looks_known 0 e before) files) untold
+    ∙ ap (λ b. so_far 0 [] false (looks_known 0 [] b) files) unknown
+    ∙ ap (so_far 0 [] false (looks_known 0 [] [])) no_file

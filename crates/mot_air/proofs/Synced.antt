@@ -16,9 +16,10 @@ use Rattle.mot_feed.specs.Feeding.{IsFeedFault}
 use Rattle.mot_events.specs.Text.{met_line}
 use Rattle.mot_events.specs.declared.event.LookEvent.{LookEvent}
 use Rattle.mot_folder.specs.Log.{ReportTells}
-use Rattle.mot_folder.proofs.Laws.{every_named}
+use Rattle.mot_folder.proofs.Laws.{every_named, none_passed}
 use Rattle.mot_folder.specs.Looked.{HasLookedAtFolder, IsLook, TellsRightly, kept, listed}
 use Rattle.mot_folder.specs.Looked.{unlisted}
+use Rattle.mot_folder.specs.declared.known.Known.{Known}
 use Rattle.mot_folder.specs.declared.report.Report.{Report}
 use Rattle.mot_journal.specs.Image.{Standing, half_of}
 use Rattle.mot_journal.specs.Slot.{layout_of}
@@ -108,14 +109,15 @@ module _ {D : Type 0} (state : D → State) (disk : D) (server new : ServerView 
 
   -- what a look came to of the disk, from its opening on
   has_synced : (s : Standing) (types : List SuffixType) (allows : Bool) (path : List ℕ)
-      (given : Given) (report : Report) (fault : Option Refusal) → (state new.disk).IsHonest
+      (given : Given) (report : Report) (fault : Option Refusal) (files : List Known)
+      → (state new.disk).IsHonest
       → AllAre s (state disk)
       → HasLookedAtFolder server new (state server.disk) (state new.disk) s types allows path given
-      report fault
+      report fault [] files
       → (entries : List LookEvent)
       × HasSynced types allows path given (state disk) (state new.disk) (not report.any_refused)
       fault entries s × ReportTells report entries
-  has_synced s types allows path given report fault honest all looked =
+  has_synced s types allows path given report fault files honest all looked =
       let was = keeps.was_honest honest in (
         looked.entries,
         record {
@@ -126,6 +128,7 @@ module _ {D : Type 0} (state : D → State) (disk : D) (server new : ServerView 
               (sound disk (opens.keeps.was_honest was)) all (opens.still was) looked.run.leaves;
           names = looked.names;
           wanted = looked.wanted;
+          known = files;
           look = looked.look;
           right = subst (λ (l : Layout). TellsRightly l s looked.commands looked.entries)
               (layout_is s honest all) looked.right;
@@ -140,16 +143,17 @@ module _ {D : Type 0} (state : D → State) (disk : D) (server new : ServerView 
           (entries : List LookEvent)
           → HasRun server new (state server.disk) (state new.disk) s commands marks fault
           → IsLook types allows path given s.carousel commands marks fault names wanted fine entries
+          [] files
           → fine ≡ true → fault ≡ None → IsEqual s names wanted (state new.disk)
       equal fine fault commands marks names wanted entries run
-          (unlisted refusal why refused ends none are plain) e n =
+          (unlisted refusal why refused ends none are plain stays) e n =
           absurd (let no : false ≡ true = sym refused ∙ e in cc)
       equal fine fault commands marks names wanted entries run
-          (kept listing stays refused ends none are plain) e n =
+          (kept listing stays refused ends none are plain after) e n =
           absurd (let no : false ≡ true = sym refused ∙ e in cc)
       equal fine fault commands marks names wanted entries run
           (listed shown listing updates is_update others split whole exact answers told are lasting
-          seen gone each) e n =
+          seen gone each passed limit end at comes) e n =
           let fine_is = exact.0 e in
           let all_run : commands ≡ updating s.carousel names wanted =
           sym (append-nil commands) ∙ ap (λ l. commands ++ l) (sym (whole n)) ∙ sym split in
@@ -157,7 +161,8 @@ module _ {D : Type 0} (state : D → State) (disk : D) (server new : ServerView 
           let after = subst (λ l. carousel_after s.carousel s.geometry.objects l
           ≡ Some run.leaves.last.carousel) done run.leaves.after.carousel in
           record {
-            every = every_named types given seen wanted fault entries each fine_is.0 ∙ gone n;
+            every = every_named types given seen wanted fault entries each fine_is.0
+                (none_passed s.carousel given.unchanged passed) ∙ gone n;
             last = run.leaves.last;
             geometry = run.leaves.after.geometry;
             updated = made s.carousel run.leaves.last.carousel s.geometry.objects names wanted
@@ -177,11 +182,11 @@ module _ {D : Type 0} (state : D → State) (disk : D) (server new : ServerView 
     tells : (s : Standing) (result : Result Bool Refusal) → (state new.disk).IsHonest
         → AllAre s (state disk)
         → LooksAndTells server new (state server.disk) (state new.disk) s types allows path given
-        before after result
+        [] before after result
         → SyncsAndTells types allows path given (state disk) (state new.disk)
         (result_unwrap_or result false) (fault_of result) before after s
-    tells s result honest each (looks.told report is whole written look) =
-        let done = has_synced s types allows path given report None honest each look in
+    tells s result honest each (looks.told report files is whole written look) =
+        let done = has_synced s types allows path given report None files honest each look in
         record {
           fine = not report.any_refused;
           fault = None;
@@ -193,8 +198,8 @@ module _ {D : Type 0} (state : D → State) (disk : D) (server new : ServerView 
             subst (λ l. Appends before after (flat_map met_line l)) (done.2 whole) written,
           );
         }
-    tells s result honest each (looks.broken report refusal is look) =
-        let done = has_synced s types allows path given report (Some refusal) honest each look in
+    tells s result honest each (looks.broken report files refusal is look) =
+        let done = has_synced s types allows path given report (Some refusal) files honest each look in
         let ended = ap (λ (r : Result Bool Refusal). fault_of r) (sym is) in
         record {
           fine = not report.any_refused;
@@ -204,8 +209,8 @@ module _ {D : Type 0} (state : D → State) (disk : D) (server new : ServerView 
           why = inl ended;
           told = λ whole_is. absurd (subst IsNothing (sym (ended ∙ whole_is)) tt);
         }
-    tells s result honest each (looks.untold report is look) =
-        let done = has_synced s types allows path given report None honest each look in
+    tells s result honest each (looks.untold report files is look) =
+        let done = has_synced s types allows path given report None files honest each look in
         let ended = ap (λ (r : Result Bool Refusal). fault_of r) is in
         record {
           fine = not report.any_refused;
@@ -222,7 +227,7 @@ module _ {D : Type 0} (state : D → State) (disk : D) (server new : ServerView 
         (λ r. IsFeedFault server (state server.disk) (state new.disk) r)
         → ((s : Standing) → Holds server.view s (state server.disk) → (state new.disk).IsHonest
         → LooksAndTells server new (state server.disk) (state new.disk) s types allows path given
-        before after result)
+        [] before after result)
         → Syncs types allows path given (state disk) (state new.disk)
         (result_unwrap_or result false) (fault_of result) before after
     syncs result why looked = record {

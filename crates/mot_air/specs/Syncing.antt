@@ -1,5 +1,5 @@
 -- What making a disk's carousel equal to a folder does.
-use Rattle.std.specs.Prelude.{◌≡◌, ◌⊎◌, ℕ, Bool, true, List, Option, Some, None}
+use Rattle.std.specs.Prelude.{◌≡◌, ◌⊎◌, ℕ, Bool, true, List, [], Option, Some, None}
 use Rattle.std.specs.Io.KnownBytes.{Appends, Keeps}
 use Rattle.std.specs.List.{flat_map}
 use Rattle.disk_model.specs.Disk.{State}
@@ -7,6 +7,7 @@ use Rattle.mot_air.specs.Opening.{EndsBy, Leaves}
 use Rattle.mot_events.specs.Text.{met_line}
 use Rattle.mot_events.specs.declared.event.LookEvent.{LookEvent}
 use Rattle.mot_folder.specs.Looked.{IsLook, TellsRightly}
+use Rattle.mot_folder.specs.declared.known.Known.{Known}
 use Rattle.mot_journal.specs.Image.{Standing, half_of}
 use Rattle.mot_journal.specs.Slot.{layout_of}
 use Rattle.mot_numbers.specs.declared.refusal.Refusal.{Refusal}
@@ -41,8 +42,10 @@ module _ (types : List SuffixType) (allows : Bool) (path : List ℕ) (given : Gi
     pub leaves : Leaves s commands marks fault start now
     pub names : List (List ℕ)
     pub wanted : List Wanted
+    -- no file was known before it: so none was passed over
+    pub known : List Known
     pub look : IsLook types allows path given s.carousel commands marks fault names wanted all
-        entries
+        entries [] known
     -- what is told of a command is what comes of it, in the layout of the records of the disk
     pub right : TellsRightly (layout_of (half_of s.geometry start.bytes)) s commands entries
     pub equal : all ≡ true → fault ≡ None → IsEqual s names wanted now

@@ -40,9 +40,9 @@ pub record Sources : Type 0 where
   pub hand : List ℕ
   pub teller : TellerView
 
--- no look has come, and nothing was read
+-- no look has come, nothing was read, and no file is known
 abbrev pub no_looks : LooksSoFar
-no_looks = so_far 0 [] false (looks_known 0 [] [])
+no_looks = so_far 0 [] false (looks_known 0 [] []) []
 
 abbrev pub first_sources : List ℕ → TellerView → Sources
 first_sources hand teller =

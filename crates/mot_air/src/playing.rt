@@ -35,7 +35,7 @@ use mot_events::{LookEvent, add_met_line};
 use mot_feed::feed_every;
 use mot_feed_lines::{Lines, Reported};
 use mot_files::System;
-use mot_folder::{FileTypes, Folder, Looks, look_at_folder};
+use mot_folder::{FileTypes, Folder, KnownFiles, Looks, look_at_folder};
 use mot_line_folder::{LineFolder, LineNotes, Spool};
 use mot_numbers::Refusal;
 use mot_outcome::Inputs;
@@ -347,7 +347,7 @@ fn looks_at<'a, S: Shelf + Drop>(
         followed.entry.types.now followed.entry.allows_empty }
     ensures none { so_far result.left result.looks.all result.any_refused
         (looks_known result.count result.folder.report.events.items result.before.items)
-        ≡ no_looks }
+        result.folder.files.known.items ≡ no_looks }
 {
     let Followed {
         shelf,
@@ -561,8 +561,8 @@ fn feed_disk<D: Disk, U: Update, O: Outlet>(
     Fed::Open(server, result)
 }
 
-/// Opens the disk and makes its carousel equal to the folder; whether nothing was refused. The
-/// lines of the look are written to the log.
+/// Opens the disk and makes its carousel equal to the folder, of which all files are read; whether
+/// nothing was refused. The lines of the look are written to the log.
 pub fn sync_disk<S: Shelf + Drop, D: Disk, L: Write>(
     alloc: Global,
     disk: D,
@@ -580,6 +580,8 @@ pub fn sync_disk<S: Shelf + Drop, D: Disk, L: Write>(
     };
     // Its sizes are in their ranges. (The line is there for the proof.)
     let _ = server.geometry();
+    // Whatever is known of them, the files are read.
+    folder.files = KnownFiles::new(alloc);
     let result = look_and_tell(alloc, &mut server, folder, log);
     Ended {
         disk: server.into_disk(),
@@ -604,7 +606,7 @@ fn look_and_tell<S: Shelf + Drop, D: Disk, L: Write>(
         → (D.state server.new.disk).IsHonest
         → LooksAndTells server.old server.new (D.state server.old.disk)
         (D.state server.new.disk) s folder.old.types.now folder.old.allows_empty
-        (S.path folder.old.shelf) (S.gave folder.new.shelf)
+        (S.path folder.old.shelf) (S.gave folder.new.shelf) folder.old.files.known.items
         (L.contents log.old) (L.contents log.new) result }
 {
     let looked = look_at_folder(alloc, server, folder);

@@ -4,4 +4,5 @@ pub mod Lasting
 pub mod Listing
 pub mod Placing
 pub mod Reading
+pub mod Stamping
 pub mod Writing

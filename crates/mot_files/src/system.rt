@@ -3,6 +3,7 @@ ghost use Rattle.std.specs.Prelude.{◌≡◌, ◌≤◌, List, [], ◌∷◌, �
 ghost use Rattle.mot_files.specs.Call.{Call, closed, followed, locked, looked, looked_at, opened};
 ghost use Rattle.mot_files.specs.Call.{peeked, read, removed, renamed, resolved, synced, told_time};
 ghost use Rattle.mot_files.specs.Call.{told_terminal, wrote};
+ghost use Rattle.mot_files.specs.Stamping.{stamp_of};
 
 use std::io::{self, ErrorKind};
 
@@ -52,6 +53,37 @@ pub struct Seen {
     pub changed: Time,
     /// The number of the block device that it stands for, if it stands for one.
     pub block: Option<u64>,
+}
+
+/// What tells a file from every other one, and from itself once it was changed: a file that has the
+/// stamp that it had has the bytes that it had.
+#[derive(Clone, Copy, PartialEq, Eq)]
+pub struct Stamp {
+    /// The device that it stands on.
+    pub device: u64,
+    /// Its number there.
+    pub number: u64,
+    /// How many bytes it has.
+    pub len: u64,
+    /// When its bytes were changed last.
+    pub written: Time,
+    /// When anything of it was changed last.
+    pub changed: Time,
+}
+
+impl Stamp {
+    /// That of the file of which the system says this.
+    pub fn of(seen: &Seen) -> Stamp
+        ensures { result ≡ stamp_of seen.now }
+    {
+        Stamp {
+            device: seen.device,
+            number: seen.number,
+            len: seen.len,
+            written: seen.written,
+            changed: seen.changed,
+        }
+    }
 }
 
 /// Why a call was refused.

@@ -1,4 +1,5 @@
 pub mod Cut
+pub mod Knowing
 pub mod Laws
 pub mod Log
 pub mod Nameless

@@ -155,25 +155,29 @@ call_failed seen g h of refusal is (inr none) = no_memory none
 pub asked_failed : (g h : Given) (of : List ℕ) → h ≡ and_failed g of → WereAsked g h
 asked_failed g h of is =
     subst (λ (n : Given). WereAsked g n) (sym is)
-    (record { listed = refl; unread = record { read = refl; missed = refl } })
+    (record { listed = refl; unread = record { read = refl; missed = refl; unchanged = refl } })
 
 pub unread_failed : (g h : Given) (of : List ℕ) → h ≡ and_failed g of → IsUnread g h
 unread_failed g h of is =
-    subst (λ (n : Given). IsUnread g n) (sym is) (record { read = refl; missed = refl })
+    subst (λ (n : Given). IsUnread g n) (sym is) (record { read = refl; missed = refl; unchanged = refl })
 
 pub asked_nothing : (g : Given) → WereAsked g g
-asked_nothing g = record { listed = refl; unread = record { read = refl; missed = refl } }
+asked_nothing g = record { listed = refl; unread = record { read = refl; missed = refl; unchanged = refl } }
 
 pub asked_one : (g h : Given) (name : List ℕ) (b : Bool) → h ≡ and_asked g name b → WereAsked g h
 asked_one g h name true is =
     subst (λ (n : Given). WereAsked g n) (sym is)
-    (record { listed = refl; unread = record { read = refl; missed = refl } })
+    (record { listed = refl; unread = record { read = refl; missed = refl; unchanged = refl } })
 asked_one g h name false is =
     subst (λ (n : Given). WereAsked g n) (sym is)
-    (record { listed = refl; unread = record { read = refl; missed = refl } })
+    (record { listed = refl; unread = record { read = refl; missed = refl; unchanged = refl } })
 
 pub unread_on : (g h k : Given) → IsUnread g h → IsUnread h k → IsUnread g k
-unread_on g h k a b = record { read = b.read ∙ a.read; missed = b.missed ∙ a.missed }
+unread_on g h k a b = record {
+  read = b.read ∙ a.read;
+  missed = b.missed ∙ a.missed;
+  unchanged = b.unchanged ∙ a.unchanged;
+}
 
 pub asked_on : (g h k : Given) → WereAsked g h → WereAsked h k → WereAsked g k
 asked_on g h k a b =
@@ -181,7 +185,7 @@ asked_on g h k a b =
 
 pub unread_listed : (g h : Given) (bytes : List ℕ) → h ≡ and_listed g bytes → IsUnread g h
 unread_listed g h bytes is =
-    subst (λ (n : Given). IsUnread g n) (sym is) (record { read = refl; missed = refl })
+    subst (λ (n : Given). IsUnread g n) (sym is) (record { read = refl; missed = refl; unchanged = refl })
 
 module _ (types : List SuffixType) where
   -- no name

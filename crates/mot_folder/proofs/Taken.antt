@@ -19,7 +19,7 @@ use Rattle.mot_events.specs.declared.event.Why.{Why}
 use Rattle.mot_folder.specs.Inner.Images.{NotesImage}
 use Rattle.mot_folder.specs.Inner.Names.{name_or_none}
 use Rattle.mot_folder.specs.Inner.Reading.{Misses, Takes, TellsFile, TellsLook, TellsOffered}
-use Rattle.mot_folder.specs.Inner.Reading.{as_wanted, heading}
+use Rattle.mot_folder.specs.Inner.Reading.{as_wanted, file_as_wanted, front, heading}
 use Rattle.mot_folder.specs.Inner.Reading.Misses.{was_refused, was_unkept, was_unread}
 use Rattle.mot_folder.specs.Inner.Listing.{TellsNameless}
 use Rattle.mot_folder.specs.Inner.Reasons.{TellsNoMore, TellsUnless, and_waiting}
@@ -34,12 +34,14 @@ use Rattle.mot_folder.specs.Log.{all_image_notes, image_note, image_notes, image
 use Rattle.mot_folder.specs.Log.{names_read, not_accepted, of_look, told_of}
 use Rattle.mot_folder.specs.Taken.{AreTaken}
 use Rattle.mot_numbers.specs.declared.refusal.Refusal.{Refusal}
-use Rattle.mot_folder.specs.Taken.AreTaken.{no_file, one_refused, one_unkept, one_unread}
-use Rattle.mot_folder.specs.Taken.AreTaken.{one_wanted}
+use Rattle.mot_folder.specs.Taken.AreTaken.{no_file, one_refused, one_unchanged, one_unkept}
+use Rattle.mot_folder.specs.Taken.AreTaken.{one_unread, one_wanted}
 use Rattle.mot_folder.specs.declared.report.Report.{Report}
 use Rattle.mot_objects.specs.Content.{ContentNumbers}
 use Rattle.mot_playout.specs.declared.running.Attempt.TheVariants.{Accepted, Refused as WasRefused}
-use Rattle.mot_shelf.specs.Given.{Given, and_kept, and_missed, and_read}
+use Rattle.mot_files.specs.declared.system.Stamp.{Stamp}
+use Rattle.mot_folder.specs.declared.known.Known.{Known}
+use Rattle.mot_shelf.specs.Given.{Given, and_kept, and_missed, and_read, and_unchanged}
 use Rattle.mot_suffixes.specs.Images.{other_image}
 use Rattle.mot_suffixes.specs.Types.{SuffixType}
 use Rattle.mot_suffixes.specs.declared.images.OtherImage.{OtherImage}
@@ -326,7 +328,7 @@ both_same P = λ given answers was.
     (subst (λ (l : List Answer). P l given) (sym (append-nil answers)) was)
 
 -- what is wanted of a file has its name
-named_of : {types : List SuffixType} {g h : Given} (name : List ℕ) (w : Wanted)
+pub named_of : {types : List SuffixType} {g h : Given} (name : List ℕ) (w : Wanted)
     → Takes types name g h w → name ≡ w.name
 named_of name w is = sym (ap (λ (v : Wanted). v.name) is.made)
 
@@ -337,24 +339,27 @@ why_so on (inr none) = inr (on none)
 module _ (types : List SuffixType) where
   -- what came of files, where memory may have been wanted for the one or for the other
   pub taken_so : {E F : Type 0} → (E → F) → {names : List (List ℕ)}
-      {read : List (List ℕ × List ℕ)} {missed : List (List ℕ)} {wanted : List Wanted}
-      {told : List (List ℕ)} → AreTaken types E names read missed wanted told
-      → AreTaken types F names read missed wanted told
+      {read : List (List ℕ × List ℕ)} {unchanged : List (List ℕ × Stamp)}
+      {missed : List (List ℕ)} {wanted : List Wanted}
+      {told : List (List ℕ)} → AreTaken types E names read unchanged missed wanted told
+      → AreTaken types F names read unchanged missed wanted told
   taken_so on no_file = no_file
-  taken_so on (one_wanted names missed told read others name bytes type typed was) =
-      one_wanted names missed told read others name bytes type typed (taken_so on was)
-  taken_so on (one_refused names missed told read others name bytes why was) =
-      one_refused names missed told read others name bytes (why_so on why) (taken_so on was)
-  taken_so on (one_unread names missed told read others name was) =
-      one_unread names missed told read others name (taken_so on was)
-  taken_so on (one_unkept names missed told read others name bytes was) =
-      one_unkept names missed told read others name bytes (taken_so on was)
+  taken_so on (one_wanted names missed told read unchanged others name bytes type typed was) =
+      one_wanted names missed told read unchanged others name bytes type typed (taken_so on was)
+  taken_so on (one_unchanged names missed told read unchanged others name stamp was) =
+      one_unchanged names missed told read unchanged others name stamp (taken_so on was)
+  taken_so on (one_refused names missed told read unchanged others name bytes why was) =
+      one_refused names missed told read unchanged others name bytes (why_so on why) (taken_so on was)
+  taken_so on (one_unread names missed told read unchanged others name was) =
+      one_unread names missed told read unchanged others name (taken_so on was)
+  taken_so on (one_unkept names missed told read unchanged others name bytes was) =
+      one_unkept names missed told read unchanged others name bytes (taken_so on was)
 
   misses_so : {E F : Type 0} → (E → F) → {name : List ℕ} {old new : Given}
       → Misses types name old new E → Misses types name old new F
   misses_so on (was_unread is) = was_unread is
-  misses_so on (was_refused bytes is why) = was_refused bytes is (why_so on why)
-  misses_so on (was_unkept bytes is) = was_unkept bytes is
+  misses_so on (was_refused bytes stamp is why) = was_refused bytes stamp is (why_so on why)
+  misses_so on (was_unkept bytes stamp is) = was_unkept bytes stamp is
 
   -- nothing happens
   pub of_same : (g : Given) (report : Report) (waiting : ℕ) (names : List (List ℕ))
@@ -458,47 +463,50 @@ module _ (types : List SuffixType) where
   -- a file of this name is gone over that is not taken
   more_missed : {E : Type 0} (old new : Given) (names missed : List (List ℕ)) (given : List Wanted)
       (name : List ℕ) → Misses types name old new E
-      → AreTaken types E names old.read old.missed given missed
-      → AreTaken types E (names ++ name ∷ []) new.read new.missed given (missed ++ name ∷ [])
+      → AreTaken types E names old.read old.unchanged old.missed given missed
+      → AreTaken types E (names ++ name ∷ []) new.read new.unchanged new.missed given
+      (missed ++ name ∷ [])
   more_missed {E} old new names missed given name (was_unread is) was =
       subst (λ (n : Given).
-      AreTaken types E (names ++ name ∷ []) n.read n.missed given (missed ++ name ∷ []))
-      (sym is) (one_unread names old.missed missed old.read given name was)
-  more_missed {E} old new names missed given name (was_refused bytes is why) was =
+      AreTaken types E (names ++ name ∷ []) n.read n.unchanged n.missed given (missed ++ name ∷ []))
+      (sym is) (one_unread names old.missed missed old.read old.unchanged given name was)
+  more_missed {E} old new names missed given name (was_refused bytes stamp is why) was =
       subst (λ (n : Given).
-      AreTaken types E (names ++ name ∷ []) n.read n.missed given (missed ++ name ∷ []))
-      (sym is) (one_refused names old.missed missed old.read given name bytes why was)
-  more_missed {E} old new names missed given name (was_unkept bytes is) was =
+      AreTaken types E (names ++ name ∷ []) n.read n.unchanged n.missed given (missed ++ name ∷ []))
+      (sym is) (one_refused names old.missed missed old.read old.unchanged given name bytes why was)
+  more_missed {E} old new names missed given name (was_unkept bytes stamp is) was =
       subst (λ (n : Given).
-      AreTaken types E (names ++ name ∷ []) n.read n.missed given (missed ++ name ∷ []))
-      (sym is) (one_unkept names old.missed missed old.read given name bytes was)
+      AreTaken types E (names ++ name ∷ []) n.read n.unchanged n.missed given (missed ++ name ∷ []))
+      (sym is) (one_unkept names old.missed missed old.read old.unchanged given name bytes was)
 
   -- and the folder has the files that it had
   files_missed : {E : Type 0} (old new : Given) (name : List ℕ) → Misses types name old new E
       → new.files ≡ old.files
   files_missed old new name (was_unread is) = ap (λ (n : Given). n.files) is
-  files_missed old new name (was_refused bytes is why) = ap (λ (n : Given). n.files) is
-  files_missed old new name (was_unkept bytes is) = ap (λ (n : Given). n.files) is
+  files_missed old new name (was_refused bytes stamp is why) = ap (λ (n : Given). n.files) is
+  files_missed old new name (was_unkept bytes stamp is) = ap (λ (n : Given). n.files) is
 
   -- and the same files were made to last
   kept_missed : {E : Type 0} (old new : Given) (name : List ℕ) → Misses types name old new E
       → new.kept ≡ old.kept
   kept_missed old new name (was_unread is) = ap (λ (n : Given). n.kept) is
-  kept_missed old new name (was_refused bytes is why) = ap (λ (n : Given). n.kept) is
-  kept_missed old new name (was_unkept bytes is) = ap (λ (n : Given). n.kept) is
+  kept_missed old new name (was_refused bytes stamp is why) = ap (λ (n : Given). n.kept) is
+  kept_missed old new name (was_unkept bytes stamp is) = ap (λ (n : Given). n.kept) is
 
   -- one that is
   more_taken : {E : Type 0} (old new : Given) (names missed : List (List ℕ)) (given : List Wanted)
       (name : List ℕ) (w : Wanted) → Takes types name old new w
-      → AreTaken types E names old.read old.missed given missed
-      → AreTaken types E (names ++ name ∷ []) new.read new.missed (given ++ w ∷ []) missed
+      → AreTaken types E names old.read old.unchanged old.missed given missed
+      → AreTaken types E (names ++ name ∷ []) new.read new.unchanged new.missed (given ++ w ∷ [])
+      missed
   more_taken {E} old new names missed given name w is was =
       subst (λ (n : Given).
-      AreTaken types E (names ++ name ∷ []) n.read n.missed (given ++ w ∷ []) missed) (sym is.read)
+      AreTaken types E (names ++ name ∷ []) n.read n.unchanged n.missed (given ++ w ∷ []) missed)
+      (sym is.read)
       (subst (λ (v : Wanted). AreTaken types E (names ++ name ∷ [])
-      (old.read ++ (name, is.bytes) ∷ [])
+      (old.read ++ (name, is.bytes) ∷ []) old.unchanged
       old.missed (given ++ v ∷ []) missed) (sym is.made)
-      (one_wanted names old.missed missed old.read given name is.bytes is.type is.typed was))
+      (one_wanted names old.missed missed old.read old.unchanged given name is.bytes is.type is.typed was))
 
   -- a file that could not be taken is told
   pub of_missed : (g h : Given) (old new : Report) (waiting : ℕ) (names : List (List ℕ)) (name : List ℕ)
@@ -561,6 +569,31 @@ module _ (types : List SuffixType) where
             ∙ ap (λ l. l ++ more) was.images ∙ sym (notes_more given w);
       })
 
+  -- a file is passed over
+  pub of_passed : (g h : Given) (report : Report) (waiting : ℕ) (names : List (List ℕ))
+      (name : List ℕ) (stamp : Stamp) → h ≡ and_unchanged g name stamp
+      → TellsBoth (TellsOf types g report waiting names)
+      (TellsOf types h report waiting (names ++ name ∷ [])) [] []
+  of_passed g h report waiting names name stamp is = λ given answers was.
+      subst (λ (n : Given). TellsOf types n report waiting (names ++ name ∷ []) (answers ++ [])
+      (given ++ [])) (sym is)
+      (subst (λ (l : List Wanted). TellsOf types (and_unchanged g name stamp) report waiting
+      (names ++ name ∷ []) (answers ++ []) l) (sym (append-nil given))
+      (subst (λ (l : List Answer). TellsOf types (and_unchanged g name stamp) report waiting
+      (names ++ name ∷ []) l given) (sym (append-nil answers)) (record {
+        entries = was.entries;
+        told = was.told;
+        are = was.are;
+        waits = was.waits;
+        lasting = was.lasting;
+        any = was.any;
+        missed = was.missed;
+        read = was.read;
+        taken = one_unchanged names g.missed was.missed g.read g.unchanged given name stamp
+            was.taken;
+        images = was.images;
+      })))
+
   -- a note is told
   pub of_note : (g : Given) (old new : Report) (waiting : ℕ) (names : List (List ℕ)) (name : List ℕ)
       (met : Met)
@@ -591,9 +624,9 @@ module _ (types : List SuffixType) where
       }
 
   -- no name was gone over
-  pub of_none : (g : Given) (report : Report) → g.read ≡ [] → g.missed ≡ []
+  pub of_none : (g : Given) (report : Report) → g.read ≡ [] → g.missed ≡ [] → g.unchanged ≡ []
       → TellsNameless g.files report → TellsOf types g report 0 [] [] []
-  of_none g report no_read none_missed told =
+  of_none g report no_read none_missed none_passed told =
       let E = report.any_without_memory ≡ true in
       record {
         entries = told.entries;
@@ -604,36 +637,43 @@ module _ (types : List SuffixType) where
         any = told.any;
         missed = [];
         read = told.read ∙ sym (append-nil (nameless g.files));
-        taken = subst (λ l. AreTaken types E [] l g.missed [] []) (sym no_read)
-            (subst (λ l. AreTaken types E [] [] l [] []) (sym none_missed) no_file);
+        taken = subst (λ l. AreTaken types E [] l g.unchanged g.missed [] []) (sym no_read)
+            (subst (λ l. AreTaken types E [] [] l g.missed [] []) (sym none_passed)
+            (subst (λ l. AreTaken types E [] [] [] l [] []) (sym none_missed) no_file));
         images = told.images;
       }
 
-  last_none : (xs : List (List ℕ)) (x : List ℕ) → xs ++ x ∷ [] ≡ [] → ⊥
+  last_none : {X : Type 0} (xs : List X) (x : X) → xs ++ x ∷ [] ≡ [] → ⊥
   last_none [] x e = cc
   last_none (y ∷ xs) x e = cc
 
-  -- where no file is told each name is that of an object
+  -- where no file is told, and none passed over, each name is that of an object
   taken_all : {E : Type 0} {names : List (List ℕ)} {read : List (List ℕ × List ℕ)}
+      {unchanged : List (List ℕ × Stamp)}
       {missed : List (List ℕ)} {wanted : List Wanted} {told : List (List ℕ)}
-      → AreTaken types E names read missed wanted told → told ≡ [] → names_of wanted ≡ names
-  taken_all no_file none = refl
-  taken_all (one_wanted names missed told read others name bytes type typed was) none =
-      map-append (λ (w : Wanted). w.name) others _ ∙ ap (λ l. l ++ name ∷ []) (taken_all was none)
-  taken_all (one_refused names missed told read others name bytes why was) none =
+      → AreTaken types E names read unchanged missed wanted told → told ≡ [] → unchanged ≡ []
+      → names_of wanted ≡ names
+  taken_all no_file none all = refl
+  taken_all (one_wanted names missed told read unchanged others name bytes type typed was) none all =
+      map-append (λ (w : Wanted). w.name) others _
+      ∙ ap (λ l. l ++ name ∷ []) (taken_all was none all)
+  taken_all (one_unchanged names missed told read unchanged others name stamp was) none all =
+      absurd (last_none unchanged (name, stamp) all)
+  taken_all (one_refused names missed told read unchanged others name bytes why was) none all =
       absurd (last_none told name none)
-  taken_all (one_unread names missed told read others name was) none =
+  taken_all (one_unread names missed told read unchanged others name was) none all =
       absurd (last_none told name none)
-  taken_all (one_unkept names missed told read others name bytes was) none =
+  taken_all (one_unkept names missed told read unchanged others name bytes was) none all =
       absurd (last_none told name none)
 
   -- so an object was given of each
   pub every_named : (given : Given) (names : List (List ℕ)) (wanted : List Wanted)
       (fault : Option Refusal) (entries : List LookEvent)
       → EachIsTold types given names wanted fault entries → names_read entries ≡ []
-      → names_of wanted ≡ names
-  every_named given names wanted fault entries each none =
+      → given.unchanged ≡ [] → names_of wanted ≡ names
+  every_named given names wanted fault entries each none all =
       taken_all each.taken (second_none (nameless given.files) each.missed (sym each.read ∙ none))
+      all
     where
       second_none : (xs ys : List (List ℕ)) → xs ++ ys ≡ [] → ys ≡ []
       second_none [] ys e = e
@@ -654,26 +694,27 @@ take-named names i name lt at =
     ap (λ n. take n names) on ∙ take-suc-named names i lt
     ∙ ap (λ o. take i names ++ name_or_none o ∷ []) at
 
-module _ (types : List SuffixType) (path : List ℕ) (names : List (List ℕ)) where
+module _ (types : List SuffixType) (known : List Known) (path : List ℕ) (names : List (List ℕ)) where
   -- what was given and told in a look goes on
   pub look_on : (g h : Given) (place after : ℕ) (old new : Report) (waiting waits : ℕ) (answers : List Answer)
       (more : List Wanted) → (IsListing types path g names → IsListing types path h names)
       → TellsBoth (TellsOf types g old waiting (take place names))
       (TellsOf types h new waits (take after names)) answers more
-      → TellsBoth (TellsLook types path g names place old waiting)
-      (TellsLook types path h names after new waits) answers more
+      → TellsBoth (TellsLook types known path g names place old waiting)
+      (TellsLook types known path h names after new waits) answers more
   look_on g h place after old new waiting waits answers more still step = λ given told was. record {
     answers = was.answers ++ answers;
     wanted = was.wanted ++ more;
     headed = ap (λ l. l ++ answers) was.headed;
-    typed = ap (λ l. l ++ more) was.typed ∙ append_assoc (map as_wanted types) was.wanted more;
+    typed = ap (λ l. l ++ more) was.typed ∙ append_assoc (front types known) was.wanted more;
     listing = still was.listing;
     tells = step was.wanted was.answers was.tells;
   }
 
-  still_read : (g : Given) (name bytes : List ℕ) → IsListing types path g names
-      → IsListing types path (and_read g name bytes) names
-  still_read g name bytes is =
+  still_read : (g : Given) (name bytes : List ℕ) (stamp : Option Stamp)
+      → IsListing types path g names
+      → IsListing types path (and_read g name bytes stamp) names
+  still_read g name bytes stamp is =
       record {
         pieces = is.pieces;
         whole = is.whole;
@@ -691,29 +732,39 @@ module _ (types : List SuffixType) (path : List ℕ) (names : List (List ℕ)) w
         are = is.are;
       }
 
+  still_passed : (g : Given) (name : List ℕ) (stamp : Stamp) → IsListing types path g names
+      → IsListing types path (and_unchanged g name stamp) names
+  still_passed g name stamp is =
+      record {
+        pieces = is.pieces;
+        whole = is.whole;
+        asked = is.asked;
+        are = is.are;
+      }
+
   listing_misses : {E : Type 0} (g h : Given) (name : List ℕ) → Misses types name g h E
       → IsListing types path g names → IsListing types path h names
   listing_misses g h name (was_unread is) was =
       subst (λ (n : Given). IsListing types path n names) (sym is) (still_missed g name was)
-  listing_misses g h name (was_refused bytes is why) was =
-      subst (λ (n : Given). IsListing types path n names) (sym is) (still_read g name bytes was)
-  listing_misses g h name (was_unkept bytes is) was =
+  listing_misses g h name (was_refused bytes stamp is why) was =
+      subst (λ (n : Given). IsListing types path n names) (sym is) (still_read g name bytes stamp was)
+  listing_misses g h name (was_unkept bytes stamp is) was =
       subst (λ (n : Given). IsListing types path n names) (sym is)
-      (still_missed (and_read g name bytes) name (still_read g name bytes was))
+      (still_missed (and_read g name bytes stamp) name (still_read g name bytes stamp was))
 
   -- and an object of the next name is given
   pub then_given : (P : List Answer → List Wanted → Type 0) (g h : Given) (place : ℕ)
       (old new : Report) (waiting : ℕ) (name : List ℕ) (w : Wanted)
-      → TellsBoth P (TellsLook types path g names place old waiting) [] []
+      → TellsBoth P (TellsLook types known path g names place old waiting) [] []
       → place < length names → slice_get names place ≡ Some name → Takes types name g h w
       → NotesImage old new w
-      → TellsBoth P (TellsLook types path h names (place + 1) new waiting) [] (w ∷ [])
+      → TellsBoth P (TellsLook types known path h names (place + 1) new waiting) [] (w ∷ [])
   then_given P g h place old new waiting name w told lt at is notes =
-      behind P (TellsLook types path g names place old waiting)
-      (TellsLook types path h names (place + 1) new waiting) (w ∷ []) told
+      behind P (TellsLook types known path g names place old waiting)
+      (TellsLook types known path h names (place + 1) new waiting) (w ∷ []) told
       (look_on g h place (place + 1) old new waiting waiting [] (w ∷ [])
       (λ was. subst (λ (n : Given). IsListing types path n names) (sym is.read)
-      (still_read g name is.bytes was))
+      (still_read g name is.bytes is.stamp was))
       (subst (λ l. TellsBoth (TellsOf types g old waiting (take place names))
       (TellsOf types h new waiting l) [] (w ∷ [])) (sym (take-named names place name lt at))
       (of_given types g h old new waiting (take place names) name w is notes)))
@@ -721,14 +772,14 @@ module _ (types : List SuffixType) (path : List ℕ) (names : List (List ℕ)) w
   -- or it is told as that of a file that could not be taken
   pub then_missed : {E : Type 0} (P : List Answer → List Wanted → Type 0) (g h : Given) (place : ℕ)
       (old new : Report) (waiting : ℕ) (name : List ℕ)
-      → TellsBoth P (TellsLook types path g names place old waiting) [] []
+      → TellsBoth P (TellsLook types known path g names place old waiting) [] []
       → place < length names → slice_get names place ≡ Some name → Misses types name g h E
       → (E → new.any_without_memory ≡ true) → new.any_refused ≡ true
       → (old.any_without_memory ≡ true → new.any_without_memory ≡ true) → TellsFile old new name
-      → TellsBoth P (TellsLook types path h names (place + 1) new waiting) [] []
+      → TellsBoth P (TellsLook types known path h names (place + 1) new waiting) [] []
   then_missed P g h place old new waiting name told lt at is memory any stays one =
-      behind P (TellsLook types path g names place old waiting)
-      (TellsLook types path h names (place + 1) new waiting) [] told
+      behind P (TellsLook types known path g names place old waiting)
+      (TellsLook types known path h names (place + 1) new waiting) [] told
       (look_on g h place (place + 1) old new waiting waiting [] [] (listing_misses g h name is)
       (subst (λ l. TellsBoth (TellsOf types g old waiting (take place names))
       (TellsOf types h new waiting l) [] [])
@@ -736,12 +787,29 @@ module _ (types : List SuffixType) (path : List ℕ) (names : List (List ℕ)) w
       (of_missed types g h old new waiting (take place names) name (misses_so types memory is) any stays
       one)))
 
+  -- or the file of the next name is passed over
+  pub then_passed : (P : List Answer → List Wanted → Type 0) (g h : Given) (place : ℕ)
+      (report : Report) (waiting : ℕ) (name : List ℕ) (stamp : Stamp)
+      → TellsBoth P (TellsLook types known path g names place report waiting) [] []
+      → place < length names → slice_get names place ≡ Some name
+      → h ≡ and_unchanged g name stamp
+      → TellsBoth P (TellsLook types known path h names (place + 1) report waiting) [] []
+  then_passed P g h place report waiting name stamp told lt at is =
+      behind P (TellsLook types known path g names place report waiting)
+      (TellsLook types known path h names (place + 1) report waiting) [] told
+      (look_on g h place (place + 1) report report waiting waiting [] []
+      (λ was. subst (λ (n : Given). IsListing types path n names) (sym is)
+      (still_passed g name stamp was))
+      (subst (λ l. TellsBoth (TellsOf types g report waiting (take place names))
+      (TellsOf types h report waiting l) [] []) (sym (take-named names place name lt at))
+      (of_passed types g h report waiting (take place names) name stamp is)))
+
   -- an object is offered: its file was read
   pub then_offered : (P : List Answer → List Wanted → Type 0) (g h : Given) (place : ℕ)
       (report : Report) (waiting : ℕ) (name : List ℕ) (w : Wanted)
-      → TellsBoth P (TellsLook types path g names place report waiting) [] []
+      → TellsBoth P (TellsLook types known path g names place report waiting) [] []
       → place < length names → slice_get names place ≡ Some name → Takes types name g h w
-      → TellsBoth P (TellsOffered types path h names (place + 1) report waiting w) [] []
+      → TellsBoth P (TellsOffered types known path h names (place + 1) report waiting w) [] []
   then_offered P g h place report waiting name w told lt at is = λ given answers was. record {
     before = g;
     index = place;
@@ -755,8 +823,8 @@ module _ (types : List SuffixType) (path : List ℕ) (names : List (List ℕ)) w
   -- nothing is read for a file that is made to last
   look_kept : (h : Given) (place : ℕ) (report : Report) (waiting : ℕ) (name : List ℕ)
       (told : List Answer) (gave : List Wanted)
-      → TellsLook types path h names place report waiting told gave
-      → TellsLook types path (and_kept h name) names place report waiting told gave
+      → TellsLook types known path h names place report waiting told gave
+      → TellsLook types known path (and_kept h name) names place report waiting told gave
   look_kept h place report waiting name told gave is = record {
     answers = is.answers;
     wanted = is.wanted;
@@ -785,11 +853,11 @@ module _ (types : List SuffixType) (path : List ℕ) (names : List (List ℕ)) w
   -- and then it is given
   pub then_taken : (h : Given) (place : ℕ) (old new : Report) (waiting : ℕ) (w : Wanted)
       → NotesImage old new w
-      → TellsBoth (TellsOffered types path h names place old waiting w)
-      (TellsLook types path h names place new waiting) [] (w ∷ [])
+      → TellsBoth (TellsOffered types known path h names place old waiting w)
+      (TellsLook types known path h names place new waiting) [] (w ∷ [])
   then_taken h place old new waiting w notes = λ given answers was.
-      let before = TellsLook types path was.before names was.index old waiting in
-      subst (λ n. TellsLook types path h names n new waiting (answers ++ []) (given ++ w ∷ []))
+      let before = TellsLook types known path was.before names was.index old waiting in
+      subst (λ n. TellsLook types known path h names n new waiting (answers ++ []) (given ++ w ∷ []))
       (sym was.next)
       (then_given before was.before h was.index old new waiting w.name w
       (both_same before) was.within was.named was.takes notes given answers was.was)
@@ -797,10 +865,10 @@ module _ (types : List SuffixType) (path : List ℕ) (names : List (List ℕ)) w
   -- also if it was made to last before
   pub then_kept : (h k : Given) (place : ℕ) (old new : Report) (waiting : ℕ) (w : Wanted)
       (name : List ℕ) → k ≡ and_kept h name → NotesImage old new w
-      → TellsBoth (TellsOffered types path h names place old waiting w)
-      (TellsLook types path k names place new waiting) [] (w ∷ [])
+      → TellsBoth (TellsOffered types known path h names place old waiting w)
+      (TellsLook types known path k names place new waiting) [] (w ∷ [])
   then_kept h k place old new waiting w name is notes = λ given answers was.
-      subst (λ (n : Given). TellsLook types path n names place new waiting (answers ++ [])
+      subst (λ (n : Given). TellsLook types known path n names place new waiting (answers ++ [])
       (given ++ w ∷ [])) (sym is)
       (look_kept h place new waiting name (answers ++ []) (given ++ w ∷ [])
       (then_taken h place old new waiting w notes given answers was))
@@ -810,15 +878,15 @@ module _ (types : List SuffixType) (path : List ℕ) (names : List (List ℕ)) w
       → k ≡ and_missed h w.name → new.any_refused ≡ true
       → (old.any_without_memory ≡ true → new.any_without_memory ≡ true)
       → TellsFile old new w.name
-      → TellsBoth (TellsOffered types path h names place old waiting w)
-      (TellsLook types path k names place new waiting) [] []
+      → TellsBoth (TellsOffered types known path h names place old waiting w)
+      (TellsLook types known path k names place new waiting) [] []
   then_left h k place old new waiting w is any stays one = λ given answers was.
-      let before = TellsLook types path was.before names was.index old waiting in
-      subst (λ n. TellsLook types path k names n new waiting (answers ++ []) (given ++ []))
+      let before = TellsLook types known path was.before names was.index old waiting in
+      subst (λ n. TellsLook types known path k names n new waiting (answers ++ []) (given ++ []))
       (sym was.next)
       (then_missed {E = ⊥} before was.before k was.index old new waiting w.name (both_same before)
       was.within was.named
-      (was_unkept was.takes.bytes
+      (was_unkept was.takes.bytes was.takes.stamp
       (is ∙ ap (λ (n : Given). and_missed n w.name) was.takes.read))
       (λ no. absurd no) any stays one given answers was.was)
 
@@ -860,70 +928,137 @@ same_types (t ∷ types) (o ∷ others) e =
     ap (λ (x : SuffixType). x ∷ types) (rebuilt t o suffix content mime)
     ∙ ap (λ l. o ∷ l) same
 
+-- the files that were known, out of what stands for them
+known_with : List ℕ → ContentNumbers → (device number len written changed : ℕ) → Known
+known_with name numbers device number len written changed = record {
+  name = name;
+  stamp = record {
+    device = device;
+    number = number;
+    len = len;
+    written = record { nanos = written };
+    changed = record { nanos = changed };
+  };
+  tid = numbers.content_type;
+  version = numbers.subtype;
+}
+
+-- the place in a list of bytes
+nth : ℕ → List ℕ → ℕ
+nth i [] = 0
+nth zero (x ∷ xs) = x
+nth (suc i) (x ∷ xs) = nth i xs
+
+known_of : Wanted → Known
+known_of w = known_with w.name w.content (nth 0 w.body) (nth 1 w.body) (nth 2 w.body)
+    (nth 3 w.body) (nth 4 w.body)
+
+known_again : (k : Known) → known_of (file_as_wanted k) ≡ k
+unfolding known_of known_with nth
+known_again k = refl
+
+all_again : (known : List Known) → map known_of (map file_as_wanted known) ≡ known
+all_again [] = refl
+all_again (k ∷ known) =
+    ap (λ (x : Known). x ∷ map known_of (map file_as_wanted known)) (known_again k)
+    ∙ ap (λ l. k ∷ l) (all_again known)
+
+same_known : (known others : List Known)
+    → map file_as_wanted known ≡ map file_as_wanted others → known ≡ others
+same_known known others e = sym (all_again known) ∙ ap (map known_of) e ∙ all_again others
+
 -- a look that began with these goes on with these, and with what was given and told in it
-pub record IsLook (types : List SuffixType) (path : List ℕ) (g : Given) (names : List (List ℕ))
-    (place : ℕ) (report : Report) (waiting : ℕ) (answers : List Answer) (wanted : List Wanted) :
-    Type 0 where
+pub record IsLook (types : List SuffixType) (known now : List Known) (path : List ℕ) (g : Given)
+    (names : List (List ℕ)) (place : ℕ) (report : Report) (waiting : ℕ) (answers : List Answer)
+    (wanted : List Wanted) : Type 0 where
   pub listing : IsListing types path g names
   pub tells : TellsOf types g report waiting (take place names) answers wanted
+  pub files : now ≡ known
 
 -- before the first of the names is gone over
-pub look_begins : (types : List SuffixType) (path : List ℕ) (g : Given) (names : List (List ℕ))
-    (report : Report) → IsListing types path g names → g.read ≡ [] → g.missed ≡ []
-    → TellsNameless g.files report
-    → TellsLook types path g names 0 report 0 (heading path types ∷ []) (map as_wanted types ++ [])
-look_begins types path g names report listing no_read none_missed told = record {
+pub look_begins : (types : List SuffixType) (known : List Known) (path : List ℕ) (g : Given)
+    (names : List (List ℕ)) (report : Report) → IsListing types path g names → g.read ≡ []
+    → g.missed ≡ [] → g.unchanged ≡ [] → TellsNameless g.files report
+    → TellsLook types known path g names 0 report 0 (heading path types known ∷ [])
+    (front types known ++ [])
+look_begins types known path g names report listing no_read none_missed none_passed told = record {
   answers = [];
   wanted = [];
   headed = refl;
   typed = refl;
   listing = listing;
-  tells = of_none types g report no_read none_missed told;
+  tells = of_none types g report no_read none_missed none_passed told;
 }
 
-head_path : (path other : List ℕ) (types others : List SuffixType)
-    → heading path types ≡ heading other others → path ≡ other
-head_path path other types others e = cc (e)
+module _ (types others : List SuffixType) (known then : List Known) (path other : List ℕ)
+    (head : heading path types known ≡ heading other others then) where
+  head_path : path ≡ other
+  head_path = cc (head)
 
-number_in : Answer → ℕ
-number_in (Withdrew name (Accepted done)) = done.directory
-number_in (Withdrew name (WasRefused refusal)) = 0
-number_in (Put name came) = 0
-number_in (Replaced name came) = 0
+  number_in : Answer → ℕ
+  number_in (Withdrew name (Accepted done)) = done.directory
+  number_in (Withdrew name (WasRefused refusal)) = 0
+  number_in (Put name came) = 0
+  number_in (Replaced name came) = 0
 
-head_types : (path other : List ℕ) (types others : List SuffixType)
-    → heading path types ≡ heading other others → length types ≡ length others
-unfolding number_in
-head_types path other types others e = ap number_in e
+  object_in : Answer → Option ℕ
+  object_in (Withdrew name (Accepted done)) = done.object
+  object_in (Withdrew name (WasRefused refusal)) = None
+  object_in (Put name came) = None
+  object_in (Replaced name came) = None
+
+  head_types : length types ≡ length others
+  unfolding number_in
+  head_types = ap number_in head
+
+  head_known : length known ≡ length then
+  unfolding object_in
+  head_known =
+      let same : Some (length known) ≡ Some (length then) = ap object_in head in
+      cc (same)
 
 -- and behind it
-pub look_is : (types others : List SuffixType) (path other : List ℕ) (g : Given)
-    (names : List (List ℕ)) (place : ℕ) (report : Report) (waiting : ℕ) (answers : List Answer)
-    (wanted : List Wanted)
-    → TellsLook others other g names place report waiting (heading path types ∷ answers)
-    ((map as_wanted types ++ []) ++ wanted)
-    → IsLook types path g names place report waiting answers wanted
-look_is types others path other g names place report waiting answers wanted was =
-    let head : heading path types ≡ heading other others = cc (was.headed) in
+pub look_is : (types others : List SuffixType) (known then : List Known) (path other : List ℕ)
+    (g : Given) (names : List (List ℕ)) (place : ℕ) (report : Report) (waiting : ℕ)
+    (answers : List Answer) (wanted : List Wanted)
+    → TellsLook others then other g names place report waiting (heading path types known ∷ answers)
+    ((front types known ++ []) ++ wanted)
+    → IsLook types known then path g names place report waiting answers wanted
+look_is types others known then path other g names place report waiting answers wanted was =
+    let head : heading path types known ≡ heading other others then = cc (was.headed) in
     let told : answers ≡ was.answers = cc (was.headed) in
-    let front = cut_front (map as_wanted types) (map as_wanted others) wanted was.wanted
-    (length-map types as_wanted ∙ head_types path other types others head
-    ∙ sym (length-map others as_wanted))
-    (ap (λ l. l ++ wanted) (sym (append-nil (map as_wanted types))) ∙ was.typed) in
-    let same = same_types types others front.0 in
-    subst (λ (t : List SuffixType). IsLook t path g names place report waiting answers wanted) (sym same)
-    (subst (λ p. IsLook others p g names place report waiting answers wanted)
-    (sym (head_path path other types others head))
-    (subst (λ (a : List Answer). IsLook others other g names place report waiting a wanted) (sym told)
-    (subst (λ (w : List Wanted). IsLook others other g names place report waiting was.answers w)
-    (sym front.1) (record { listing = was.listing; tells = was.tells }))))
+    let typed : map as_wanted types ++ (map file_as_wanted known ++ wanted)
+    ≡ map as_wanted others ++ (map file_as_wanted then ++ was.wanted) =
+    sym (append_assoc (map as_wanted types) (map file_as_wanted known) wanted)
+    ∙ ap (λ l. l ++ wanted) (sym (append-nil (front types known))) ∙ was.typed
+    ∙ append_assoc (map as_wanted others) (map file_as_wanted then) was.wanted in
+    let first = cut_front (map as_wanted types) (map as_wanted others)
+    (map file_as_wanted known ++ wanted) (map file_as_wanted then ++ was.wanted)
+    (length-map types as_wanted ∙ head_types types others known then path other head
+    ∙ sym (length-map others as_wanted)) typed in
+    let second = cut_front (map file_as_wanted known) (map file_as_wanted then) wanted was.wanted
+    (length-map known file_as_wanted ∙ head_known types others known then path other head
+    ∙ sym (length-map then file_as_wanted)) first.1 in
+    let same = same_types types others first.0 in
+    subst (λ (t : List SuffixType). IsLook t known then path g names place report waiting answers
+    wanted) (sym same)
+    (subst (λ p. IsLook others known then p g names place report waiting answers wanted)
+    (sym (head_path types others known then path other head))
+    (subst (λ (a : List Answer). IsLook others known then other g names place report waiting a
+    wanted) (sym told)
+    (subst (λ (w : List Wanted). IsLook others known then other g names place report waiting
+    was.answers w) (sym second.1) (record {
+      listing = was.listing;
+      tells = was.tells;
+      files = sym (same_known known then second.0);
+    }))))
 
 -- and it is of the same path
-pub same_path : (types others : List SuffixType) (path other : List ℕ) (g : Given)
-    (names : List (List ℕ)) (place : ℕ) (report : Report) (waiting : ℕ) (answers : List Answer)
-    (gave : List Wanted)
-    → TellsLook others other g names place report waiting (heading path types ∷ answers) gave
-    → other ≡ path
-same_path types others path other g names place report waiting answers gave was =
-    let head : heading path types ≡ heading other others = cc (was.headed) in
-    sym (head_path path other types others head)
+pub same_path : (types others : List SuffixType) (known then : List Known) (path other : List ℕ)
+    (g : Given) (names : List (List ℕ)) (place : ℕ) (report : Report) (waiting : ℕ)
+    (answers : List Answer) (gave : List Wanted)
+    → TellsLook others then other g names place report waiting (heading path types known ∷ answers)
+    gave → other ≡ path
+same_path types others known then path other g names place report waiting answers gave was =
+    let head : heading path types known ≡ heading other others then = cc (was.headed) in
+    sym (head_path types others known then path other head)

@@ -1,4 +1,5 @@
 pub mod Images
+pub mod Knowing
 pub mod Listing
 pub mod Names
 pub mod Notes

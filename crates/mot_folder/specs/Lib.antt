@@ -1,4 +1,5 @@
 pub mod Inner
+pub mod Known
 pub mod Listed
 pub mod Log
 pub mod Looked

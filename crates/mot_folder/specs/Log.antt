@@ -168,8 +168,8 @@ AreKept kept answers = AllByRecursion (IsKept kept) answers
 
 -- It tells these answers, and beside them only files that were not taken, and notes; and so many
 -- objects wait, of which only the first is told. Of these names each is that of an object that was
--- given, with the bytes that the folder gave, or of one of these files; before that the files are
--- told that have no name of an object. Of each object that was given its image type is noted where
+-- given, with the bytes that the folder gave, or of a file that was passed over, or of one of these
+-- files; before that the files are told that have no name of an object. Of each object that was given its image type is noted where
 -- its bytes do not begin as its suffix says.
 pub record TellsOf (types : List SuffixType) (given : Given) (report : Report) (waiting : ℕ)
     (names : List (List ℕ)) (answers : List Answer) (wanted : List Wanted) : Type 0 where
@@ -182,8 +182,8 @@ pub record TellsOf (types : List SuffixType) (given : Given) (report : Report) (
   pub any : report.any_refused ≡ (list_any not_accepted answers || list_any is_read entries)
   pub missed : List (List ℕ)
   pub read : names_read entries ≡ nameless given.files ++ missed
-  pub taken : AreTaken types (report.any_without_memory ≡ true) names given.read given.missed
-      wanted missed
+  pub taken : AreTaken types (report.any_without_memory ≡ true) names given.read given.unchanged
+      given.missed wanted missed
   pub images : images_noted entries ≡ all_image_notes wanted
 
 -- it tells these answers, and beside them only files that were not taken, and notes

@@ -2,16 +2,18 @@
 use Rattle.std.specs.Prelude.{ℕ, ◌≡◌, ◌≢◌, ◌<◌, ◌≤◌, ◌⊎◌, ◌&&◌, ◌||◌, ◌-◌, nat_eq, nat_le, nat_lt}
 use Rattle.std.specs.Prelude.{Bool, true, false, ◌↔◌, not, if◌then◌else◌, List, [], ◌∷◌, ◌++◌}
 use Rattle.std.specs.Prelude.{◌+◌, length, map, min, Option, None, Some}
-use Rattle.std.specs.List.{flat_map}
+use Rattle.std.specs.List.{AllByRecursion, flat_map}
 use Rattle.disk_model.specs.Disk.{State}
 use Rattle.mot_events.specs.Text.{event_of}
 use Rattle.mot_events.specs.declared.event.LookEvent.{LookEvent}
 use Rattle.mot_events.specs.declared.event.Met.TheVariants.{Kept}
 use Rattle.mot_events.specs.declared.event.Why.TheVariants.{Unsaid}
+use Rattle.mot_folder.specs.Known.{ComesFrom, IsPassedOver}
 use Rattle.mot_folder.specs.Listed.{IsListing, nameless, names_in, with_type}
 use Rattle.mot_folder.specs.Log.{AreKept, ReportTells, all_image_notes, event_of_answer}
 use Rattle.mot_folder.specs.Log.{images_noted, names_read, of_look, told_of, unlisted_for}
 use Rattle.mot_folder.specs.Taken.{AreTaken}
+use Rattle.mot_folder.specs.declared.known.Known.{Known}
 use Rattle.mot_folder.specs.declared.listing.TheConstants.{MAX_NAMES}
 use Rattle.mot_folder.specs.declared.looking.TheConstants.{SOON}
 use Rattle.mot_folder.specs.declared.report.Report.{Report}
@@ -20,8 +22,9 @@ use Rattle.mot_journal.specs.declared.layout.Layout.{Layout}
 use Rattle.mot_numbers.specs.declared.refusal.Refusal.{Refusal}
 use Rattle.mot_numbers.specs.declared.refusal.Refusal.TheVariants.{OutOfMemory, ReadFault}
 use Rattle.mot_numbers.specs.declared.refusal.Refusal.TheVariants.{TooManyObjects}
-use Rattle.mot_objects.specs.Carousel.{Carousel}
+use Rattle.mot_objects.specs.Carousel.{Carousel, carousel_after}
 use Rattle.mot_objects.specs.declared.command.Command.{Command}
+use Rattle.mot_playout.specs.Runs.{accepted_commands}
 use Rattle.mot_playout.specs.Server.{ServerView}
 use Rattle.mot_shelf.specs.Given.{Given}
 use Rattle.mot_suffixes.specs.Types.{AreShown, SuffixType}
@@ -53,39 +56,44 @@ abbrev pub is_kept : (allows : Bool) → (names : List (List ℕ)) → (objects 
 is_kept allows names objects = not allows && (nat_eq (length names) 0 && nat_lt 0 objects)
 
 -- Each of these names is that of an object that was read of the folder, with the bytes that it
--- gave, or of a file that is told as one that could not be taken; before that the regular files are
--- told that have no name of an object. A file for which memory was wanted is told so only in a look
+-- gave, or of a file that was passed over, or of one that is told as one that could not be taken;
+-- before that the regular files are told that have no name of an object. A file for which memory was wanted is told so only in a look
 -- that a fault ended. Of the objects, exactly those are noted whose suffix says an image type that
 -- their bytes do not begin as.
 pub record EachIsTold (types : List SuffixType) (given : Given) (names : List (List ℕ))
     (wanted : List Wanted) (fault : Option Refusal) (entries : List LookEvent) : Type 0 where
   pub missed : List (List ℕ)
   pub read : names_read entries ≡ nameless given.files ++ missed
-  pub taken : AreTaken types (fault ≢ None) names given.read given.missed wanted missed
+  pub taken : AreTaken types (fault ≢ None) names given.read given.unchanged given.missed wanted
+      missed
   pub images : images_noted entries ≡ all_image_notes wanted
 
 -- A look at the folder of this path, by this table of suffixes, which gave this: it saw these names
 -- of objects and took these objects, and of the carousel that it found it ran these commands, up to
--- a fault. This is told of it; it is fine exactly where nothing was refused.
+-- a fault. This is told of it; it is fine exactly where nothing was refused. These files were known
+-- before it, and those are behind it.
 pub data IsLook (types : List SuffixType) (allows : Bool) (path : List ℕ) (given : Given)
     (c : Carousel) (commands : List Command) (marks : List Bool) (fault : Option Refusal)
-    (names : List (List ℕ)) (wanted : List Wanted) (fine : Bool) (entries : List LookEvent) :
-    Type 0 where
+    (names : List (List ℕ)) (wanted : List Wanted) (fine : Bool) (entries : List LookEvent)
+    (known after : List Known) : Type 0 where
   -- the folder was not listed, which is told, and no command was run
   unlisted : (refusal : Refusal) → IsUnlisted types path given refusal → fine ≡ false
       → ((fault ≡ None) × (refusal ≢ OutOfMemory)) ⊎ (fault ≡ Some OutOfMemory) → commands ≡ []
       → of_look entries ≡ unlisted_for path refusal Unsaid ∷ [] → images_noted entries ≡ []
-      → IsLook types allows path given c commands marks fault names wanted fine entries
+      → after ≡ known
+      → IsLook types allows path given c commands marks fault names wanted fine entries known after
   -- it was listed and has no object, which is told, and no command was run
   kept : IsListing types path given [] → is_kept allows [] (length c.objects) ≡ true
       → fine ≡ false → (fault ≡ None) ⊎ (fault ≡ Some OutOfMemory) → commands ≡ []
-      → of_look entries ≡ event_of path Kept ∷ [] → images_noted entries ≡ []
-      → IsLook types allows path given c commands marks fault names wanted fine entries
+      → of_look entries ≡ event_of path Kept ∷ [] → images_noted entries ≡ [] → after ≡ known
+      → IsLook types allows path given c commands marks fault names wanted fine entries known after
   -- It was listed once; none of the names begins with a dot. The commands are those of the update
   -- to the objects that were taken, all of them where no fault came, and what came of each is told.
   -- Each name that was gone over is that of such an object, or of a file that is told: all of them
   -- where no fault came. It is fine exactly where no file is told and each command was accepted. A
-  -- file whose object was put or replaced was made to last, with the folder.
+  -- file whose object was put or replaced was made to last, with the folder. Only a file was passed
+  -- over that is known, and has the stamp with which it is, if the carousel has its object; and it is
+  -- said where what is known then comes from.
   listed : AreShown names → IsListing types path given names
       → is_kept allows names (length c.objects) ≡ false → IsUpdate names wanted
       → (others : List Command) → updating c names wanted ≡ commands ++ others
@@ -95,7 +103,11 @@ pub data IsLook (types : List SuffixType) (allows : Bool) (path : List ℕ) (giv
       → of_look entries ≡ map event_of_answer (told_of answers) → AreKept given.kept answers
       → (seen : List (List ℕ)) → (fault ≡ None → seen ≡ names)
       → EachIsTold types given seen wanted fault entries
-      → IsLook types allows path given c commands marks fault names wanted fine entries
+      → AllByRecursion (IsPassedOver known c) given.unchanged
+      → (limit : ℕ) (last : Carousel)
+      → carousel_after c limit (accepted_commands commands marks) ≡ Some last
+      → AllByRecursion (ComesFrom known given answers last) after
+      → IsLook types allows path given c commands marks fault names wanted fine entries known after
 
 -- Where commands were run, what is told of each of them is what came of it: the ids that it took,
 -- or why it was refused.
@@ -107,7 +119,7 @@ TellsRightly layout s commands entries = (commands ≡ [])
 -- a look ran its commands, and what is told of it stands in the report
 pub record HasLookedAtFolder {D : Type 0} (old new : ServerView D) (start now : State)
     (s : Standing) (types : List SuffixType) (allows : Bool) (path : List ℕ) (given : Given)
-    (report : Report) (fault : Option Refusal) : Type 0 where
+    (report : Report) (fault : Option Refusal) (known after : List Known) : Type 0 where
   pub commands : List Command
   pub marks : List Bool
   pub run : HasRun old new start now s commands marks fault
@@ -115,7 +127,7 @@ pub record HasLookedAtFolder {D : Type 0} (old new : ServerView D) (start now : 
   pub wanted : List Wanted
   pub entries : List LookEvent
   pub look : IsLook types allows path given s.carousel commands marks fault names wanted
-      (not report.any_refused) entries
+      (not report.any_refused) entries known after
   pub right : TellsRightly old.view.journal.layout s commands entries
   pub told : ReportTells report entries
 
@@ -148,16 +160,17 @@ watch path types allows every within =
     record { path = path; types = types; allows = allows; every = every; within = within }
 
 -- Looks so far: how many packets are to come before the next one, what the folder gave in each,
--- whether anything was refused in one, and what is known of the last ones.
+-- whether anything was refused in one, what is known of the last ones, and what of files.
 pub record LooksSoFar : Type 0 where
   pub left : ℕ
   pub given : List Given
   pub refused : Bool
   pub known : LooksKnown
+  pub files : List Known
 
-abbrev pub so_far : ℕ → List Given → Bool → LooksKnown → LooksSoFar
-so_far left given refused known =
-    record { left = left; given = given; refused = refused; known = known }
+abbrev pub so_far : ℕ → List Given → Bool → LooksKnown → List Known → LooksSoFar
+so_far left given refused known files =
+    record { left = left; given = given; refused = refused; known = known; files = files }
 
 -- one more, which met these
 abbrev pub known_after : LooksKnown → List LookEvent → LooksKnown
@@ -173,10 +186,12 @@ pub data TellsLooks (w : Watch) (moment : Moment) (old new : LooksSoFar) (c : Ca
       → commands ≡ [] → TellsLooks w moment old new c commands marks fault
   one_look : is_look_due old.left (may_look moment) ≡ true
       → (any_left : Bool) (given : Given) (names : List (List ℕ)) (wanted : List Wanted)
-      (fine : Bool) (entries met : List LookEvent) → (fault ≡ None → met ≡ entries)
+      (fine : Bool) (entries met : List LookEvent) (files : List Known)
+      → (fault ≡ None → met ≡ entries)
       → new ≡ so_far (packets_left any_left w.every) (old.given ++ given ∷ [])
-      (old.refused || not fine) (known_after old.known met)
+      (old.refused || not fine) (known_after old.known met) files
       → IsLook w.types w.allows w.path given c commands marks fault names wanted fine entries
+      old.files files
       → TellsLooks w moment old new c commands marks fault
 
 -- looks that go on, of the same folder

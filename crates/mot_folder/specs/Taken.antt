@@ -1,5 +1,6 @@
 -- What became of the files of a folder, one after the other.
 use Rattle.std.specs.Prelude.{◌≡◌, ◌⊎◌, ◌<◌, ℕ, List, [], ◌∷◌, ◌++◌, length, Some, None}
+use Rattle.mot_files.specs.declared.system.Stamp.{Stamp}
 use Rattle.mot_objects.specs.declared.body.TheConstants.{MAX_BODY}
 use Rattle.mot_suffixes.specs.Types.{SuffixType, type_of_name}
 use Rattle.mot_update.specs.declared.wanted.Wanted.{Wanted}
@@ -15,32 +16,39 @@ abbrev pub IsUntakable : List SuffixType → List ℕ → List ℕ → Type 0
 IsUntakable types name bytes =
     (type_of_name types name ≡ None) ⊎ (length bytes < 1) ⊎ (MAX_BODY < length bytes)
 
--- The files of these names, in order: they were read, or missed, of the folder; and each is wanted
--- with the bytes that were read, or its name is told as that of one that could not be taken. One
--- that was read is told so only if it makes no object, if memory was wanted, or if it was missed
--- then, since it could not be made to last.
+-- The files of these names, in order: they were read, passed over, or missed, of the folder. One that
+-- was read is wanted with the bytes that were read, or its name is told as that of a file that could
+-- not be taken: only if it makes no object, if memory was wanted, or if it was missed then, since it
+-- could not be made to last. Of one that was passed over, since it was not changed, nothing is wanted
+-- and nothing told. One that was missed is told.
 pub data AreTaken (types : List SuffixType) (NoMemory : Type 0) : (names : List (List ℕ))
-    → (read : List (List ℕ × List ℕ)) → (missed : List (List ℕ)) → (wanted : List Wanted)
-    → (told : List (List ℕ)) → Type 0 where
-  no_file : AreTaken types NoMemory [] [] [] [] []
+    → (read : List (List ℕ × List ℕ)) → (unchanged : List (List ℕ × Stamp))
+    → (missed : List (List ℕ)) → (wanted : List Wanted) → (told : List (List ℕ)) → Type 0 where
+  no_file : AreTaken types NoMemory [] [] [] [] [] []
   one_wanted : (names missed told : List (List ℕ)) (read : List (List ℕ × List ℕ))
-      (others : List Wanted) (name bytes : List ℕ) (type : SuffixType)
-      → type_of_name types name ≡ Some type
-      → AreTaken types NoMemory names read missed others told
-      → AreTaken types NoMemory (names ++ name ∷ []) (read ++ (name, bytes) ∷ []) missed
+      (unchanged : List (List ℕ × Stamp)) (others : List Wanted) (name bytes : List ℕ)
+      (type : SuffixType) → type_of_name types name ≡ Some type
+      → AreTaken types NoMemory names read unchanged missed others told
+      → AreTaken types NoMemory (names ++ name ∷ []) (read ++ (name, bytes) ∷ []) unchanged missed
       (others ++ wanted_file type name bytes ∷ []) told
+  one_unchanged : (names missed told : List (List ℕ)) (read : List (List ℕ × List ℕ))
+      (unchanged : List (List ℕ × Stamp)) (others : List Wanted) (name : List ℕ) (stamp : Stamp)
+      → AreTaken types NoMemory names read unchanged missed others told
+      → AreTaken types NoMemory (names ++ name ∷ []) read (unchanged ++ (name, stamp) ∷ []) missed
+      others told
   one_refused : (names missed told : List (List ℕ)) (read : List (List ℕ × List ℕ))
-      (others : List Wanted) (name bytes : List ℕ) → IsUntakable types name bytes ⊎ NoMemory
-      → AreTaken types NoMemory names read missed others told
-      → AreTaken types NoMemory (names ++ name ∷ []) (read ++ (name, bytes) ∷ []) missed others
-      (told ++ name ∷ [])
+      (unchanged : List (List ℕ × Stamp)) (others : List Wanted) (name bytes : List ℕ)
+      → IsUntakable types name bytes ⊎ NoMemory
+      → AreTaken types NoMemory names read unchanged missed others told
+      → AreTaken types NoMemory (names ++ name ∷ []) (read ++ (name, bytes) ∷ []) unchanged missed
+      others (told ++ name ∷ [])
   one_unread : (names missed told : List (List ℕ)) (read : List (List ℕ × List ℕ))
-      (others : List Wanted) (name : List ℕ)
-      → AreTaken types NoMemory names read missed others told
-      → AreTaken types NoMemory (names ++ name ∷ []) read (missed ++ name ∷ []) others
+      (unchanged : List (List ℕ × Stamp)) (others : List Wanted) (name : List ℕ)
+      → AreTaken types NoMemory names read unchanged missed others told
+      → AreTaken types NoMemory (names ++ name ∷ []) read unchanged (missed ++ name ∷ []) others
       (told ++ name ∷ [])
   one_unkept : (names missed told : List (List ℕ)) (read : List (List ℕ × List ℕ))
-      (others : List Wanted) (name bytes : List ℕ)
-      → AreTaken types NoMemory names read missed others told
-      → AreTaken types NoMemory (names ++ name ∷ []) (read ++ (name, bytes) ∷ [])
+      (unchanged : List (List ℕ × Stamp)) (others : List Wanted) (name bytes : List ℕ)
+      → AreTaken types NoMemory names read unchanged missed others told
+      → AreTaken types NoMemory (names ++ name ∷ []) (read ++ (name, bytes) ∷ []) unchanged
       (missed ++ name ∷ []) others (told ++ name ∷ [])

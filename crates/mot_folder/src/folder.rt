@@ -1,6 +1,7 @@
 //! A folder of files, as a source of wanted objects.
 ghost use Rattle.std.specs.Prelude.{◌≡◌, ◌⊎◌, ◌||◌, ◌-◌, ◌<◌, ℕ, List, [], true, false, not, IfErr};
-ghost use Rattle.std.specs.Prelude.{IfOk, MatchResult, slice_get};
+ghost use Rattle.std.specs.Prelude.{IfOk, IfSome, MatchBool, MatchResult, Some, slice_get};
+ghost use Rattle.mot_folder.specs.Inner.Knowing.{IsKnownWith, KnowsFiles, is_fine_look};
 ghost use Rattle.mot_folder.specs.Inner.Names.{name_or_none};
 ghost use Rattle.mot_folder.specs.Inner.Reading.{Misses, Takes, TellsFile, TellsLook, TellsUntaken};
 ghost use Rattle.mot_folder.specs.Inner.Reading.{TellsFault, TellsOffered, is_for_next};
@@ -12,17 +13,19 @@ ghost use Rattle.mot_folder.specs.declared.folder.Untaken.TheVariants.{Unread as
 ghost use Rattle.mot_numbers.specs.declared.refusal.Refusal.{Refusal};
 ghost use Rattle.mot_numbers.specs.declared.refusal.Refusal.TheVariants.{OutOfMemory};
 ghost use Rattle.mot_files.specs.declared.reading.Unread.TheVariants.{TooLong};
-ghost use Rattle.mot_shelf.specs.Given.{Given};
+ghost use Rattle.mot_shelf.specs.Given.{Given, and_unchanged};
+ghost use Rattle.mot_files.specs.declared.system.Stamp.{Stamp};
 ghost use Rattle.mot_suffixes.specs.Types.{SuffixType, type_of_name};
 ghost use Rattle.mot_update.specs.Looking.{was_settled};
 ghost use Rattle.mot_folder.specs.Taken.{IsUntakable, wanted_file};
-ghost use Rattle.mot_update.specs.Told.{TellsBoth, answers_of};
+ghost use Rattle.mot_update.specs.Told.{TellsBoth, answers_of, was_accepted};
 ghost use Rattle.mot_update.specs.Updating.{is_known};
 
+use crate::known::KnownFiles;
 use crate::listing::{FileNames, read_refusal};
 use crate::report::{Report, Sizes};
 use mot_events::{Deed, Why};
-use mot_files::Unread;
+use mot_files::{Stamp, Unread};
 use mot_numbers::Refusal;
 use mot_objects::{Body, MAX_BODY, Name};
 use mot_playout::Attempt;
@@ -33,7 +36,8 @@ use std::alloc::{AllocError, Global};
 use std::io;
 
 /// A folder that a carousel is made equal to, look by look. In a look its files are listed, and each
-/// is read when its turn comes; one that can't be taken is logged, and its object stays as it is.
+/// is read when its turn comes; one that can't be taken is logged, and its object stays as it is. A
+/// file that was not changed since a look found it equal to its object is not read again.
 #[derive(Drop)]
 pub struct Folder<'a, S: Shelf + Drop> {
     /// The folder, and what it gave in the last look.
@@ -50,6 +54,8 @@ pub struct Folder<'a, S: Shelf + Drop> {
     pub(crate) place: usize,
     /// How many bytes the file had that was read last, and how many objects there may be.
     pub(crate) sizes: Sizes,
+    /// What is known of its files.
+    pub files: KnownFiles,
     /// What is told of the last look.
     pub report: Report,
 }
@@ -62,6 +68,9 @@ impl<'a, S: Shelf + Drop> Folder<'a, S> {
         ensures allows { result.allows_empty ≡ allows_empty }
         ensures listed { result.was_listed ≡ true }
         ensures untold { result.report.events.items ≡ [] }
+
+        // It knows no file: so the first look reads them all.
+        ensures known { result.files.known.items ≡ [] }
     {
         Folder {
             shelf,
@@ -75,6 +84,7 @@ impl<'a, S: Shelf + Drop> Folder<'a, S> {
                 most: 0,
                 waiting: 0,
             },
+            files: KnownFiles::new(alloc),
             report: Report::new(alloc),
         }
     }
@@ -85,15 +95,19 @@ impl<'a, S: Shelf + Drop> Source for Folder<'a, S> {
 
     ghost place = { λ folder. folder.place };
 
-    ghost is_fine = { λ folder. not folder.report.any_refused };
+    // Where a file is passed over, no object of its name is given.
+    ghost is_fine = { λ folder. is_fine_look folder.report.any_refused
+        (S.gave folder.shelf).unchanged };
 
-    ghost was_told = { λ folder. TellsLook folder.types.now (S.path folder.shelf)
-        (S.gave folder.shelf) folder.names.names.items folder.place folder.report
-        folder.sizes.waiting };
+    ghost was_told = { λ folder told given. TellsLook folder.types.now folder.files.known.items
+        (S.path folder.shelf) (S.gave folder.shelf) folder.names.names.items folder.place
+        folder.report folder.sizes.waiting told given
+        × KnowsFiles (S.gave folder.shelf) folder.files told };
 
-    ghost offers = { λ folder. TellsOffered folder.types.now (S.path folder.shelf)
-        (S.gave folder.shelf) folder.names.names.items folder.place folder.report
-        folder.sizes.waiting };
+    ghost offers = { λ folder wanted told given. TellsOffered folder.types.now
+        folder.files.known.items (S.path folder.shelf) (S.gave folder.shelf)
+        folder.names.names.items folder.place folder.report folder.sizes.waiting wanted told given
+        × KnowsFiles (S.gave folder.shelf) folder.files told };
 
     ghost last = { λ folder. name_or_none (slice_get folder.names.names.items (folder.place - 1)) };
 
@@ -110,9 +124,13 @@ impl<'a, S: Shelf + Drop> Source for Folder<'a, S> {
             self.place += 1;
             let names = &self.names;
             let name = &names.names[place];
+            if is_unchanged(&mut self.shelf, alloc, &self.files, name) {
+                continue;
+            }
             match read(&mut self.shelf, alloc, self.types, name) {
-                Ok(wanted) => {
+                Ok((wanted, stamp)) => {
                     self.sizes.length = wanted.body.length().get();
+                    self.files.add(name, stamp_to_keep(&wanted, stamp));
                     return Some(wanted);
                 }
                 Err(untaken) => tell_untaken(&mut self.report, name.as_bytes(), untaken),
@@ -146,6 +164,11 @@ impl<'a, S: Shelf + Drop> Source for Folder<'a, S> {
 
     fn settled(&mut self, settled: Settled) {
         let waiting = and_settled(self.sizes.waiting, &settled);
+        self.files.settle(
+            &self.names,
+            self.place.saturating_sub(1),
+            is_refused(&settled),
+        );
         tell_settled(
             &mut self.report,
             &self.names,
@@ -259,6 +282,27 @@ fn tell_settled(
     }
 }
 
+/// Whether a command was needed, and refused.
+fn is_refused(settled: &Settled) -> bool
+    ensures { result ≡ not (was_settled settled.now) }
+{
+    match settled {
+        Settled::Right => false,
+        Settled::Put(attempt) => is_refusal(attempt),
+        Settled::Replaced(attempt) => is_refusal(attempt),
+    }
+}
+
+/// Whether a command was refused.
+fn is_refusal(attempt: &Attempt) -> bool
+    ensures { result ≡ not (was_accepted attempt.now) }
+{
+    match attempt {
+        Attempt::Accepted(_) => false,
+        Attempt::Refused(_) => true,
+    }
+}
+
 /// How many objects wait, where so many did before one was settled so.
 fn and_settled(waiting: u32, settled: &Settled) -> u32
     ensures { result ≡ and_settled waiting settled.now }
@@ -285,16 +329,48 @@ fn has_to_wait(attempt: &Attempt) -> bool
     }
 }
 
-/// Reads the file of this name, as what is wanted.
+/// Whether the file of this name is known, and was not changed since. It is not read.
+fn is_unchanged<S: Shelf + Drop>(
+    shelf: &mut S,
+    alloc: Global,
+    files: &KnownFiles,
+    name: &Name,
+) -> bool
+    ensures same { S.path shelf.new ≡ S.path shelf.old }
+    ensures gave { MatchBool result
+        ((stamp : Stamp) × IsKnownWith files.now.known.items (name.now, stamp)
+        × (S.gave shelf.new ≡ and_unchanged (S.gave shelf.old) name.now stamp))
+        (S.gave shelf.new ≡ S.gave shelf.old) }
+{
+    match files.stamp_of(name) {
+        Some(stamp) => shelf.is_unchanged(alloc, name.as_bytes(), &stamp),
+        None => false,
+    }
+}
+
+/// The stamp of a file of which this is wanted, but where its image type is noted: a note comes again
+/// in each look.
+fn stamp_to_keep(wanted: &Wanted, stamp: Option<Stamp>) -> Option<Stamp>
+    ensures { IfSome result (λ kept. stamp ≡ Some kept) }
+{
+    if other_image(wanted.content, wanted.body.as_bytes()).is_some() {
+        None
+    } else {
+        stamp
+    }
+}
+
+/// Reads the file of this name, as what is wanted, with the stamp that it had before.
 fn read<S: Shelf + Drop>(
     shelf: &mut S,
     alloc: Global,
     types: &FileTypes,
     name: &Name,
-) -> Result<Wanted, Untaken>
+) -> Result<(Wanted, Option<Stamp>), Untaken>
     ensures same { S.path shelf.new ≡ S.path shelf.old }
     ensures took { MatchResult result
-        (Takes types.now name.now (S.gave shelf.old) (S.gave shelf.new))
+        (λ taken. (takes : Takes types.now name.now (S.gave shelf.old) (S.gave shelf.new) taken.0)
+        × (takes.stamp ≡ taken.1))
         (λ untaken. Misses types.now name.now (S.gave shelf.old) (S.gave shelf.new)
         (untaken ≡ NotTaken OutOfMemory)) }
 
@@ -302,12 +378,13 @@ fn read<S: Shelf + Drop>(
     ensures long { IfErr result (λ untaken. (count : ℕ) → untaken ≡ NotRead (TooLong count)
         → MAX_BODY < count) }
 {
-    let bytes = match shelf.read(alloc, name.as_bytes(), u64::from(MAX_BODY)) {
-        Ok(bytes) => bytes,
+    let file = match shelf.read(alloc, name.as_bytes(), u64::from(MAX_BODY)) {
+        Ok(file) => file,
         Err(unread) => return Err(Untaken::Unread(unread)),
     };
-    match wanted_of_file(types, name, bytes) {
-        Ok(wanted) => Ok(wanted),
+    let stamp = file.stamp;
+    match wanted_of_file(types, name, file.bytes) {
+        Ok(wanted) => Ok((wanted, stamp)),
         Err(refusal) => Err(Untaken::Refused(refusal)),
     }
 }

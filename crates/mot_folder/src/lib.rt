@@ -2,11 +2,13 @@
 #![tactic(auto)]
 
 mod folder;
+mod known;
 mod listing;
 mod looking;
 mod report;
 
 pub use folder::Folder;
+pub use known::{Known, KnownFiles, StampedFile};
 pub use looking::{Looks, look_at_folder};
 pub use mot_suffixes::{FileType, FileTypes};
 pub use report::Report;

@@ -58,7 +58,8 @@ pub fn look_at_folder<S: Shelf + Drop, D: Disk>(
         → (D.state server.new.disk).IsHonest
         → HasLookedAtFolder server.old server.new (D.state server.old.disk)
         (D.state server.new.disk) s folder.old.types.now folder.old.allows_empty
-        (S.path folder.old.shelf) (S.gave folder.new.shelf) folder.new.report (fault_of result) }
+        (S.path folder.old.shelf) (S.gave folder.new.shelf) folder.new.report (fault_of result)
+        folder.old.files.known.items folder.new.files.known.items }
 
     ensures path { (s : Standing) → Holds server.old.view s (D.state server.old.disk)
         → (D.state server.new.disk).IsHonest
@@ -101,7 +102,9 @@ pub fn look_at_folder<S: Shelf + Drop, D: Disk>(
         most: server.geometry().objects,
         waiting: 0,
     };
+    folder.files.start(alloc, server.carousel());
     look(server, alloc, folder)?;
+    folder.files.finish(alloc, server.carousel());
     note_waiting(&mut folder.report, folder.shelf.shown(), folder.sizes);
     note_gap(
         &mut folder.report,
@@ -254,9 +257,11 @@ impl<'a, S: Shelf + Drop> Update for Looks<'a, S> {
         (watch (S.path new.folder.shelf) new.folder.types.now new.folder.allows_empty new.every
         new.within)
         moment (so_far old.left old.looks.all old.any_refused
-        (looks_known old.count old.folder.report.events.items old.before.items))
+        (looks_known old.count old.folder.report.events.items old.before.items)
+        old.folder.files.known.items)
         (so_far new.left new.looks.all new.any_refused
-        (looks_known new.count new.folder.report.events.items new.before.items)) };
+        (looks_known new.count new.folder.report.events.items new.before.items)
+        new.folder.files.known.items) };
 
     fn update<D: Disk>(
         &mut self,
@@ -275,10 +280,11 @@ impl<'a, S: Shelf + Drop> Update for Looks<'a, S> {
             (watch (S.path self.new.folder.shelf) self.new.folder.types.now
             self.new.folder.allows_empty self.new.every self.new.within)
             moment (so_far self.old.left self.old.looks.all self.old.any_refused
-            (looks_known self.old.count self.old.folder.report.events.items self.old.before.items))
+            (looks_known self.old.count self.old.folder.report.events.items self.old.before.items)
+            self.old.folder.files.known.items)
             (so_far self.new.left self.new.looks.all self.new.any_refused
             (looks_known self.new.count self.new.folder.report.events.items
-            self.new.before.items)))
+            self.new.before.items) self.new.folder.files.known.items))
             server.old server.new (D.state server.old.disk) (D.state server.new.disk) s
             (fault_of result) }
 
@@ -310,7 +316,7 @@ impl<'a, S: Shelf + Drop> Update for Looks<'a, S> {
             → HasLookedAtFolder server.old server.new (D.state server.old.disk)
             (D.state server.new.disk) s self.old.folder.types.now self.old.folder.allows_empty
             (S.path self.old.folder.shelf) (S.gave self.new.folder.shelf) self.new.folder.report
-            (fault_of result) }
+            (fault_of result) self.old.folder.files.known.items self.new.folder.files.known.items }
     {
         if !look_is_due(&mut self.left, self.within, moment.may_look()) {
             return Ok(());

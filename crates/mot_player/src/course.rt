@@ -140,8 +140,9 @@ impl Course {
     }
 
     /// Another turn comes, behind a turn of so many entities. If it can be followed, what is left
-    /// goes on; where no group is under way and nothing waits, that is the turn that begins. Else
-    /// the other turn begins.
+    /// goes on, and the body that came is queued if fewer than `most` are that are not begun; where
+    /// no group is under way and nothing waits, the turn that begins is left. Else the other turn
+    /// begins.
     pub fn change(
         &mut self,
         difference: Option<Difference>,
@@ -181,8 +182,8 @@ impl Course {
     }
 
     /// Goes on in a turn that differs so: its directory comes, what is queued and stays, the body
-    /// that came if fewer than so many are queued that are not begun, and then the rest. The queue
-    /// is kept in the room for it.
+    /// that came if fewer than `most` are queued that are not begun, and then the rest. The queue is
+    /// kept in the room for it.
     fn follow(
         &mut self,
         difference: Difference,

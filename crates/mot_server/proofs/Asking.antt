@@ -58,7 +58,7 @@ not_play name other differs is play =
 pub lacks_none : (name : Text) (rows : List Row) (task : Task) → IsTask name rows task
     → name ≡ codes "play" → is_whole rows ≡ false → ⊥
 lacks_none name rows (Play p) is play lack =
-    absurd (let whole : is_whole rows ≡ true = is.14 in cc)
+    absurd (let whole : is_whole rows ≡ true = is.15 in cc)
 lacks_none name rows (Memory g) is play lack = not_play name (codes "memory") refl is.0 play
 lacks_none name rows (Format p g d) is play lack = not_play name (codes "format") refl is.0 play
 lacks_none name rows (Copy c) is play lack = not_play name (codes "copy") refl is.0 play

@@ -6,6 +6,7 @@ use Rattle.mot_files.specs.Call.{Call, closed, failed_read, looked, opened, read
 use Rattle.mot_files.specs.Lasting.{MakesLast, SyncsPath}
 use Rattle.mot_files.specs.Listing.{file_of, path_in}
 use Rattle.mot_files.specs.Reading.{IsRead, IsUnread}
+use Rattle.mot_files.specs.Stamping.{HasStamp, IsStamped}
 use Rattle.mot_files.specs.declared.reading.Unread.{Unread}
 use Rattle.mot_files.specs.declared.reading.Unread.TheVariants.{Changed, NoMemory}
 use Rattle.mot_files.specs.declared.system.Fault.{Fault}
@@ -13,6 +14,7 @@ use Rattle.mot_files.specs.declared.system.Handle.{Handle}
 use Rattle.mot_files.specs.declared.system.How.TheVariants as How
 use Rattle.mot_files.specs.declared.system.Kind.{Kind}
 use Rattle.mot_files.specs.declared.system.Seen.{Seen}
+use Rattle.mot_files.specs.declared.system.Stamp.{Stamp}
 
 -- by which path a folder is opened, so that a link to it is followed: no path is none
 abbrev pub folder_place : List ℕ → List ℕ
@@ -67,17 +69,24 @@ abbrev pub KindIsAsked : (path name : List ℕ) → Kind → (old new : List Cal
 KindIsAsked path name kind old new = (named : Seen) × (named.kind ≡ kind)
     × (new ≡ old ++ looked (path_in path name) (Ok named) ∷ [])
 
--- a file of the folder was read, and when it was not
+-- a file of the folder has this stamp
+abbrev pub FileIsUnchanged : (path name : List ℕ) → Stamp → (old new : List Call) → Type 0
+FileIsUnchanged path name stamp old new = HasStamp (path_in path name) stamp old new
+
+-- a file of the folder was read, behind its stamp; and when it was not
 abbrev pub FileIsRead : (path name : List ℕ) → (most : ℕ) → (at_once : Bool) → (bytes : List ℕ)
-    → (old new : List Call) → Type 0
-FileIsRead path name most at_once bytes old new =
-    IsRead (path_in path name) most at_once bytes old new
+    → Option Stamp → (old new : List Call) → Type 0
+FileIsRead path name most at_once bytes stamp old new = (before : List Call)
+    × IsStamped (path_in path name) stamp old before
+    × IsRead (path_in path name) most at_once bytes before new
 
 abbrev pub FileIsUnread : (path name : List ℕ) → (most : ℕ) → (at_once : Bool) → Unread
     → (old new : List Call) → Type 0
 FileIsUnread path name most at_once unread old new =
     ((new ≡ old) × ((unread ≡ Changed) ⊎ (unread ≡ NoMemory)))
-    ⊎ IsUnread (path_in path name) most at_once unread old new
+    ⊎ ((before : List Call) × (stamp : Option Stamp)
+    × IsStamped (path_in path name) stamp old before
+    × IsUnread (path_in path name) most at_once unread before new)
 
 -- a file of the folder was made to last, and then the folder; and when it was not
 abbrev pub FileIsKept : (path name : List ℕ) → (old new : List Call) → Type 0

@@ -1,5 +1,6 @@
 -- What a folder gave in one look.
-use Rattle.std.specs.Prelude.{ℕ, Bool, true, false, List, [], ◌∷◌, ◌++◌}
+use Rattle.std.specs.Prelude.{ℕ, Bool, true, false, List, [], ◌∷◌, ◌++◌, Option, Some, None}
+use Rattle.mot_files.specs.declared.system.Stamp.{Stamp}
 
 pub record Given : Type 0 where
   -- of each listing the path by which the folder was opened, and then the names that each read of
@@ -11,6 +12,10 @@ pub record Given : Type 0 where
   pub others : List (List ℕ)
   -- the files that were read: the name of each, and its bytes
   pub read : List (List ℕ × List ℕ)
+  -- of some of them the stamp that each had before it was read
+  pub stamped : List (List ℕ × Stamp)
+  -- the files that were not read, since each was found to have this stamp
+  pub unchanged : List (List ℕ × Stamp)
   -- the names of those that could not be, or not be made to last
   pub missed : List (List ℕ)
   -- the names of the files that were made to last, and the folder after each of them
@@ -27,6 +32,8 @@ nothing = record {
   files = [];
   others = [];
   read = [];
+  stamped = [];
+  unchanged = [];
   missed = [];
   kept = [];
   kept_names = [];
@@ -42,9 +49,21 @@ abbrev pub and_asked : Given → List ℕ → (is_file : Bool) → Given
 and_asked g name true = record g { files = g.files ++ name ∷ [] }
 and_asked g name false = record g { others = g.others ++ name ∷ [] }
 
--- the file of this name has these bytes
-abbrev pub and_read : Given → List ℕ → List ℕ → Given
-and_read g name bytes = record g { read = g.read ++ (name, bytes) ∷ [] }
+-- a file with its stamp, where it has one
+abbrev pub and_stamp : List (List ℕ × Stamp) → List ℕ → Option Stamp → List (List ℕ × Stamp)
+and_stamp stamped name None = stamped
+and_stamp stamped name (Some stamp) = stamped ++ (name, stamp) ∷ []
+
+-- the file of this name has these bytes, and had this stamp, or none, before it was read
+abbrev pub and_read : Given → List ℕ → List ℕ → Option Stamp → Given
+and_read g name bytes stamp = record g {
+  read = g.read ++ (name, bytes) ∷ [];
+  stamped = and_stamp g.stamped name stamp;
+}
+
+-- the file of this name has this stamp, and is not read
+abbrev pub and_unchanged : Given → List ℕ → Stamp → Given
+and_unchanged g name stamp = record g { unchanged = g.unchanged ++ (name, stamp) ∷ [] }
 
 -- or it can't be read, or be made to last
 abbrev pub and_missed : Given → List ℕ → Given

@@ -8,6 +8,7 @@ mod memory;
 mod pairs;
 mod seen;
 mod shelf;
+mod stamps;
 mod system;
 
 pub use inlet::Inlet;
@@ -15,5 +16,6 @@ pub use line_count::LineCount;
 pub use memory::MemoryShelf;
 pub use pairs::Pairs;
 pub use seen::{LookNotes, Seen};
-pub use shelf::Shelf;
+pub use shelf::{FileRead, Shelf};
+pub use stamps::Stamps;
 pub use system::SystemShelf;

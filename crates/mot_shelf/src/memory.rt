@@ -3,8 +3,8 @@ ghost use Rattle.std.specs.Prelude.{◌≢◌, ℕ, IfErr, codes, true};
 ghost use Rattle.mot_shelf.specs.Seen.{given_of};
 ghost use Rattle.mot_files.specs.declared.reading.Unread.TheVariants.{TooLong, Young};
 
-use crate::{LookNotes, Seen, Shelf};
-use mot_files::{Fault, Kind, Unread};
+use crate::{FileRead, LookNotes, Seen, Shelf};
+use mot_files::{Fault, Kind, Stamp, Unread};
 use std::alloc::Global;
 use std::io::{self, ErrorKind};
 
@@ -106,11 +106,16 @@ impl Shelf for MemoryShelf {
         Some(Kind::File)
     }
 
-    fn read(&mut self, alloc: Global, name: &[u8], _most: u64) -> Result<Vec<u8>, Unread> {
+    // Its files have no times, and so no stamps.
+    fn is_unchanged(&mut self, _alloc: Global, _name: &[u8], _stamp: &Stamp) -> bool {
+        false
+    }
+
+    fn read(&mut self, alloc: Global, name: &[u8], _most: u64) -> Result<FileRead, Unread> {
         match self.bytes_of(alloc, name) {
             Ok(bytes) => {
                 self.seen.read.note(name, bytes.as_slice());
-                Ok(bytes)
+                Ok(FileRead { bytes, stamp: None })
             }
             Err(error) => {
                 self.seen.missed.note(name);

@@ -5,6 +5,7 @@ ghost use Rattle.mot_shelf.specs.Given.{Given};
 ghost use Rattle.mot_shelf.specs.Seen.{given_of};
 
 use crate::pairs::Pairs;
+use crate::stamps::Stamps;
 use disk_store::Notes;
 use std::marker::{Model, PhantomData};
 
@@ -16,6 +17,8 @@ pub struct Seen {
     pub(crate) files: Notes,
     pub(crate) others: Notes,
     pub(crate) read: Pairs,
+    pub(crate) stamped: Stamps,
+    pub(crate) unchanged: Stamps,
     pub(crate) missed: Notes,
     pub(crate) kept: Notes,
     pub(crate) kept_names: Notes,
@@ -28,7 +31,8 @@ impl Seen {
         ensures listed { result.listed.all ≡ [] }
         ensures files { result.files.all ≡ [] }
         ensures others { result.others.all ≡ [] }
-        ensures read { result.read.all ≡ [] }
+        ensures read { (result.read.all ≡ []) × (result.stamped.all ≡ [])
+            × (result.unchanged.all ≡ []) }
         ensures missed { result.missed.all ≡ [] }
         ensures kept { (result.kept.all ≡ []) × (result.kept_names.all ≡ []) }
         ensures failed { result.failed.all ≡ [] }
@@ -38,6 +42,8 @@ impl Seen {
             files: Notes::new(),
             others: Notes::new(),
             read: Pairs::new(),
+            stamped: Stamps::new(),
+            unchanged: Stamps::new(),
             missed: Notes::new(),
             kept: Notes::new(),
             kept_names: Notes::new(),

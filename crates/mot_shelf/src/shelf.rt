@@ -1,14 +1,23 @@
 //! What a program has to come to the files of one folder by.
 ghost use Rattle.std.specs.Prelude.{◌≡◌, ◌≢◌, ◌<◌, ◌≤◌, ℕ, Bool, true, List, [], ◌∷◌, ◌++◌, IfErr, IfOk};
-ghost use Rattle.std.specs.Prelude.{MatchResult, length, take};
+ghost use Rattle.std.specs.Prelude.{MatchBool, MatchResult, length, take};
 ghost use Rattle.mot_files.specs.declared.reading.Unread.TheVariants.{TooLong, Young};
 ghost use Rattle.mot_shelf.specs.Given.{Given, and_asked, and_failed, and_kept, and_kept_names};
-ghost use Rattle.mot_shelf.specs.Given.{and_listed, and_missed, and_read, nothing};
+ghost use Rattle.mot_shelf.specs.Given.{and_listed, and_missed, and_read, and_unchanged, nothing};
 
 use crate::LookNotes;
-use mot_files::{Kind, Unread};
+use mot_files::{Kind, Stamp, Unread};
 use std::alloc::Global;
 use std::io;
+
+/// A file that was read.
+#[derive(Drop)]
+pub struct FileRead {
+    /// Its bytes.
+    pub bytes: Vec<u8>,
+    /// Its stamp before it was read, if its last change was two seconds ago then, or longer.
+    pub stamp: Option<Stamp>,
+}
 
 /// One folder. Nothing else is listed or read through it, and what it gave since a look began is
 /// noted for clauses.
@@ -72,13 +81,22 @@ pub trait Shelf {
         ensures rule { at_once self.new ≡ at_once self.old }
         ensures gave { gave self.new ≡ gave self.old };
 
-    /// The bytes of the regular file of this name, which has so many at most. The error says why
-    /// it was not read.
-    fn read(&mut self, alloc: Global, name: &[u8], most: u64) -> Result<Vec<u8>, Unread>
+    /// Whether the file of this name is a regular one that has this stamp. It is not read.
+    fn is_unchanged(&mut self, alloc: Global, name: &[u8], stamp: &Stamp) -> bool
+        ensures same { path self.new ≡ path self.old }
+        ensures rule { at_once self.new ≡ at_once self.old }
+        ensures gave { MatchBool result
+            (gave self.new ≡ and_unchanged (gave self.old) name.now stamp.now)
+            (gave self.new ≡ gave self.old) };
+
+    /// The regular file of this name, which has so many bytes at most, with the stamp that it had
+    /// before it was read. The error says why it was not read.
+    fn read(&mut self, alloc: Global, name: &[u8], most: u64) -> Result<FileRead, Unread>
         ensures same { path self.new ≡ path self.old }
         ensures rule { at_once self.new ≡ at_once self.old }
         ensures gave { MatchResult result
-            (λ bytes. gave self.new ≡ and_read (gave self.old) name.now bytes.items)
+            (λ file. gave self.new
+            ≡ and_read (gave self.old) name.now file.bytes.items file.stamp)
             (λ _. gave self.new ≡ and_missed (gave self.old) name.now) }
         ensures young { at_once self.old ≡ true → IfErr result (λ unread. unread ≢ Young) }
         ensures long { IfErr result (λ unread.

@@ -1,22 +1,24 @@
 //! A folder of a system of files.
 ghost use Rattle.std.specs.Prelude.{◌≡◌, ◌≢◌, ◌<◌, ◌≤◌, ◌++◌, ◌∷◌, [], ℕ, Err, IfErr, IfOk};
-ghost use Rattle.std.specs.Prelude.{IfSome, MatchResult, None, Ok, Some, length, take, true};
+ghost use Rattle.std.specs.Prelude.{IfSome, MatchBool, MatchResult, None, Ok, Some, length, take, true};
 ghost use Rattle.mot_files.specs.Call.{opened};
 ghost use Rattle.mot_files.specs.declared.system.Fault.{Fault};
 ghost use Rattle.mot_files.specs.declared.system.Handle.{Handle};
 ghost use Rattle.mot_files.specs.declared.system.How.TheVariants as How;
 ghost use Rattle.mot_shelf.specs.Given.{and_asked, and_failed, and_kept, and_kept_names};
-ghost use Rattle.mot_shelf.specs.Given.{and_listed, and_missed, and_read, nothing};
+ghost use Rattle.mot_shelf.specs.Given.{and_listed, and_missed, and_read, and_unchanged, nothing};
 ghost use Rattle.mot_files.specs.declared.reading.Unread.TheVariants.{TooLong, Young};
-ghost use Rattle.mot_shelf.specs.Calls.{FileIsKept, FileIsRead, FileIsUnkept, FileIsUnread};
+ghost use Rattle.mot_shelf.specs.Calls.{FileIsKept, FileIsRead, FileIsUnchanged, FileIsUnkept};
+ghost use Rattle.mot_shelf.specs.Calls.{FileIsUnread};
 ghost use Rattle.mot_shelf.specs.Calls.{IsAsked, IsUnasked, NamesAreKept, NamesAreUnkept};
 ghost use Rattle.mot_shelf.specs.Calls.{FolderIsClosed, FolderIsOpened, KindIsAsked};
 ghost use Rattle.mot_shelf.specs.Calls.{NamesAreRead, NamesAreUnread};
 ghost use Rattle.mot_shelf.specs.Seen.{given_of};
 
-use crate::{LookNotes, Seen, Shelf};
+use crate::{FileRead, LookNotes, Seen, Shelf};
 use mot_files::{
-    Fault, Handle, How, Kind, System, Unread, is_file, make_last, path_in, read_file, sync_path,
+    Fault, Handle, How, Kind, Stamp, System, Unread, has_stamp, is_file, make_last, path_in,
+    read_file, stamp, sync_path,
 };
 use std::alloc::Global;
 use std::io::{self, ErrorKind};
@@ -191,19 +193,35 @@ impl<'a, S: System + Drop> Shelf for SystemShelf<'a, S> {
         kind_of(&mut self.system, alloc, self.path, name)
     }
 
-    fn read(&mut self, alloc: Global, name: &[u8], most: u64) -> Result<Vec<u8>, Unread>
+    fn is_unchanged(&mut self, alloc: Global, name: &[u8], stamp: &Stamp) -> bool
+        ensures same { self.new.path.now ≡ self.old.path.now }
+        ensures rule { self.new.at_once ≡ self.old.at_once }
+        ensures gave { MatchBool result
+            (given_of self.new.seen ≡ and_unchanged (given_of self.old.seen) name.now stamp.now)
+            (given_of self.new.seen ≡ given_of self.old.seen) }
+        ensures calls { result ≡ true → FileIsUnchanged self.old.path.now name.now stamp.now
+            (S.calls self.old.system) (S.calls self.new.system) }
+    {
+        let is_unchanged = is_stamped(&mut self.system, alloc, self.path, name, stamp);
+        if is_unchanged {
+            self.seen.unchanged.note(name, stamp);
+        }
+        is_unchanged
+    }
+
+    fn read(&mut self, alloc: Global, name: &[u8], most: u64) -> Result<FileRead, Unread>
         ensures same { self.new.path.now ≡ self.old.path.now }
         ensures rule { self.new.at_once ≡ self.old.at_once }
         ensures gave { MatchResult result
-            (λ bytes. given_of self.new.seen
-            ≡ and_read (given_of self.old.seen) name.now bytes.items)
+            (λ file. given_of self.new.seen
+            ≡ and_read (given_of self.old.seen) name.now file.bytes.items file.stamp)
             (λ _. given_of self.new.seen ≡ and_missed (given_of self.old.seen) name.now) }
         ensures young { self.old.at_once ≡ true → IfErr result (λ unread. unread ≢ Young) }
         ensures long { IfErr result (λ unread.
             (count : ℕ) → unread ≡ TooLong count → most < count) }
         ensures calls { MatchResult result
-            (λ bytes. FileIsRead self.old.path.now name.now most self.old.at_once bytes.items
-            (S.calls self.old.system) (S.calls self.new.system))
+            (λ file. FileIsRead self.old.path.now name.now most self.old.at_once file.bytes.items
+            file.stamp (S.calls self.old.system) (S.calls self.new.system))
             (λ unread. FileIsUnread self.old.path.now name.now most self.old.at_once unread
             (S.calls self.old.system) (S.calls self.new.system)) }
     {
@@ -214,9 +232,12 @@ impl<'a, S: System + Drop> Shelf for SystemShelf<'a, S> {
             name,
             (most, self.at_once),
         ) {
-            Ok(bytes) => {
-                self.seen.read.note(name, bytes.as_slice());
-                Ok(bytes)
+            Ok(file) => {
+                self.seen.read.note(name, file.bytes.as_slice());
+                if let Some(stamp) = &file.stamp {
+                    self.seen.stamped.note(name, stamp);
+                }
+                Ok(file)
             }
             Err(error) => {
                 self.seen.missed.note(name);
@@ -378,20 +399,40 @@ fn kind_of<S: System>(system: &mut S, alloc: Global, path: &str, name: &[u8]) ->
     }
 }
 
-/// The bytes of the regular file of this name in the folder, if it has so many at most. One that is
-/// young is read only if it is asked for `at_once`.
+/// Whether the file of this name in the folder is a regular one that has this stamp.
+fn is_stamped<S: System>(
+    system: &mut S,
+    alloc: Global,
+    path: &str,
+    name: &[u8],
+    stamp: &Stamp,
+) -> bool
+    ensures { result ≡ true → FileIsUnchanged path.now name.now stamp.now (S.calls system.old)
+        (S.calls system.new) }
+{
+    let Ok(name) = from_utf8(name) else {
+        return false;
+    };
+    let Ok(path) = path_in(alloc, path, name) else {
+        return false;
+    };
+    has_stamp(system, path.as_str(), stamp)
+}
+
+/// The regular file of this name in the folder, if it has so many bytes at most, with the stamp that
+/// it had before it was read. One that is young is read only if it is asked for `at_once`.
 fn read_named<S: System>(
     system: &mut S,
     alloc: Global,
     path: &str,
     name: &[u8],
     how: (u64, bool),
-) -> Result<Vec<u8>, Unread>
+) -> Result<FileRead, Unread>
     ensures young { how.1 ≡ true → IfErr result (λ unread. unread ≢ Young) }
     ensures long { IfErr result (λ unread. (count : ℕ) → unread ≡ TooLong count → how.0 < count) }
     ensures calls { MatchResult result
-        (λ bytes. FileIsRead path.now name.now how.0 how.1 bytes.items (S.calls system.old)
-        (S.calls system.new))
+        (λ file. FileIsRead path.now name.now how.0 how.1 file.bytes.items file.stamp
+        (S.calls system.old) (S.calls system.new))
         (λ unread. FileIsUnread path.now name.now how.0 how.1 unread (S.calls system.old)
         (S.calls system.new)) }
 {
@@ -402,8 +443,9 @@ fn read_named<S: System>(
         return Err(Unread::NoMemory);
     };
     let (most, at_once) = how;
+    let stamp = stamp(system, path.as_str());
     match read_file(system, alloc, path.as_str(), most, at_once) {
-        Ok(bytes) => Ok(bytes),
+        Ok(bytes) => Ok(FileRead { bytes, stamp }),
         Err(unread) => Err(unread),
     }
 }

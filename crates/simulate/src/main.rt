@@ -8,6 +8,8 @@ mod judging;
 mod log;
 #[cfg(test)]
 mod memory_tests;
+#[cfg(test)]
+mod passing_tests;
 mod playing;
 mod reading;
 mod replacing;

@@ -150,7 +150,7 @@ fn text(at: u64) -> &'static [u8] {
 }
 
 /// An empty disk.
-fn new_disk(alloc: Global) -> Result<MemoryDisk, AllocError> {
+pub fn new_disk(alloc: Global) -> Result<MemoryDisk, AllocError> {
     let Some(mut disk) = MemoryDisk::new(alloc, SIZES.length()) else {
         return Err(AllocError);
     };

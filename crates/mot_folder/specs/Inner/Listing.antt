@@ -53,10 +53,11 @@ StopsAt types more old new counted names refusal =
     (seen : List (List ℕ)) → IsSoFar types seen old counted names
     → IsWhyNot types (seen ++ more) new refusal
 
--- no file was read
+-- no file was read, or passed over
 pub record IsUnread (old new : Given) : Type 0 where
   pub read : new.read ≡ old.read
   pub missed : new.missed ≡ old.missed
+  pub unchanged : new.unchanged ≡ old.unchanged
 
 -- names were asked for, and nothing else
 pub record WereAsked (old new : Given) : Type 0 where

@@ -1,6 +1,6 @@
 -- A folder while its files are read, and what a source of them was told.
 use Rattle.std.specs.Prelude.{◌≡◌, ◌⊎◌, ◌+◌, ◌<◌, ℕ, List, [], ◌∷◌, ◌++◌, length, map, take}
-use Rattle.std.specs.Prelude.{None, Some, Bool, true, false, slice_get}
+use Rattle.std.specs.Prelude.{None, Option, Some, Bool, true, false, slice_get}
 use Rattle.mot_events.specs.Text.{event_of}
 use Rattle.mot_events.specs.declared.event.Deed.TheVariants.{Read}
 use Rattle.mot_events.specs.declared.event.LookEvent.{LookEvent}
@@ -12,8 +12,10 @@ use Rattle.mot_folder.specs.Inner.Listing.{IsCallRefusal}
 use Rattle.mot_folder.specs.Listed.{IsListing}
 use Rattle.mot_folder.specs.Log.{TellsOf, TellsOne, is_of_file}
 use Rattle.mot_folder.specs.Taken.{IsUntakable, wanted_file}
+use Rattle.mot_files.specs.declared.system.Stamp.{Stamp}
 use Rattle.mot_folder.specs.declared.folder.Untaken.{Untaken}
 use Rattle.mot_folder.specs.declared.folder.Untaken.TheVariants.{Refused as NotTaken, Unread as NotRead}
+use Rattle.mot_folder.specs.declared.known.Known.{Known}
 use Rattle.mot_folder.specs.declared.report.Report.{Report}
 use Rattle.mot_files.specs.declared.reading.Unread.TheVariants.{Changed, NoMemory as OutOfRoom, System, TooLong, Young}
 use Rattle.mot_numbers.specs.declared.refusal.Refusal.{Refusal}
@@ -29,8 +31,9 @@ pub record Takes (types : List SuffixType) (name : List ℕ) (old new : Given) (
     Type 0 where
   pub bytes : List ℕ
   pub type : SuffixType
+  pub stamp : Option Stamp
   pub typed : type_of_name types name ≡ Some type
-  pub read : new ≡ and_read old name bytes
+  pub read : new ≡ and_read old name bytes stamp
   pub made : wanted ≡ wanted_file type name bytes
 
 -- it was not; or it was, and makes no object, or memory was wanted; or it was, and could not be
@@ -38,9 +41,10 @@ pub record Takes (types : List SuffixType) (name : List ℕ) (old new : Given) (
 pub data Misses (types : List SuffixType) (name : List ℕ) (old new : Given) (NoMemory : Type 0) :
     Type 0 where
   was_unread : new ≡ and_missed old name → Misses types name old new NoMemory
-  was_refused : (bytes : List ℕ) → new ≡ and_read old name bytes
+  was_refused : (bytes : List ℕ) (stamp : Option Stamp) → new ≡ and_read old name bytes stamp
       → IsUntakable types name bytes ⊎ NoMemory → Misses types name old new NoMemory
-  was_unkept : (bytes : List ℕ) → new ≡ and_missed (and_read old name bytes) name
+  was_unkept : (bytes : List ℕ) (stamp : Option Stamp)
+      → new ≡ and_missed (and_read old name bytes stamp) name
       → Misses types name old new NoMemory
 
 -- a file of this name is told as one that was not taken
@@ -48,30 +52,43 @@ abbrev pub TellsFile : Report → Report → List ℕ → Type 0
 TellsFile old new name =
     (met : Met) × (is_of_file met ≡ true) × TellsOne old new (event_of name met)
 
--- Which path and types a look is of does not change: no clause of a source can say so, but what it
--- was told and what it gave only go on. So they stand in front of these: the path with the number
--- of the types, and the types.
-abbrev pub heading : List ℕ → List SuffixType → Answer
-heading path types = Withdrew path (Accepted (record { object = None; directory = length types }))
+-- Which path and types a look is of, and what was known of files when it began, does not change: no
+-- clause of a source can say so, but what it was told and what it gave only go on. So they stand in
+-- front of these: the path with the numbers of the types and of the files, and the types and files.
+abbrev pub heading : List ℕ → List SuffixType → List Known → Answer
+heading path types known =
+    Withdrew path (Accepted (record { object = Some (length known); directory = length types }))
 
 abbrev pub as_wanted : SuffixType → Wanted
 as_wanted type =
     record { name = type.suffix; content = type.content; mime = type.mime; body = [] }
 
+abbrev pub file_as_wanted : Known → Wanted
+file_as_wanted k = record {
+  name = k.name;
+  content = record { content_type = k.tid; subtype = k.version };
+  mime = None;
+  body = k.stamp.device ∷ k.stamp.number ∷ k.stamp.len ∷ k.stamp.written.nanos
+      ∷ k.stamp.changed.nanos ∷ [];
+}
+
+abbrev pub front : List SuffixType → List Known → List Wanted
+front types known = map as_wanted types ++ map file_as_wanted known
+
 -- what was told, and given, in a look at the folder of this path, up to this place in the names
-pub record TellsLook (types : List SuffixType) (path : List ℕ) (given : Given)
+pub record TellsLook (types : List SuffixType) (known : List Known) (path : List ℕ) (given : Given)
     (names : List (List ℕ)) (place : ℕ) (report : Report) (waiting : ℕ) (told : List Answer)
     (gave : List Wanted) : Type 0 where
   pub answers : List Answer
   pub wanted : List Wanted
-  pub headed : told ≡ heading path types ∷ answers
-  pub typed : gave ≡ map as_wanted types ++ wanted
+  pub headed : told ≡ heading path types known ∷ answers
+  pub typed : gave ≡ front types known ++ wanted
   pub listing : IsListing types path given names
   pub tells : TellsOf types given report waiting (take place names) answers wanted
 
 -- the same, once the file of the name before this place was read, of which this is wanted
-pub record TellsOffered (types : List SuffixType) (path : List ℕ) (given : Given)
-    (names : List (List ℕ)) (place : ℕ) (report : Report) (waiting : ℕ) (offered : Wanted)
+pub record TellsOffered (types : List SuffixType) (known : List Known) (path : List ℕ)
+    (given : Given) (names : List (List ℕ)) (place : ℕ) (report : Report) (waiting : ℕ) (offered : Wanted)
     (told : List Answer) (gave : List Wanted) : Type 0 where
   pub before : Given
   pub index : ℕ
@@ -79,7 +96,7 @@ pub record TellsOffered (types : List SuffixType) (path : List ℕ) (given : Giv
   pub within : index < length names
   pub named : slice_get names index ≡ Some offered.name
   pub takes : Takes types offered.name before given offered
-  pub was : TellsLook types path before names index report waiting told gave
+  pub was : TellsLook types known path before names index report waiting told gave
 
 -- whether the next look may take what was not taken: a file that is too young, or was changed
 abbrev pub is_for_next : Untaken → Bool

@@ -8,7 +8,8 @@ use Rattle.mot_numbers.proofs.Laws.{same_error}
 
 pub returns-in_err-looked-clause-looked : goal.returns-in_err-looked-clause-looked
 returns-in_err-looked-clause-looked g c = λ s holds honest.
-    broken c.look_at_folder-looked.new.folder.report c.in_err-looked.field-0.0
+    broken c.look_at_folder-looked.new.folder.report
+    c.look_at_folder-looked.new.folder.files.known.items c.in_err-looked.field-0.0
     (same_error c.from_residual.result c.in_err-looked.field-0.0 c.from_residual.ensures.1)
     (c.in_err-looked.ensures.looked s holds honest)
 
@@ -20,6 +21,7 @@ returns-in_err-looked-clause-faults g c =
 pub returns-in_err-told-clause-looked : goal.returns-in_err-told-clause-looked
 returns-in_err-told-clause-looked g c = λ s holds honest.
     untold c.look_at_folder-looked.new.folder.report
+    c.look_at_folder-looked.new.folder.files.known.items
     (same_error c.from_residual-in_err-told.result c.in_err-told.field-0.0
     c.from_residual-in_err-told.ensures.1 ∙ ap Err c.in_err-told.ensures.fault)
     (c.in_ok-looked.ensures.looked s holds honest)
@@ -32,7 +34,8 @@ returns-in_err-told-clause-faults g c =
 
 pub returns-clause-looked : goal.returns-clause-looked
 returns-clause-looked g c = λ s holds honest.
-    told c.look_at_folder-looked.new.folder.report refl c.in_ok-looked.ensures.whole
+    told c.look_at_folder-looked.new.folder.report
+    c.look_at_folder-looked.new.folder.files.known.items refl c.in_ok-looked.ensures.whole
     (subst (λ l. Appends (g.L.Write.contents c.args.log.now)
     (g.L.Write.contents c.write_events-told.new.log) (flat_map met_line l)) c.as_slice.ensures.value
     c.in_ok-told.ensures.written)

@@ -23,7 +23,8 @@ returns-in-Some g c =
           (λ (u : _). watch (g.S.Shelf.path u.folder.shelf) u.folder.types.now u.folder.allows_empty
           u.every u.within)
           (λ (u : _). so_far u.left u.looks.all u.any_refused
-          (looks_known u.count u.folder.report.events.items u.before.items))
+          (looks_known u.count u.folder.report.events.items u.before.items)
+          u.folder.files.known.items)
           (watch_in how (g.S.Shelf.path c.in-Some.followed.shelf) c.in-Some.followed.types.now
           c.in-Some.followed.allows_empty)
           out.any_refused (c.looks_at-update.ensures.watch c.args.early c.args.turns)

@@ -1,7 +1,9 @@
-use Rattle.std.proofs.Common.{false, inl, sym, subst}
+use Rattle.std.proofs.Common.{List, false, inl, sym, subst}
 use Rattle.std.proofs.KnownBytes.{Keeps-refl}
 use Rattle.std.specs.Result.{result_unwrap_or}
+use Rattle.mot_air.specs.Inner.Looked.{LooksAndTells}
 use Rattle.mot_air.specs.Syncing.{Syncs}
+use Rattle.mot_folder.specs.declared.known.Known.{Known}
 use Rattle.mot_air.proofs.Synced.{syncs}
 use Rattle.mot_air.proofs.playing.sync_disk.Goals as goal
 use Rattle.mot_export.proofs.Laws.{unopened_is}
@@ -43,4 +45,7 @@ returns g c =
     (sym c.into_disk.ensures)
     (syncs state c.args.disk c.in-Ok.server c.look_and_tell-result.new.server g.met.D.Disk.sound
     opens.only_syncs opens.opened opens.calm opens.going c.geometry.ensures.valid looks.keeps
-    types allows path given old new result looks.faults looks.looked)
+    types allows path given old new result looks.faults (λ s holds honest.
+    subst (λ (l : List Known). LooksAndTells c.in-Ok.server c.look_and_tell-result.new.server
+    (state c.in-Ok.server.disk) (state c.look_and_tell-result.new.server.disk) s types allows path
+    given l old new result) c.new.ensures.none (looks.looked s holds honest)))

@@ -1,4 +1,4 @@
-use Rattle.std.proofs.Common.{◌≡◌, ◌∙◌, ap, inl, inr}
+use Rattle.std.proofs.Common.{◌≡◌, ◌∙◌, ap, inl, inr, refl}
 use Rattle.std.specs.Prelude.{◌⊎◌}
 use Rattle.mot_folder.specs.Inner.Reading.Misses.{was_refused}
 use Rattle.mot_folder.specs.declared.folder.Untaken.TheVariants.{Refused}
@@ -16,7 +16,23 @@ why refusal (inr none) = inr (ap Refused none)
 pub returns-in-Err-wanted_of_file-clause-took : goal.returns-in-Err-wanted_of_file-clause-took
 returns-in-Err-wanted_of_file-clause-took g c =
     let old = g.S.Shelf.gave c.args.shelf.now in
-    let bytes = c.in-Ok.bytes.items in
-    was_refused bytes
-    (c.in-Ok.ensures.gave ∙ ap (λ n. and_read old n bytes) c.as_bytes.ensures.value)
+    let bytes = c.in-Ok.file.bytes.items in
+    let stamp = c.in-Ok.file.stamp in
+    was_refused bytes stamp
+    (c.in-Ok.ensures.gave ∙ ap (λ n. and_read old n bytes stamp) c.as_bytes.ensures.value)
     (why c.in-Err-wanted_of_file.refusal c.in-Err-wanted_of_file.ensures.why)
+
+pub returns-in-Ok-wanted_of_file-clause-took : goal.returns-in-Ok-wanted_of_file-clause-took
+returns-in-Ok-wanted_of_file-clause-took g c =
+    let made = c.in-Ok-wanted_of_file.ensures.made in (
+      record {
+        bytes = c.in-Ok.file.bytes.items;
+        type = made.0;
+        stamp = c.in-Ok.file.stamp;
+        typed = made.1;
+        read = c.in-Ok.ensures.gave ∙ ap (λ n. and_read (g.S.Shelf.gave c.args.shelf.now) n
+            c.in-Ok.file.bytes.items c.in-Ok.file.stamp) c.as_bytes.ensures.value;
+        made = made.2;
+      },
+      refl,
+    )

@@ -5,7 +5,14 @@ use Rattle.std.proofs.lemmas.Bool.{and_parts, eqb-true}
 use Rattle.std.proofs.lemmas.List.{take_all}
 use Rattle.disk_model.proofs.Laws.{unchanged_none}
 use Rattle.mot_folder.specs.Inner.Listing.{IsUnread, TellsNameless}
-use Rattle.mot_folder.specs.Inner.Reading.{TellsLook, as_wanted, heading}
+use Rattle.mot_folder.specs.Inner.Knowing.{IsKept, IsKnownWith, KnowsFiles, WasStamped, is_there}
+use Rattle.mot_folder.specs.Inner.Reading.{TellsLook, front, heading}
+use Rattle.mot_folder.specs.Known.{Among, ComesFrom, IsPassedOver, has_it}
+use Rattle.mot_folder.specs.Known.ComesFrom.{was_known}
+use Rattle.mot_folder.specs.declared.known.Known.{Known}
+use Rattle.mot_folder.specs.declared.known.KnownFiles.{KnownFiles}
+use Rattle.mot_folder.proofs.Knowing.{all_on, comes_from, has_it_there, passed_over}
+use Rattle.std.specs.List.{AllByRecursion}
 use Rattle.mot_folder.specs.Listed.{IsListing}
 use Rattle.mot_events.specs.Text.{event_of}
 use Rattle.mot_events.specs.declared.event.LookEvent.{LookEvent}
@@ -81,12 +88,13 @@ run_without_memory old new start now s commands marks run = record {
 -- a look of no command
 of_nothing : {D : Type 0} (old new : ServerView D) (start now : State) (s : Standing)
     (types : List SuffixType) (allows : Bool) (path : List ℕ) (given : Given) (report : Report)
-    (fault : Option Refusal) (entries : List LookEvent)
+    (fault : Option Refusal) (known : List Known) (entries : List LookEvent)
     → HasRun old new start now s [] [] fault
     → look.IsLook types allows path given s.carousel [] [] fault [] [] (not report.any_refused) entries
+    known known
     → ReportTells report entries
-    → HasLookedAtFolder old new start now s types allows path given report fault
-of_nothing old new start now s types allows path given report fault entries run look told = record {
+    → HasLookedAtFolder old new start now s types allows path given report fault known known
+of_nothing old new start now s types allows path given report fault known entries run look told = record {
   commands = [];
   marks = [];
   run = run;
@@ -99,18 +107,21 @@ of_nothing old new start now s types allows path given report fault entries run 
 }
 
 -- a look of these names
-of_names : {D : Type 0} {waiting : ℕ} (old new : ServerView D) (start now : State) (s : Standing)
+of_names : {D : Type 0} {waiting : ℕ} {fine : Bool} (old new : ServerView D) (start now : State) (s : Standing)
     (types : List SuffixType) (allows : Bool) (path : List ℕ) (given : Given) (report : Report)
-    (names : List (List ℕ)) (fault : Option Refusal) → AreShown names
+    (names : List (List ℕ)) (fault : Option Refusal) (known after : List Known) → AreShown names
     → IsListing types path given names
     → is_kept allows names (length s.carousel.objects) ≡ false
-    → (looked : HasLooked old new start now s names 0 None None (not report.any_refused) fault)
+    → (looked : HasLooked old new start now s names 0 None None fine fault)
     → (seen : List (List ℕ)) → (fault ≡ None → seen ≡ names)
     → (report.any_without_memory ≡ true → fault ≢ None)
     → TellsOf types given report waiting seen looked.runs.answers looked.wanted
-    → HasLookedAtFolder old new start now s types allows path given report fault
-of_names old new start now s types allows path given report names fault shown listing updates looked
-    seen all without told = record {
+    → AllByRecursion (IsPassedOver known s.carousel) given.unchanged
+    → AllByRecursion (ComesFrom known given looked.runs.answers looked.runs.run.leaves.last.carousel)
+    after
+    → HasLookedAtFolder old new start now s types allows path given report fault known after
+of_names old new start now s types allows path given report names fault known after shown listing
+    updates looked seen all without told passed comes = record {
       commands = looked.runs.commands;
       marks = looked.runs.marks;
       run = looked.runs.run;
@@ -126,7 +137,9 @@ of_names old new start now s types allows path given report names fault shown li
             read = told.read;
             taken = taken_so types without told.taken;
             images = told.images;
-          });
+          })
+          passed s.geometry.objects looked.runs.run.leaves.last.carousel
+          looked.runs.run.leaves.after.carousel comes;
       right = inr (looked.runs.answers, told.are, looked.runs.right);
       told = told.told;
     }
@@ -157,28 +170,32 @@ without_memory old new start now s names fine looked = record {
 }
 
 -- names that were gone over to the last, where memory may have been wanting for a line
-listed_whole : {D : Type 0} {waiting : ℕ} (old new : ServerView D) (start now : State) (s : Standing)
+listed_whole : {D : Type 0} {waiting : ℕ} {fine : Bool} (old new : ServerView D) (start now : State) (s : Standing)
     (types : List SuffixType) (allows : Bool) (path : List ℕ) (given : Given) (report : Report)
-    (names : List (List ℕ)) → AreShown names → IsListing types path given names
+    (names : List (List ℕ)) (known after : List Known) → AreShown names
+    → IsListing types path given names
     → is_kept allows names (length s.carousel.objects) ≡ false
-    → (looked : HasLooked old new start now s names 0 None None (not report.any_refused) None)
+    → (looked : HasLooked old new start now s names 0 None None fine None)
     → TellsOf types given report waiting names looked.runs.answers looked.wanted
+    → AllByRecursion (IsPassedOver known s.carousel) given.unchanged
+    → AllByRecursion (ComesFrom known given looked.runs.answers looked.runs.run.leaves.last.carousel)
+    after
     → (r : Result Unit Refusal) → IfErr r (λ e. e ≡ OutOfMemory)
     → (IsOk r → report.any_without_memory ≡ false)
-    → HasLookedAtFolder old new start now s types allows path given report (fault_of r)
-unfolding without_memory
-listed_whole old new start now s types allows path given report names shown listing updates looked
-    told (Ok x) is memory =
-    of_names old new start now s types allows path given report names None shown listing updates
-    looked names (λ e. refl)
-    (λ without. absurd (let no : true ≡ false = sym without ∙ memory refl in cc)) told
-listed_whole old new start now s types allows path given report names shown listing updates looked
-    told (Err e) is memory =
-    subst (λ f. HasLookedAtFolder old new start now s types allows path given report (Some f))
-    (sym is)
-    (of_names old new start now s types allows path given report names (Some OutOfMemory) shown
-    listing updates (without_memory old new start now s names (not report.any_refused) looked) names
-    (λ none. absurd (cc (none))) (λ without none. cc (none)) told)
+    → HasLookedAtFolder old new start now s types allows path given report (fault_of r) known after
+unfolding without_memory run_without_memory
+listed_whole old new start now s types allows path given report names known after shown listing
+    updates looked told passed comes (Ok x) is memory =
+    of_names old new start now s types allows path given report names None known after shown listing
+    updates looked names (λ e. refl)
+    (λ without. absurd (let no : true ≡ false = sym without ∙ memory refl in cc)) told passed comes
+listed_whole {fine = fine} old new start now s types allows path given report names known after shown
+    listing updates looked told passed comes (Err e) is memory =
+    subst (λ f. HasLookedAtFolder old new start now s types allows path given report (Some f) known
+    after) (sym is)
+    (of_names old new start now s types allows path given report names (Some OutOfMemory) known after
+    shown listing updates (without_memory old new start now s names fine looked) names
+    (λ none. absurd (cc (none))) (λ without none. cc (none)) told passed comes)
 
 -- a carousel has as many objects as are kept of it
 objects_counted : (os : List Object) (bodies : List (List ℕ))
@@ -208,48 +225,93 @@ none_named false (name ∷ names) objects e =
     let none : length (name ∷ names) ≡ 0 = eqb-true _ 0 parts.0 in
     absurd (omega (arith, none))
 
+-- what is known of files when a look begins
+knows_begins : (first : Given) (files : KnownFiles) (head : List ℕ) (types : List SuffixType)
+    → IsUnread nothing first → files.read.items ≡ []
+    → KnowsFiles first files (heading head types files.known.items ∷ [])
+knows_begins first files head types unread none = record {
+  passed = subst (λ l. AllByRecursion (IsKnownWith files.known.items) l) (sym unread.unchanged) tt;
+  read = subst (λ l. AllByRecursion (WasStamped first) l) (sym none) tt;
+  refused = (tt, tt);
+}
+
 -- what is known behind a look, of one that began so
-behind : {waiting : ℕ} (types others : List SuffixType) (path begun other : List ℕ) (first last : Given)
+behind : {waiting : ℕ} (types others : List SuffixType) (begins ends : KnownFiles)
+    (path begun other : List ℕ) (first last : Given)
     (names after : List (List ℕ)) (place : ℕ) (start report : Report) (answers : List Answer)
     (wanted : List Wanted) → begun ≡ path → after ≡ names
     → IsListing types path first names → IsUnread nothing first
-    → TellsNameless first.files start
-    → TellsBoth (TellsLook types begun first names 0 start 0)
-    (TellsLook others other last after place report waiting) answers wanted
-    → IsLook types path last names place report waiting answers wanted
-behind {waiting} types others path begun other first last names after place start report answers wanted same
-    stays listing unread told looks =
-    subst (λ n. IsLook types path last n place report waiting answers wanted) stays
-    (subst (λ p. IsLook types p last after place report waiting answers wanted) same
-    (look_is types others begun other last after place report waiting answers wanted
-    (looks (map as_wanted types ++ []) (heading begun types ∷ [])
-    (look_begins types begun first names start
-    (subst (λ p. IsListing types p first names) (sym same) listing) unread.read unread.missed
-    told))))
+    → TellsNameless first.files start → begins.read.items ≡ []
+    → TellsBoth (λ told given. TellsLook types begins.known.items begun first names 0 start 0 told
+    given × KnowsFiles first begins told)
+    (λ told given. TellsLook others ends.known.items other last after place report waiting told given
+    × KnowsFiles last ends told) answers wanted
+    → IsLook types begins.known.items ends.known.items path last names place report waiting answers
+    wanted × KnowsFiles last ends answers
+behind {waiting} types others begins ends path begun other first last names after place start report
+    answers wanted same stays listing unread told none looks =
+    let known = begins.known.items in
+    let now = ends.known.items in
+    let all = looks (front types known ++ []) (heading begun types known ∷ []) (
+      look_begins types known begun first names start
+          (subst (λ p. IsListing types p first names) (sym same) listing) unread.read unread.missed
+          unread.unchanged told,
+      knows_begins first begins begun types unread none,
+    ) in (
+      subst (λ n. IsLook types known now path last n place report waiting answers wanted) stays
+          (subst (λ p. IsLook types known now p last after place report waiting answers wanted) same
+          (look_is types others known now begun other last after place report waiting answers wanted
+          all.0)),
+      record { passed = all.1.passed; read = all.1.read; refused = all.1.refused.1 },
+    )
 
 -- it is of the path that it began with
-path_stays : {waiting : ℕ} (types others : List SuffixType) (path begun other : List ℕ) (first last : Given)
+path_stays : {waiting : ℕ} (types others : List SuffixType) (begins ends : KnownFiles)
+    (path begun other : List ℕ) (first last : Given)
     (names after : List (List ℕ)) (place : ℕ) (start report : Report) (answers : List Answer)
     (wanted : List Wanted) → begun ≡ path
     → IsListing types path first names → IsUnread nothing first
-    → TellsNameless first.files start
-    → TellsBoth (TellsLook types begun first names 0 start 0)
-    (TellsLook others other last after place report waiting) answers wanted
+    → TellsNameless first.files start → begins.read.items ≡ []
+    → TellsBoth (λ told given. TellsLook types begins.known.items begun first names 0 start 0 told
+    given × KnowsFiles first begins told)
+    (λ told given. TellsLook others ends.known.items other last after place report waiting told given
+    × KnowsFiles last ends told) answers wanted
     → other ≡ path
-path_stays {waiting} types others path begun other first last names after place start report answers wanted
-    same listing unread told looks =
-    same_path types others begun other last after place report waiting answers
-    ((map as_wanted types ++ []) ++ wanted)
-    (looks (map as_wanted types ++ []) (heading begun types ∷ [])
-    (look_begins types begun first names start
-    (subst (λ p. IsListing types p first names) (sym same) listing) unread.read unread.missed
-    told)) ∙ same
+path_stays {waiting} types others begins ends path begun other first last names after place start
+    report answers wanted same listing unread told none looks =
+    let known = begins.known.items in
+    same_path types others known ends.known.items begun other last after place report waiting answers
+    ((front types known ++ []) ++ wanted)
+    (looks (front types known ++ []) (heading begun types known ∷ []) (
+      look_begins types known begun first names start
+          (subst (λ p. IsListing types p first names) (sym same) listing) unread.read unread.missed
+          unread.unchanged told,
+      knows_begins first begins begun types unread none,
+    )).0 ∙ same
+
+-- the carousel that a server has, with its bodies, has what it has without
+has_now : (view : RepositoryView) (s : Standing) → Agrees view s → (k : Known)
+    → is_there view.carousel.objects.items k ≡ true → has_it s.carousel k ≡ true
+has_now view s agrees k is =
+    ap (λ (c : Carousel). has_it c k) agrees.carousel
+    ∙ has_it_there k view.carousel.objects.items agrees.bodies agrees.are_bodies ∙ is
+
+-- what was known when a look began, with its objects
+started : (known : List Known) (files : KnownFiles) (objects : List Object)
+    (view : RepositoryView) (s : Standing) → Agrees view s → view.carousel.objects.items ≡ objects
+    → AllByRecursion (λ k. Among known k × (is_there objects k ≡ true)) files.known.items
+    → AllByRecursion (λ k. Among known k × (has_it s.carousel k ≡ true)) files.known.items
+started known files objects view s agrees same all =
+    all_on (λ k is. (
+      is.0,
+      has_now view s agrees k (ap (λ l. is_there l k) same ∙ is.1),
+    )) files.known.items all
 
 pub returns-in_err-look-clause-path : goal.returns-in_err-look-clause-path
 returns-in_err-look-clause-path g c = λ s holds honest.
     let source = c.look.new.source in
     let looks = c.in_err-look.ensures.looked s holds honest in
-    path_stays c.args.folder.now.types.now source.types.now
+    path_stays c.args.folder.now.types.now source.types.now c.start.new.self source.files
     (g.S.Shelf.path c.args.folder.now.shelf) (g.S.Shelf.path c.list.new.shelf)
     (g.S.Shelf.path source.shelf) (g.S.Shelf.gave c.list.new.shelf) (g.S.Shelf.gave source.shelf)
     c.in-Ok.names.names.items source.names.names.items source.place c.note_most.new.report
@@ -261,13 +323,14 @@ returns-in_err-look-clause-path g c = λ s holds honest.
     (c.note_most.ensures.further (g.S.Shelf.gave c.list.new.shelf).files
     (c.note_listed.ensures.further (g.S.Shelf.gave c.list.new.shelf).files
     (c.in-Ok.ensures.further
-    (nameless_none c.begin-2.new.self c.begin-2.ensures.fine c.begin-2.ensures.told)))) looks.1
+    (nameless_none c.begin-2.new.self c.begin-2.ensures.fine c.begin-2.ensures.told))))
+    c.start.ensures.none.0 looks.1
 
 pub returns-clause-path : goal.returns-clause-path
 returns-clause-path g c = λ s holds honest.
     let source = c.look.new.source in
     let looks = c.in_ok-look.ensures.looked s holds honest in
-    path_stays c.args.folder.now.types.now source.types.now
+    path_stays c.args.folder.now.types.now source.types.now c.start.new.self source.files
     (g.S.Shelf.path c.args.folder.now.shelf) (g.S.Shelf.path c.list.new.shelf)
     (g.S.Shelf.path source.shelf) (g.S.Shelf.gave c.list.new.shelf) (g.S.Shelf.gave source.shelf)
     c.in-Ok.names.names.items source.names.names.items source.place c.note_most.new.report
@@ -279,7 +342,8 @@ returns-clause-path g c = λ s holds honest.
     (c.note_most.ensures.further (g.S.Shelf.gave c.list.new.shelf).files
     (c.note_listed.ensures.further (g.S.Shelf.gave c.list.new.shelf).files
     (c.in-Ok.ensures.further
-    (nameless_none c.begin-2.new.self c.begin-2.ensures.fine c.begin-2.ensures.told)))) looks.1
+    (nameless_none c.begin-2.new.self c.begin-2.ensures.fine c.begin-2.ensures.told))))
+    c.start.ensures.none.0 looks.1
 
 pub returns-in-Err-clause-looked : goal.returns-in-Err-clause-looked
 returns-in-Err-clause-looked g c = λ s holds honest.
@@ -291,7 +355,7 @@ returns-in-Err-clause-looked g c = λ s holds honest.
     let bare = unlisted_for path refusal Unsaid in
     let last = unlisted_for path refusal c.tell_unlisted.ensures.told.0 in
     let fault = fault_of c.end.result in
-    of_nothing old old state state s _ _ _ _ _ fault (told.entries ++ last ∷ [])
+    of_nothing old old state state s _ _ _ _ _ fault _ (told.entries ++ last ∷ [])
     (has_read old old state state s fault
     (g.met.D.Disk.sound old.disk honest) refl refl honest (unchanged_none state) holds).0
     (unlisted refusal (subst (λ p. IsUnlisted c.args.folder.now.types.now p
@@ -304,7 +368,7 @@ returns-in-Err-clause-looked g c = λ s holds honest.
     ∙ ap (λ n. unlisted_for n refusal Unsaid ∷ [])
     (c.as_bytes-path.ensures.value ∙ c.shown.ensures ∙ c.in-Err.ensures.same
     ∙ c.begin.ensures.same))
-    (images_same told.entries last refl ∙ told.images))
+    (images_same told.entries last refl ∙ told.images) refl)
     (c.tell_unlisted.ensures.told.1 told.entries told.told)
 
 pub returns-then-is_kept-clause-looked : goal.returns-then-is_kept-clause-looked
@@ -326,7 +390,7 @@ returns-then-is_kept-clause-looked g c = λ s holds honest.
     ∙ sym c.if-is_kept.ensures in
     let none = none_named allows names (length s.carousel.objects) is in
     let fault = fault_of c.end-then-is_kept.result in
-    of_nothing old old state state s _ _ _ _ _ fault (told.entries ++ event_of path Kept ∷ [])
+    of_nothing old old state state s _ _ _ _ _ fault _ (told.entries ++ event_of path Kept ∷ [])
     (has_read old old state state s fault
     (g.met.D.Disk.sound old.disk honest) refl refl honest (unchanged_none state) holds).0
     (kept
@@ -338,7 +402,7 @@ returns-then-is_kept-clause-looked g c = λ s holds honest.
     (look-more told.entries (event_of path Kept ∷ [])
     ∙ ap (λ l. l ++ event_of path Kept ∷ []) told.are
     ∙ ap (λ n. event_of n Kept ∷ []) same)
-    (images_same told.entries (event_of path Kept) refl ∙ told.images))
+    (images_same told.entries (event_of path Kept) refl ∙ told.images) refl)
     (c.kept.ensures.told told.entries told.told)
 
 pub returns-in_err-look-clause-looked : goal.returns-in_err-look-clause-looked
@@ -360,7 +424,7 @@ returns-in_err-look-clause-looked g c = λ s holds honest.
     let seen = take source.place names in
     let looks = c.in_err-look.ensures.looked s holds honest in
     let fault = Some c.in_err-look.field-0.0 in
-    let is = behind types source.types.now path (g.S.Shelf.path c.list.new.shelf)
+    let is = behind types source.types.now c.start.new.self source.files path (g.S.Shelf.path c.list.new.shelf)
     (g.S.Shelf.path source.shelf) (g.S.Shelf.gave c.list.new.shelf) given names
     source.names.names.items source.place c.note_most.new.report source.report looks.0.runs.answers
     looks.0.wanted (c.in-Ok.ensures.same ∙ c.begin.ensures.same) c.in_err-look.ensures.same
@@ -369,13 +433,24 @@ returns-in_err-look-clause-looked g c = λ s holds honest.
     (c.note_most.ensures.further (g.S.Shelf.gave c.list.new.shelf).files
     (c.note_listed.ensures.further (g.S.Shelf.gave c.list.new.shelf).files
     (c.in-Ok.ensures.further
-    (nameless_none c.begin-2.new.self c.begin-2.ensures.fine c.begin-2.ensures.told)))) looks.1 in
+    (nameless_none c.begin-2.new.self c.begin-2.ensures.fine c.begin-2.ensures.told))))
+    c.start.ensures.none.0 looks.1 in
+    let known = c.args.folder.now.files.known.items in
+    let started_so = started known c.start.new.self _ old.view s holds.agrees
+    (ap (λ (k : memory.Carousel). k.objects.items) (sym c.carousel-4.ensures.value))
+    c.start.ensures.known in
     subst (λ (r : Result Unit Refusal). HasLookedAtFolder old new (state old.disk) (state new.disk)
-    s types allows path given source.report (fault_of r))
+    s types allows path given source.report (fault_of r) known source.files.known.items)
     (sym (same_error c.from_residual.result c.in_err-look.field-0.0 c.from_residual.ensures.1))
     (of_names old new (state old.disk) (state new.disk) s types allows path given source.report names
-    fault c.in-Ok.ensures.shown is.listing updates looks.0 seen (λ none. absurd (cc (none)))
-    (λ without none. cc (none)) is.tells)
+    fault known source.files.known.items c.in-Ok.ensures.shown is.0.listing updates looks.0 seen
+    (λ none. absurd (cc (none))) (λ without none. cc (none)) is.0.tells
+    (all_on (passed_over known source.files.known.items s.carousel
+    (subst (λ l. AllByRecursion (λ k. Among known k × (has_it s.carousel k ≡ true)) l)
+    (sym is.0.files) started_so)) given.unchanged is.1.passed)
+    (all_on (λ k at. was_known at) source.files.known.items
+    (subst (λ l. AllByRecursion (Among known) l) (sym is.0.files)
+    (all_on (λ k at. at.0) c.start.new.self.known.items started_so))))
 
 pub returns-clause-looked : goal.returns-clause-looked
 returns-clause-looked g c = λ s holds honest.
@@ -394,7 +469,7 @@ returns-clause-looked g c = λ s holds honest.
     let source = c.look.new.source in
     let given = g.S.Shelf.gave source.shelf in
     let looks = c.in_ok-look.ensures.looked s holds honest in
-    let is = behind types source.types.now path (g.S.Shelf.path c.list.new.shelf)
+    let is = behind types source.types.now c.start.new.self source.files path (g.S.Shelf.path c.list.new.shelf)
     (g.S.Shelf.path source.shelf) (g.S.Shelf.gave c.list.new.shelf) given names
     source.names.names.items source.place c.note_most.new.report source.report looks.0.runs.answers
     looks.0.wanted (c.in-Ok.ensures.same ∙ c.begin.ensures.same) c.in_ok-look.ensures.same
@@ -403,24 +478,34 @@ returns-clause-looked g c = λ s holds honest.
     (c.note_most.ensures.further (g.S.Shelf.gave c.list.new.shelf).files
     (c.note_listed.ensures.further (g.S.Shelf.gave c.list.new.shelf).files
     (c.in-Ok.ensures.further
-    (nameless_none c.begin-2.new.self c.begin-2.ensures.fine c.begin-2.ensures.told)))) looks.1 in
+    (nameless_none c.begin-2.new.self c.begin-2.ensures.fine c.begin-2.ensures.told))))
+    c.start.ensures.none.0 looks.1 in
     let seen : take source.place names ≡ names =
     take_all source.place names (subst (λ (n : List (List ℕ)). length n ≤ source.place)
     c.in_ok-look.ensures.same c.in_ok-look.ensures.ended) in
     let report = c.note_gap.new.report in
-    let fine : not source.report.any_refused ≡ not report.any_refused =
-    ap not (sym (c.note_gap.ensures.same ∙ c.note_waiting.ensures.same)) in
     let waiting = source.sizes.waiting in
-    let Looks = λ (f : Bool). (l : HasLooked old new (state old.disk) (state new.disk) s names 0 None
-    None f None) × TellsOf types given report waiting names l.runs.answers l.wanted in
-    let last : Looks (not report.any_refused) =
-    subst Looks fine (
-      looks.0,
-      c.note_gap.ensures.told types given waiting names looks.0.runs.answers looks.0.wanted
-          (c.note_waiting.ensures.told types given waiting names looks.0.runs.answers looks.0.wanted
-          (subst (λ l. TellsOf types given source.report waiting l looks.0.runs.answers
-          looks.0.wanted) seen is.tells)),
-    ) in
+    let told : TellsOf types given report waiting names looks.0.runs.answers looks.0.wanted =
+    c.note_gap.ensures.told types given waiting names looks.0.runs.answers looks.0.wanted
+    (c.note_waiting.ensures.told types given waiting names looks.0.runs.answers looks.0.wanted
+    (subst (λ l. TellsOf types given source.report waiting l looks.0.runs.answers
+    looks.0.wanted) seen is.0.tells)) in
+    let known = c.args.folder.now.files.known.items in
+    let last = looks.0.runs.run.leaves.last in
+    let started_so = started known c.start.new.self _ old.view s holds.agrees
+    (ap (λ (k : memory.Carousel). k.objects.items) (sym c.carousel-4.ensures.value))
+    c.start.ensures.known in
+    let were : AllByRecursion (λ k. Among known k × (has_it s.carousel k ≡ true))
+    source.files.known.items =
+    subst (λ l. AllByRecursion (λ k. Among known k × (has_it s.carousel k ≡ true)) l)
+    (sym is.0.files) started_so in
     listed_whole old new (state old.disk) (state new.disk) s types allows path given report
-    names c.in-Ok.ensures.shown is.listing updates last.0 last.1 c.end-2.result c.end-2.ensures.fault
-    (λ ok. (c.end-2.ensures.ends.0 ok).1)
+    names known c.finish.new.self.known.items c.in-Ok.ensures.shown is.0.listing updates looks.0 told
+    (all_on (passed_over known source.files.known.items s.carousel were) given.unchanged is.1.passed)
+    (all_on (comes_from known given source.files looks.0.runs.answers last.carousel
+    new.view.carousel.objects.items
+    (all_on (λ k at. at.0) source.files.known.items were)
+    (has_now new.view last looks.0.runs.run.leaves.agrees) is.1) c.finish.new.self.known.items
+    (subst (λ (k : memory.Carousel). AllByRecursion (IsKept source.files k.objects.items)
+    c.finish.new.self.known.items) c.carousel-5.ensures.value c.finish.ensures))
+    c.end-2.result c.end-2.ensures.fault (λ ok. (c.end-2.ensures.ends.0 ok).1)

@@ -39,13 +39,14 @@ so_is : (before behind : LooksSoFar) (given : Given) (report : Report) {left : �
     → behind.known ≡ known_after before.known report.events.items
     → behind ≡ so_far left (before.given ++ given ∷ [])
     (before.refused || not (not report.any_refused)) (known_after before.known report.events.items)
+    behind.files
 so_is before behind given report {left} paced noted kept told =
-    ap (λ n. so_far n behind.given behind.refused behind.known) paced
-    ∙ ap (λ l. so_far left l behind.refused behind.known) noted
-    ∙ ap (λ (b : Bool). so_far left (before.given ++ given ∷ []) b behind.known)
+    ap (λ n. so_far n behind.given behind.refused behind.known behind.files) paced
+    ∙ ap (λ l. so_far left l behind.refused behind.known behind.files) noted
+    ∙ ap (λ (b : Bool). so_far left (before.given ++ given ∷ []) b behind.known behind.files)
     (kept ∙ ap (λ (b : Bool). before.refused || b) (twice_not report.any_refused))
-    ∙ ap (so_far left (before.given ++ given ∷ [])
-    (before.refused || not (not report.any_refused))) told
+    ∙ ap (λ k. so_far left (before.given ++ given ∷ [])
+    (before.refused || not (not report.any_refused)) k behind.files) told
 
 -- a look runs commands, and tells of them
 updating_by : {D : Type 0} (old new : ServerView D) (start now : State) (s : Standing)
@@ -56,7 +57,8 @@ updating_by : {D : Type 0} (old new : ServerView D) (start now : State) (s : Sta
     → behind.refused ≡ (before.refused || report.any_refused)
     → behind.known ≡ known_after before.known report.events.items
     → (fault ≡ None → report.any_left_out ≡ false)
-    → HasLookedAtFolder old new start now s w.types w.allows w.path given report fault
+    → HasLookedAtFolder old new start now s w.types w.allows w.path given report fault before.files
+    behind.files
     → IsUpdating (TellsWatch w after moment before behind) old new start now s fault
 updating_by old new start now s w after moment before behind given report fault same due paced noted
     kept told whole looked = record {
@@ -66,7 +68,7 @@ updating_by old new start now s w after moment before behind given report fault 
       told = (
         same,
         one_look due report.any_left given looked.names looked.wanted (not report.any_refused)
-            looked.entries report.events.items (λ none. looked.told (whole none))
+            looked.entries report.events.items behind.files (λ none. looked.told (whole none))
             (so_is before behind given report paced noted kept told) looked.look,
       );
     }
@@ -111,7 +113,7 @@ returns-then-not-look_is_due-clause-run g c = λ s holds honest.
             c.may_look.result false c.may_look.ensures c.if-not-look_is_due.ensures.due)
             (ap (λ n. so_far n c.args.self.now.looks.all c.args.self.now.any_refused
             (looks_known c.args.self.now.count c.args.self.now.folder.report.events.items
-            c.args.self.now.before.items))
+            c.args.self.now.before.items) c.args.self.now.folder.files.known.items)
             (c.if-not-look_is_due.ensures.counts
             ∙ ap (λ b. packets_left_behind c.args.self.now.within b c.args.self.now.left)
             c.may_look.ensures))
@@ -127,7 +129,7 @@ returns-clause-run g c = λ s holds honest.
     updating_by old new (state old.disk) (state new.disk) s _ _ c.args.moment
     (so_far c.args.self.now.left c.args.self.now.looks.all c.args.self.now.any_refused
     (looks_known c.args.self.now.count c.args.self.now.folder.report.events.items
-    c.args.self.now.before.items)) _ _
+    c.args.self.now.before.items) c.args.self.now.folder.files.known.items) _ _
     c.look_at_folder-result.new.folder.report
     (fault_of c.look_at_folder-result.result)
     (ap (λ p. watch p c.args.self.now.folder.types.now c.args.self.now.folder.allows_empty

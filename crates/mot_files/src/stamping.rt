@@ -1,0 +1,63 @@
+//! By what it is told that a file has the bytes that it had.
+ghost use Rattle.std.specs.Prelude.{◌≡◌, ◌∷◌, ◌++◌, [], Result, true};
+ghost use Rattle.mot_files.specs.Call.{looked};
+ghost use Rattle.mot_files.specs.Listing.{is_file_kind};
+ghost use Rattle.mot_files.specs.Stamping.{HasStamp, IsStamped, is_past};
+ghost use Rattle.mot_files.specs.declared.system.Fault.{Fault};
+ghost use Rattle.mot_files.specs.declared.system.Seen.{Seen};
+
+use crate::system::{Kind, Stamp, System, Time};
+
+/// How many nanoseconds ago the last change of a file has to be.
+const PAST: u128 = 2_000_000_000;
+
+/// The stamp of the regular file at the path, if its last change is two seconds ago, or longer.
+pub fn stamp<S: System>(system: &mut S, path: &str) -> Option<Stamp>
+    ensures { IsStamped path.now result (S.calls system.old) (S.calls system.new) }
+{
+    let answer = system.look(path);
+    let now = system.now();
+    match answer {
+        Ok(seen) => {
+            if is_file(seen.kind) && is_past(seen.written, now) && is_past(seen.changed, now) {
+                Some(Stamp::of(&seen))
+            } else {
+                None
+            }
+        }
+        Err(_) => None,
+    }
+}
+
+/// Whether the file at the path is a regular one that has this stamp.
+pub fn has_stamp<S: System>(system: &mut S, path: &str, stamp: &Stamp) -> bool
+    ensures has { result ≡ true → HasStamp path.now stamp.now (S.calls system.old)
+        (S.calls system.new) }
+    ensures asked { (answer : Result Seen Fault) × (S.calls system.new
+        ≡ S.calls system.old ++ looked path.now answer ∷ []) }
+{
+    match system.look(path) {
+        Ok(seen) => is_file(seen.kind) && Stamp::of(&seen) == *stamp,
+        Err(_) => false,
+    }
+}
+
+/// Whether it is a regular file.
+fn is_file(kind: Kind) -> bool
+    ensures { result ≡ is_file_kind kind }
+{
+    match kind {
+        Kind::File => true,
+        _ => false,
+    }
+}
+
+/// Whether the time of day is known, and two seconds behind this, or more.
+fn is_past(time: Time, now: Option<Time>) -> bool
+    ensures { result ≡ is_past time now }
+{
+    match now {
+        Some(now) => time.nanos <= now.nanos && now.nanos - time.nanos >= PAST,
+        None => false,
+    }
+}
