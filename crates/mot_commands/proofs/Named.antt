@@ -1,5 +1,5 @@
 -- The object of a name, from a carousel and the bodies that stand beside it.
-use Rattle.std.proofs.Common.{◌≡◌, ◌∙◌, ⊎_elim, ℕ, true, false, cond, List, [], ◌∷◌, length, map, get_or}
+use Rattle.std.proofs.Common.{◌≡◌, ◌∙◌, ⊎_elim, ℕ, true, false, cond, List, [], ◌∷◌, length, map}
 use Rattle.std.proofs.Common.{Some, None, ap, refl, sym}
 use Rattle.std.specs.Prelude.{bytes_eq}
 use Rattle.mot_carousel.proofs.Laws.{located, nowhere-cases, place, index_of-place}

@@ -1,7 +1,7 @@
 -- What was asked on a disk, told of the disk that it is made of.
-use Rattle.std.proofs.Common.{◌≡◌, ℕ, Bool, List, [], ◌∷◌, Option, None, Some, ap}
+use Rattle.std.proofs.Common.{ℕ, Bool, List, [], ◌∷◌, Option, None, Some, ap}
 use Rattle.disk_model.specs.Disk.{State}
-use Rattle.mot_commands.specs.Asking.{Answers, Asks, Breaks, Spoken, StopsAt, TakesEach, TakesTill}
+use Rattle.mot_commands.specs.Asking.{Answers, Asks, Breaks, Spoken, TakesEach, TakesTill}
 use Rattle.mot_commands.specs.Asking.{WithdrawsEach, Withdraws, WithdrawStops, withdraw_line}
 use Rattle.mot_commands.specs.Asking.Asks.{opened, unopened}
 use Rattle.mot_commands.specs.Asking.Breaks.{unasked, unprinted, unsaid}

@@ -10,7 +10,7 @@ use Rattle.disk_store.specs.Beginning.{SinceOpened}
 use Rattle.disk_store.specs.File.{file_state}
 use Rattle.disk_store.specs.declared.file.start.Start.{Ghosts}
 use Rattle.mot_commands.specs.Asking.{Answers, Asks, Breaks, Spoken, TakesTill}
-use Rattle.mot_endpoints.specs.Types.{IsTyped, IsUntyped}
+use Rattle.mot_endpoints.specs.Types.{IsTyped}
 use Rattle.mot_files.specs.Call.{Call}
 use Rattle.mot_files.specs.Reading.{IsRead, IsUnread}
 use Rattle.mot_files.specs.declared.reading.Unread.{Unread}

@@ -1,5 +1,5 @@
 -- What `format`, `check` and `migrate` print, and what they leave of a disk.
-use Rattle.std.specs.Prelude.{◌≡◌, ◌≢◌, ◌⊎◌, ◌↔◌, ℕ, Bool, List, [], ◌∷◌, ◌++◌, Option, Some}
+use Rattle.std.specs.Prelude.{◌≡◌, ◌≢◌, ◌⊎◌, ◌↔◌, ℕ, Bool, List, ◌++◌, Option, Some}
 use Rattle.std.specs.Prelude.{Ok, Err, IsTrue, if◌then◌else◌, codes}
 use Rattle.std.specs.Io.KnownBytes.{Keeps}
 use Rattle.disk_model.specs.Disk.{State, IsStill, KeepsLength, OnlySyncs, Throughout}

@@ -8,6 +8,7 @@ ghost use Rattle.mot_commands.specs.Commands.{ChecksFile};
 ghost use Rattle.mot_outcome.specs.Outcome.{Finishes};
 ghost use Rattle.mot_commands.specs.Report.{Checks, clean_line, layout_line};
 
+use crate::finishing::finish;
 use disk_model::Disk;
 use disk_store::Start;
 use mot_endpoints::Host;
@@ -15,7 +16,7 @@ use mot_export::Ended;
 use mot_journal::Layout;
 use mot_numbers::Refusal;
 use mot_objects::Carousel;
-use mot_outcome::{Beside, Finished, clear_unfit, write_bytes, write_last};
+use mot_outcome::{Finished, write_bytes, write_last};
 use mot_repository::Repository;
 use mot_session::write_listing;
 use std::alloc::Global;
@@ -37,8 +38,7 @@ pub fn check_file<S: Start, W: Write>(
     match host.disk(path, start) {
         Ok(disk) => {
             let ended = check_disk(alloc, disk, writer);
-            clear_unfit(host, &ended.result);
-            Finished::of_file(ended, Beside::nothing(), None)
+            finish(host, ended)
         }
         Err(unopened) => Finished::unopened(unopened),
     }

@@ -9,6 +9,7 @@ ghost use Rattle.mot_outcome.specs.Outcome.{Finishes};
 ghost use Rattle.mot_commands.specs.Commands.{OpensOrMakes};
 ghost use Rattle.mot_commands.specs.Report.{Formats, formatted_line};
 
+use crate::finishing::finish;
 use disk_model::Disk;
 use disk_store::{Start, Unopened};
 use mot_devices::use_of;
@@ -17,7 +18,7 @@ use mot_export::Ended;
 use mot_files::System;
 use mot_journal::{Reason, format_from};
 use mot_numbers::{Geometry, Refusal, TransportId};
-use mot_outcome::{Beside, Finished, clear_unfit, write_number};
+use mot_outcome::{Beside, Finished, write_number};
 use std::alloc::Global;
 use std::io::Write;
 
@@ -70,13 +71,12 @@ fn format_free<S: Start, W: Write>(
     match host.disk(path, start) {
         Ok(mut disk) => {
             let result = format_disk(&mut disk, &geometry, directory, writer);
-            clear_unfit(host, &result);
             let ended = Ended {
                 reason: reason_of(&result, &disk, &geometry),
                 disk,
                 result,
             };
-            Finished::of_file(ended, Beside::nothing(), None)
+            finish(host, ended)
         }
         Err(unopened) => format_new_file(host, path, unopened, geometry, directory, writer),
     }

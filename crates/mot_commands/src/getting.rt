@@ -12,13 +12,14 @@ ghost use Rattle.mot_commands.specs.Shown.{Gets};
 ghost use Rattle.mot_commands.specs.Inner.Got.{MissesBody, ReadsBody};
 ghost use Rattle.mot_repository.specs.Repository.{HasStanding, object_body};
 
+use crate::finishing::finish;
 use disk_model::Disk;
 use disk_store::Start;
 use mot_endpoints::Host;
 use mot_export::Ended;
 use mot_numbers::Refusal;
 use mot_objects::Name;
-use mot_outcome::{Beside, Finished, clear_unfit, write_last};
+use mot_outcome::{Finished, write_last};
 use mot_repository::Repository;
 use std::alloc::Global;
 use std::io::Write;
@@ -40,8 +41,7 @@ pub fn get_file<S: Start, W: Write>(
     match host.disk(path, start) {
         Ok(disk) => {
             let ended = get_body(alloc, disk, name, writer);
-            clear_unfit(host, &ended.result);
-            Finished::of_file(ended, Beside::nothing(), None)
+            finish(host, ended)
         }
         Err(unopened) => Finished::unopened(unopened),
     }

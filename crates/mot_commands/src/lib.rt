@@ -5,6 +5,7 @@
 mod answering;
 mod checking;
 mod file_line;
+mod finishing;
 mod formatting;
 mod getting;
 mod listing;

@@ -7,13 +7,14 @@ ghost use Rattle.mot_outcome.specs.Outcome.{Finishes, Opens, Prints};
 ghost use Rattle.mot_commands.specs.Commands.{ListsFile};
 ghost use Rattle.mot_commands.specs.Shown.{Lists};
 
+use crate::finishing::finish;
 use disk_model::Disk;
 use disk_store::Start;
 use mot_endpoints::Host;
 use mot_export::Ended;
 use mot_numbers::Refusal;
 use mot_objects::Carousel;
-use mot_outcome::{Beside, Finished, clear_unfit, write_last};
+use mot_outcome::{Finished, write_last};
 use mot_repository::Repository;
 use mot_session::write_listing;
 use std::alloc::Global;
@@ -35,8 +36,7 @@ pub fn list_file<S: Start, W: Write>(
     match host.disk(path, start) {
         Ok(disk) => {
             let ended = list_disk(alloc, disk, writer);
-            clear_unfit(host, &ended.result);
-            Finished::of_file(ended, Beside::nothing(), None)
+            finish(host, ended)
         }
         Err(unopened) => Finished::unopened(unopened),
     }

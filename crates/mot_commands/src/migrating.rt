@@ -7,11 +7,12 @@ ghost use Rattle.mot_commands.specs.Commands.{MigratesFile};
 ghost use Rattle.mot_outcome.specs.Outcome.{Finishes};
 ghost use Rattle.mot_commands.specs.Report.{Migrates, migrated_line};
 
+use crate::finishing::finish;
 use disk_model::Disk;
 use disk_store::Start;
 use mot_endpoints::Host;
 use mot_export::Ended;
-use mot_outcome::{Beside, Finished, clear_unfit, write_last};
+use mot_outcome::{Finished, write_last};
 use mot_repository::Repository;
 use std::alloc::Global;
 use std::io::Write;
@@ -33,8 +34,7 @@ pub fn migrate_file<S: Start, W: Write>(
     match host.disk(path, start) {
         Ok(disk) => {
             let ended = migrate_disk(alloc, disk, writer);
-            clear_unfit(host, &ended.result);
-            Finished::of_file(ended, Beside::nothing(), None)
+            finish(host, ended)
         }
         Err(unopened) => Finished::unopened(unopened),
     }

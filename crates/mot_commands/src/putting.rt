@@ -16,14 +16,15 @@ ghost use Rattle.mot_session.specs.Served.{WritesFront};
 
 use crate::answering::answer;
 use crate::file_line::{Unput, line_of_file, refusal_of};
+use crate::finishing::finish;
 use disk_model::Disk;
 use disk_store::{OpenFault, Start};
 use mot_endpoints::{Host, file_types};
 use mot_export::Ended;
-use mot_files::{System, Unread};
+use mot_files::{Fault, System, Unread};
 use mot_lines::refusal_text;
 use mot_numbers::Refusal;
-use mot_outcome::{Beside, Finished, clear_unfit_of, write_last};
+use mot_outcome::{Finished, write_last};
 use mot_playout::Server;
 use mot_suffixes::FileTypes;
 use std::alloc::Global;
@@ -82,8 +83,7 @@ fn put_files<Y: System, S: Start, W: Write, E: Write>(
     match host.disk(path, start) {
         Ok(disk) => {
             let ended = put_on_disk(system, alloc, disk, files, types, writer, errors);
-            clear_unfit_of(host, &ended.result);
-            Finished::of_file(ended, Beside::nothing(), None)
+            finish(host, ended)
         }
         Err(unopened) => Finished::unopened(unopened),
     }
@@ -188,24 +188,35 @@ fn refuse_file<W: Write, E: Write>(
 
 /// Prints why a file is refused that was not asked for.
 fn tell_why<E: Write>(errors: &mut E, path: &str, unput: Unput) {
-    let told = match unput {
-        Unput::Unnamed => writeln!(errors, "motcar: {path}: no object can have this name"),
-        Unput::Untyped => writeln!(errors, "motcar: {path}: unknown suffix"),
-        Unput::NoMemory => writeln!(errors, "motcar: {path}: out of memory"),
-        Unput::Unread(Unread::NoMemory) => writeln!(errors, "motcar: {path}: out of memory"),
-        Unput::Unread(Unread::TooLong(length)) => {
-            writeln!(errors, "motcar: {path}: {length} bytes, 262144 at most")
-        }
-        Unput::Unread(Unread::System(fault)) => {
-            let fault = OpenFault::System(fault.error());
-            writeln!(errors, "motcar: {path}: {fault}")
-        }
-        Unput::Unread(_) => {
-            writeln!(
-                errors,
-                "motcar: {path}: no regular file, or it changed while it was read"
-            )
-        }
-    };
-    let _ = told;
+    match unput {
+        Unput::Unread(Unread::TooLong(length)) => tell_length(errors, path, length),
+        Unput::Unread(Unread::System(fault)) => tell_fault(errors, path, fault),
+        other => tell_text(errors, path, text_of(other)),
+    }
+}
+
+/// Prints how long a file is that is too long.
+fn tell_length<E: Write>(errors: &mut E, path: &str, length: u64) {
+    let _ = writeln!(errors, "motcar: {path}: {length} bytes, 262144 at most");
+}
+
+/// Prints why the system did not read a file.
+fn tell_fault<E: Write>(errors: &mut E, path: &str, fault: Fault) {
+    let fault = OpenFault::System(fault.error());
+    let _ = writeln!(errors, "motcar: {path}: {fault}");
+}
+
+/// Prints a text on a file.
+fn tell_text<E: Write>(errors: &mut E, path: &str, text: &str) {
+    let _ = writeln!(errors, "motcar: {path}: {text}");
+}
+
+/// Why a file is refused, as far as a text says it alone.
+fn text_of(unput: Unput) -> &'static str {
+    match unput {
+        Unput::Unnamed => "no object can have this name",
+        Unput::Untyped => "unknown suffix",
+        Unput::NoMemory | Unput::Unread(Unread::NoMemory) => "out of memory",
+        Unput::Unread(_) => "no regular file, or it changed while it was read",
+    }
 }

@@ -9,13 +9,14 @@ ghost use Rattle.mot_commands.specs.Commands.{IsUnmade, ServesFile, ServesMemory
 ghost use Rattle.mot_outcome.specs.Outcome.{Finishes};
 ghost use Rattle.mot_commands.specs.Serving.{Serves};
 
+use crate::finishing::finish;
 use disk_model::Disk;
 use disk_store::{RamDisk, Start};
 use mot_endpoints::Host;
 use mot_export::Ended;
 use mot_journal::format;
 use mot_numbers::{Geometry, Refusal};
-use mot_outcome::{Beside, Finished, UsedDisk, clear_unfit};
+use mot_outcome::{Finished, UsedDisk};
 use mot_playout::Server;
 use mot_session::{MAX_READS, serve};
 use std::alloc::Global;
@@ -76,8 +77,7 @@ pub fn serve_file<S: Start, R: Read, W: Write>(
     match host.disk(path, start) {
         Ok(disk) => {
             let ended = serve_disk(alloc, disk, reader, writer);
-            clear_unfit(host, &ended.result);
-            Finished::of_file(ended, Beside::nothing(), None)
+            finish(host, ended)
         }
         Err(unopened) => Finished::unopened(unopened),
     }

@@ -11,12 +11,13 @@ ghost use Rattle.mot_commands.specs.Commands.{WithdrawsFile};
 ghost use Rattle.mot_commands.specs.Putting.{texts};
 
 use crate::answering::answer;
+use crate::finishing::finish;
 use disk_model::Disk;
 use disk_store::Start;
 use mot_endpoints::Host;
 use mot_export::Ended;
 use mot_numbers::Refusal;
-use mot_outcome::{Beside, Finished, clear_unfit_of};
+use mot_outcome::Finished;
 use mot_playout::Server;
 use std::alloc::{AllocError, Global};
 use std::io::Write;
@@ -39,8 +40,7 @@ pub fn withdraw_file<S: Start, W: Write>(
     match host.disk(path, start) {
         Ok(disk) => {
             let ended = withdraw_disk(alloc, disk, names, writer);
-            clear_unfit_of(host, &ended.result);
-            Finished::of_file(ended, Beside::nothing(), None)
+            finish(host, ended)
         }
         Err(unopened) => Finished::unopened(unopened),
     }

@@ -99,7 +99,7 @@ fn copy_disk<Y: System, S: Start, W: Write>(
     let repository = match Repository::open(alloc, disk) {
         Ok(repository) => repository,
         Err(refused) => {
-            clear_unfit(host, &Err(refused.refusal));
+            clear_unfit(host, refused.refusal);
             return uncopied(refused.disk, refused.refusal, None, refused.reason);
         }
     };

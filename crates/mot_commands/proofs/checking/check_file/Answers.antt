@@ -16,7 +16,7 @@ returns-in-Ok-clause-ended g c =
     let new = g.W.Write.contents c.check_disk-ended.new.writer in
     let ended = c.check_disk-ended.result in
     let checks = c.check_disk-ended.ensures in
-    subst (λ (f : _). Finishes (λ r. r ≡ DeviceFault) (λ ending used. ChecksFile ending used old new) f old new) (sym c.of_file.ensures)
+    subst (λ (f : _). Finishes (λ r. r ≡ DeviceFault) (λ ending used. ChecksFile ending used old new) f old new) (sym c.finish.ensures.ended.1)
     (inr (since_opened c.in-Ok.disk.disk ended.disk.disk (Checks (fault_of ended.result) old new)
     c.in-Ok.ensures.first ended.disk.begins checks.0.keeps checks))
 
@@ -29,8 +29,8 @@ returns-in-Err-clause-ended g c =
 pub returns-in-Ok-clause-files : goal.returns-in-Ok-clause-files
 returns-in-Ok-clause-files g c =
     subst (λ (f : _). Opens [] c.args.path.now f.disk c.args.host.now.paths.all
-    c.clear_unfit.new.host.paths.all) (sym c.of_file.ensures)
-    (c.clear_unfit.ensures ∙ c.in-Ok.ensures.paths)
+    c.finish.new.host.paths.all) (sym c.finish.ensures.ended.1)
+    (c.finish.ensures.paths ∙ c.in-Ok.ensures.paths)
 
 pub returns-in-Err-clause-files : goal.returns-in-Err-clause-files
 returns-in-Err-clause-files g c =

@@ -1,7 +1,9 @@
 use Rattle.std.proofs.Common.{[], append-nil, inl, inr, refl, subst, sym}
 use Rattle.std.proofs.KnownBytes.{Keeps-refl}
 use Rattle.std.proofs.lemmas.List.Elements.{All-nil}
-use Rattle.mot_commands.specs.Commands.{FormatsFile, IsUnformatted, LooksFirst}
+use Rattle.mot_playout.specs.Attempts.{fault_of}
+use Rattle.mot_commands.specs.Commands.{FormatsFile, IsUnformatted, LooksFirst, OpensOrMakes}
+use Rattle.mot_outcome.proofs.Laws.{none_begun}
 use Rattle.mot_outcome.specs.Outcome.{Finishes}
 use Rattle.mot_commands.proofs.formatting.format_file.Goals as goal
 
@@ -36,3 +38,21 @@ returns-in-Some-clause-looked g c =
 
 pub returns-in-None-clause-looked : goal.returns-in-None-clause-looked
 returns-in-None-clause-looked g c = (c.in-None.ensures.looks, inr c.in-None.ensures.free)
+
+pub returns-then-not-is_valid-clause-files : goal.returns-then-not-is_valid-clause-files
+returns-then-not-is_valid-clause-files g c =
+    let paths = c.args.host.now.paths.all in
+    subst (λ (f : _). OpensOrMakes (fault_of f.result) c.args.path.now f.disk paths paths)
+    (sym c.unbegun.ensures) (inl (none_begun [] paths))
+
+pub returns-in-Some-clause-files : goal.returns-in-Some-clause-files
+returns-in-Some-clause-files g c =
+    let paths = c.args.host.now.paths.all in
+    subst (λ (f : _). OpensOrMakes (fault_of f.result) c.args.path.now f.disk paths paths)
+    (sym c.unbegun-in-Some.ensures) (inl (none_begun [] paths))
+
+pub returns-in-None-clause-ended : goal.returns-in-None-clause-ended
+returns-in-None-clause-ended g c = c.format_free.ensures.ended
+
+pub returns-in-None-clause-files : goal.returns-in-None-clause-files
+returns-in-None-clause-files g c = c.format_free.ensures.files

@@ -18,7 +18,7 @@ returns-in-Ok-clause-ended g c =
     let formats = c.format_disk-result.ensures in
     subst (λ (f : _). Finishes (IsUnformatted c.args.geometry) (λ ending used. FormatsFile c.args.geometry c.args.directory ending used old new)
     f old new)
-    (sym c.of_file.ensures) (inr (
+    (sym c.finish.ensures.ended.1) (inr (
       c.requires,
       inl (since_opened c.in-Ok.disk.disk last.disk (Formats geometry directory ending old new)
           c.in-Ok.ensures.first last.begins
@@ -28,5 +28,5 @@ returns-in-Ok-clause-ended g c =
 pub returns-in-Ok-clause-files : goal.returns-in-Ok-clause-files
 returns-in-Ok-clause-files g c =
     subst (λ (f : _). OpensOrMakes (fault_of f.result) c.args.path.now f.disk
-    c.args.host.now.paths.all c.clear_unfit.new.host.paths.all) (sym c.of_file.ensures)
-    (inl (c.clear_unfit.ensures ∙ c.in-Ok.ensures.paths))
+    c.args.host.now.paths.all c.finish.new.host.paths.all) (sym c.finish.ensures.ended.1)
+    (inl (c.finish.ensures.paths ∙ c.in-Ok.ensures.paths))

@@ -3,6 +3,7 @@ use Rattle.std.proofs.Common.{ℕ, List, [], ◌∷◌, ◌++◌, ◌∙◌, ap,
 use Rattle.std.specs.Prelude.{codes}
 use Rattle.std.proofs.KnownBytes.{Keeps-refl}
 use Rattle.mot_commands.specs.Commands.{FormatsFile, IsUnformatted, OpensOrMakes}
+use Rattle.mot_outcome.proofs.Laws.{none_opened}
 use Rattle.mot_outcome.specs.Outcome.{Finishes}
 use Rattle.mot_commands.specs.Report.{Formats}
 use Rattle.mot_numbers.specs.Geometry.{length_of}
@@ -62,3 +63,9 @@ returns-clause-files g c =
           )
       | else-is_unformatted w ↦ inl (ap (λ (h : _). h.paths.all) w.host-is ∙ c.in-Ok.ensures.paths)
     ])
+
+pub returns-in-Err-clause-files : goal.returns-in-Err-clause-files
+returns-in-Err-clause-files g c =
+    subst (λ (f : _). OpensOrMakes (fault_of f.result) c.args.path.now f.disk
+    c.args.host.now.paths.all c.make_disk.new.self.paths.all) (sym c.unopened.ensures)
+    (inl (none_opened c.in-Err.ensures.paths))

@@ -1,4 +1,4 @@
-use Rattle.std.proofs.Common.{◌≡◌, ◌<◌, ◌∙◌, arith, length, rules, subst, sym}
+use Rattle.std.proofs.Common.{◌≡◌, ◌<◌, ◌∙◌, length, rules, subst, sym}
 use Rattle.mot_commands.proofs.Read.{read_all, whole_again}
 use Rattle.mot_commands.proofs.getting.read_whole.Goals as goal
 use Rattle.mot_playout.proofs.Laws.{body_length}

@@ -1,8 +1,8 @@
-use Rattle.std.proofs.Common.{[], ◌≡◌, ◌⊎◌, inl, inr, refl, subst, sym}
+use Rattle.std.proofs.Common.{◌≡◌, ◌⊎◌, inl, inr, subst, sym}
 use Rattle.std.proofs.KnownBytes.{Keeps-refl}
 use Rattle.std.specs.Prelude.{codes}
 use Rattle.mot_commands.specs.Asking.{Comes}
-use Rattle.mot_commands.specs.Putting.{PutLooks, PutsFiles, PutsTo, texts}
+use Rattle.mot_commands.specs.Putting.{PutsFiles, PutsTo, texts}
 use Rattle.mot_commands.proofs.Come.{comes-looked, comes-more, opened_behind}
 use Rattle.mot_commands.proofs.putting.put.Goals as goal
 use Rattle.mot_endpoints.specs.Opened.{named}

@@ -10,7 +10,7 @@ use Rattle.mot_commands.proofs.On.{puts-on}
 use Rattle.mot_commands.proofs.putting.put_files.Goals as goal
 use Rattle.mot_numbers.specs.declared.refusal.Refusal.TheVariants.{DeviceFault}
 use Rattle.mot_outcome.proofs.Laws.{none_opened}
-use Rattle.mot_outcome.specs.Outcome.{Opens}
+use Rattle.mot_outcome.specs.Outcome.{IsUntouched, Opens}
 
 pub returns-in-Ok-clause-ended : goal.returns-in-Ok-clause-ended
 returns-in-Ok-clause-ended g c =
@@ -26,7 +26,7 @@ returns-in-Ok-clause-ended g c =
     let puts = c.put_on_disk-ended.ensures in
     subst (λ (f : _). Comes (λ r. r ≡ DeviceFault)
     (λ all ending used. PutsTo types files all ending old new before after used) f old new)
-    (sym c.of_file.ensures)
+    (sym c.finish.ensures.ended.1)
     (inr (since_opened c.in-Ok.disk.disk ended.disk.disk
     (λ first now. PutsEach file_state types files ended.disk.disk all ending old new before after
     first)
@@ -48,10 +48,19 @@ returns-in-Err-clause-ended g c =
 pub returns-in-Ok-clause-files : goal.returns-in-Ok-clause-files
 returns-in-Ok-clause-files g c =
     subst (λ (f : _). Opens [] c.args.path.now f.disk c.args.host.now.paths.all
-    c.clear_unfit_of.new.host.paths.all) (sym c.of_file.ensures)
-    (c.clear_unfit_of.ensures ∙ c.in-Ok.ensures.paths)
+    c.finish.new.host.paths.all) (sym c.finish.ensures.ended.1)
+    (c.finish.ensures.paths ∙ c.in-Ok.ensures.paths)
 
 pub returns-in-Err-clause-files : goal.returns-in-Err-clause-files
 returns-in-Err-clause-files g c =
     subst (λ (f : _). Opens [] c.args.path.now f.disk c.args.host.now.paths.all
     c.disk.new.self.paths.all) (sym c.unopened.ensures) (none_opened c.in-Err.ensures.paths)
+
+pub returns-in-Ok-clause-unbegun : goal.returns-in-Ok-clause-unbegun
+returns-in-Ok-clause-unbegun g c =
+    subst (λ (f : _). IsUntouched f.disk → g.Y.System.calls c.put_on_disk-ended.new.system
+    ≡ g.Y.System.calls c.args.system.now) (sym c.finish.ensures.ended.1)
+    (λ untouched. absurd untouched)
+
+pub returns-in-Err-clause-unbegun : goal.returns-in-Err-clause-unbegun
+returns-in-Err-clause-unbegun g c = λ untouched. refl

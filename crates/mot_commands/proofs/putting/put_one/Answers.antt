@@ -1,4 +1,4 @@
-use Rattle.std.proofs.Common.{◌∙◌, List, ap, refl, subst, sym}
+use Rattle.std.proofs.Common.{◌∙◌, List, ap, refl, subst}
 use Rattle.std.specs.Prelude.{ℕ, MatchResult}
 use Rattle.mot_commands.specs.Asking.{Answers, Breaks, Spoken}
 use Rattle.mot_commands.specs.Inner.Got.{refusal_of}

@@ -21,7 +21,7 @@ returns-in-Ok-clause-ended g c =
     let new = g.W.Write.contents c.serve_disk-ended.new.writer in
     let ended = c.serve_disk-ended.result in
     let ending = fault_of ended.result in
-    subst (λ (f : _). Finishes (λ r. (r ≡ DeviceFault) × Keeps remains left) (λ ending used. ServesFile ending used remains left old new) f old new) (sym c.of_file.ensures)
+    subst (λ (f : _). Finishes (λ r. (r ≡ DeviceFault) × Keeps remains left) (λ ending used. ServesFile ending used remains left old new) f old new) (sym c.finish.ensures.ended.1)
     (inr (since_opened c.in-Ok.disk.disk ended.disk.disk
     (λ first now. Serves file_state ended.disk.disk ending remains left old new first)
     c.in-Ok.ensures.first ended.disk.begins c.serve_disk-ended.ensures.keeps
@@ -39,8 +39,8 @@ returns-in-Err-clause-ended g c =
 pub returns-in-Ok-clause-files : goal.returns-in-Ok-clause-files
 returns-in-Ok-clause-files g c =
     subst (λ (f : _). Opens [] c.args.path.now f.disk c.args.host.now.paths.all
-    c.clear_unfit.new.host.paths.all) (sym c.of_file.ensures)
-    (c.clear_unfit.ensures ∙ c.in-Ok.ensures.paths)
+    c.finish.new.host.paths.all) (sym c.finish.ensures.ended.1)
+    (c.finish.ensures.paths ∙ c.in-Ok.ensures.paths)
 
 pub returns-in-Err-clause-files : goal.returns-in-Err-clause-files
 returns-in-Err-clause-files g c =

@@ -24,7 +24,7 @@ returns-in-Ok-clause-ended g c =
     let withdraws = c.withdraw_disk-ended.ensures in
     subst (λ (f : _). Comes (λ r. r ≡ DeviceFault)
     (λ all ending used. WithdrawsFile names all ending used old new) f old new)
-    (sym c.of_file.ensures)
+    (sym c.finish.ensures.ended.1)
     (inr (since_opened c.in-Ok.disk.disk ended.disk.disk
     (λ first now. WithdrawsEach file_state names ended.disk.disk all ending old new first)
     c.in-Ok.ensures.first ended.disk.begins withdraws.keeps
@@ -43,8 +43,8 @@ returns-in-Err-clause-ended g c =
 pub returns-in-Ok-clause-files : goal.returns-in-Ok-clause-files
 returns-in-Ok-clause-files g c =
     subst (λ (f : _). Opens [] c.args.path.now f.disk c.args.host.now.paths.all
-    c.clear_unfit_of.new.host.paths.all) (sym c.of_file.ensures)
-    (c.clear_unfit_of.ensures ∙ c.in-Ok.ensures.paths)
+    c.finish.new.host.paths.all) (sym c.finish.ensures.ended.1)
+    (c.finish.ensures.paths ∙ c.in-Ok.ensures.paths)
 
 pub returns-in-Err-clause-files : goal.returns-in-Err-clause-files
 returns-in-Err-clause-files g c =
