@@ -133,6 +133,7 @@ module _ (start mid now : State) (opens : OnlySyncs start mid)
     turns_read = is.turns_read;
     often = is.often;
     listens = is.listens;
+    nobody_starves = is.nobody_starves;
   }
 
 -- what is played of it is played of it as it was before

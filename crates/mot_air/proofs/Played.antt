@@ -1,15 +1,17 @@
 -- Playing a disk, from its opening on.
-use Rattle.std.proofs.Common.{◌≡◌, ◌∙◌, ◌<◌, arith, ℕ, Bool, true, List, Option, Some}
+use Rattle.std.proofs.Common.{◌≡◌, ◌∙◌, ◌<◌, arith, ℕ, Bool, true, false, List, Option, Some}
 use Rattle.std.proofs.Common.{Result, Ok, Err, ap, append_assoc, inl, inr, subst, sym, ◌++◌}
-use Rattle.std.specs.Prelude.{IsFalse, OnOk, IfErr, MatchResult}
+use Rattle.std.specs.Prelude.{IsFalse, OnOk, IfErr, MatchResult, ◌==◌, if◌then◌else◌}
+use Rattle.std.proofs.lemmas.Bool.{ne_eqb}
 use Rattle.std.proofs.lemmas.Bool.Decides.{nat_tests}
 use Rattle.disk_model.proofs.Laws.{keeps_on}
 use Rattle.disk_model.specs.Disk.{State, IsHonestDisk, KeepsLength, OnlySyncs}
-use Rattle.mot_air.specs.Playing.{HasAired, Manner, Plays, Tale, look_of_feed, place_at_start}
+use Rattle.mot_air.specs.Playing.{HasAired, IsServed, Manner, Plays, Tale, look_of_feed, place_at_start}
 use Rattle.mot_air.specs.Playing.{tale_of}
 use Rattle.mot_air.specs.Commands.{PlaysInto}
 use Rattle.mot_air.proofs.Opened.{ends_off, opened_leaves}
 use Rattle.mot_endpoints.specs.declared.packets.Target.{Target}
+use Rattle.mot_feed.specs.Ends.{NobodyStarves}
 use Rattle.mot_feed.specs.Feeding.{AreOf, AreTold, Event, FedPacketsAreContinuous}
 use Rattle.mot_feed.specs.Feeding.{Feeds, Happen, HasFed, IsFeedFault, RulesAreKept, Stage}
 use Rattle.mot_feed.specs.Feeding.{fault_at}
@@ -21,13 +23,13 @@ use Rattle.mot_numbers.specs.Geometry.{IsValid, packet_room}
 use Rattle.mot_numbers.specs.declared.geometry.Geometry.{Geometry}
 use Rattle.mot_numbers.specs.declared.refusal.Refusal.{Refusal}
 use Rattle.mot_numbers.specs.Geometry.{is_valid}
-use Rattle.mot_objects.specs.Carousel.{IsSound}
+use Rattle.mot_objects.specs.Carousel.{Carousel, IsSound}
 use Rattle.mot_objects.specs.Rules.{AllKeepRules}
 use Rattle.mot_objects.specs.declared.command.Command.{Command}
 use Rattle.mot_player.specs.Place.{Place}
 use Rattle.mot_player.specs.Turn.{turn_of_carousel}
 use Rattle.mot_export.proofs.Laws.{AllAre, all_hold, openable}
-use Rattle.mot_feed.proofs.Laws.{often-front, rules_behind, rules_front, rules_of_turn}
+use Rattle.mot_feed.proofs.Laws.{happen-apart, often-front, rules_behind, rules_front, rules_of_turn}
 use Rattle.mot_feed.proofs.Laws.{rules_of_window}
 use Rattle.mot_export.specs.Opening.{IsOpenable, first_place}
 use Rattle.mot_repository.proofs.Laws.{rules_kept, standings-are_sound}
@@ -59,7 +61,8 @@ module _ {D : Type 0} (state : D → State) (disk : D) (server new : ServerView 
     (valid : is_valid server.view.journal.geometry ≡ true)
     (keeps : KeepsLength (state server.disk) (state new.disk))
     (continuous : FedPacketsAreContinuous) (turns_read : TurnsOnAirRead)
-    (changed_read : ChangedTurnsOnAirRead) (listeners : ListenersHear) where
+    (changed_read : ChangedTurnsOnAirRead) (listeners : ListenersHear)
+    (serves : NobodyStarves) where
   holds_opened : (s : Standing) → (state new.disk).IsHonest → AllAre s (state disk)
       → Holds server.view s (state server.disk)
   holds_opened s honest all =
@@ -99,6 +102,57 @@ module _ {D : Type 0} (state : D → State) (disk : D) (server new : ServerView 
 
   sizes : (s : Standing) → Agrees server.view s → IsValid s.geometry
   sizes s agrees = subst IsValid agrees.geometry (valid_is server.view.journal.geometry valid)
+
+  -- nobody starved among any of the events, where changes are followed
+  served : (s : Standing) (how : Manner) (events : List Event) (made : Carousel) (after : Place)
+      → (state new.disk).IsHonest → AllAre s (state disk) → Agrees server.view s
+      → 0 < how.directory
+      → Happen s.geometry.objects s.geometry.segment s.carousel (place_at_start how s) events made
+      after
+      → RulesAreKept s.geometry.objects s.carousel events → (before during others : List Event)
+      → before ++ (during ++ others) ≡ events → IsServed s how before during
+  served s how events made after honest all agrees asked happened rules before during others
+      all_of =
+      let limit = s.geometry.objects in
+      let size = s.geometry.segment in
+      let is_valid = sizes s agrees in
+      let some : (how.directory == 0) ≡ false =
+      ne_eqb how.directory 0 (λ e. omega (arith, e, asked)) in
+      let start : place_at_start how s ≡ record (first_place s) { follows = Some how.early } =
+      ap (λ (b : Bool). record (first_place s) {
+        follows = if b then (first_place s).follows else Some how.early;
+      }) some in
+      let front = happen-apart limit size s.carousel made (place_at_start how s) after before
+      (during ++ others) (subst (λ (es : List Event). Happen limit size s.carousel
+      (place_at_start how s) es made after) (sym all_of) happened) in
+      let mid = happen-apart limit size front.now made front.mid after during others front.behind in
+      record {
+        now = front.now;
+        last = mid.now;
+        place = front.mid;
+        new = mid.mid;
+        came = front.before;
+        happened = mid.before;
+        serves = serves limit size front.now front.mid before during (record {
+          first = s.carousel;
+          address = s.geometry.address;
+          room = packet_room s.geometry;
+          most = how.early;
+          few = is_valid.1;
+          some_size = omega (arith, is_valid.4);
+          some = room s agrees;
+          sound = sound_carousel s honest all;
+          rules_first = rules_first s honest all;
+          came = subst (λ (p : Place). Happen limit size s.carousel p before front.now front.mid)
+              start front.before;
+          last = mid.now;
+          new = mid.mid;
+          happened = mid.before;
+          rules = rules_front limit s.carousel (before ++ during) others
+              (subst (λ (es : List Event). RulesAreKept limit s.carousel es)
+              (sym (append_assoc before during others ∙ all_of)) rules);
+        });
+      }
 
   module _ {U : Type 0} (tells : U → U → Moment → Telling) (first last : U) (how : Manner) where
     -- what is told of it
@@ -142,7 +196,7 @@ module _ {D : Type 0} (state : D → State) (disk : D) (server new : ServerView 
               (turn_of_carousel s.carousel s.geometry.segment)
               (place_at_start how s).follows events (place_in new made) packets
               (room s holds.agrees) happened are;
-          turns_read = λ before during others all_of c then place after of came goes is_one
+          turns_read = λ before during others all_of c left place after of came goes is_one
               are_of.
               let is_valid = sizes s holds.agrees in
               let limit = s.geometry.objects in
@@ -150,12 +204,12 @@ module _ {D : Type 0} (state : D → State) (disk : D) (server new : ServerView 
               (rules_behind limit s.geometry.segment s.carousel c
               (place_at_start how s) place before (during ++ others)
               (subst (λ l. RulesAreKept limit s.carousel l) (sym all_of) fed.rules) came) in (
-                (λ begins. turns_read s.geometry.objects s.geometry.segment s.carousel c then
+                (λ begins. turns_read s.geometry.objects s.geometry.segment s.carousel c left
                     s.geometry.address (packet_room s.geometry)
                     (place_at_start how s).follows before during place after of
                     is_valid.1 (is_valid.4, is_valid.5) (room s holds.agrees)
                     (sound_carousel s honest all) came begins rules goes is_one are_of),
-                (λ ended. changed_read s.geometry.objects s.geometry.segment s.carousel c then
+                (λ ended. changed_read s.geometry.objects s.geometry.segment s.carousel c left
                     s.geometry.address (packet_room s.geometry)
                     (place_at_start how s).follows before during place after of
                     is_valid.1 (is_valid.4, is_valid.5) (room s holds.agrees)
@@ -165,7 +219,7 @@ module _ {D : Type 0} (state : D → State) (disk : D) (server new : ServerView 
                     goes is_one are_of),
               );
           often = often;
-          listens = λ before during others all_of c then place after of came goes quiet are_of some.
+          listens = λ before during others all_of c left place after of came goes quiet are_of some.
               let is_valid = sizes s holds.agrees in
               let limit = s.geometry.objects in
               let rules = rules_of_window limit c during others of quiet are_of some
@@ -183,7 +237,7 @@ module _ {D : Type 0} (state : D → State) (disk : D) (server new : ServerView 
                 sound = sound_carousel s honest all;
                 came = came;
                 rules = rules;
-                last = then;
+                last = left;
                 new = after;
                 happened = goes;
                 quiet = quiet;
@@ -191,6 +245,8 @@ module _ {D : Type 0} (state : D → State) (disk : D) (server new : ServerView 
               }) (λ asked. often-front how.directory true (Some 0) (before ++ during) others
               (ap (λ (es : List Event). is_often how.directory true (Some 0) es)
               (append_assoc before during others ∙ all_of) ∙ often asked));
+          nobody_starves = λ asked. served s how events made.carousel (place_in new made) honest all
+              holds.agrees asked happened fed.rules;
         }
 
     -- what is fed of an open server plays the disk, from its opening on, up to the feed's ending

@@ -96,6 +96,7 @@ module _ (tale other : Tale) (retells : Retells tale other) (how : Manner) where
     turns_read = is.turns_read;
     often = is.often;
     listens = is.listens;
+    nobody_starves = is.nobody_starves;
   }
 
   pub plays_as : (ending : Option Refusal) (before after : Option (List (List ℕ)))

@@ -4,6 +4,7 @@ use Rattle.std.specs.Prelude.{is_some}
 use Rattle.std.specs.Option.{option_map_or}
 use Rattle.disk_model.specs.Disk.{State}
 use Rattle.mot_air.specs.Opening.{EndsBy, Leaves}
+use Rattle.mot_feed.specs.Ends.{ServesAll}
 use Rattle.mot_feed.specs.Feeding.{AreOf, AreTold, EndsFeed, Event, Happen, Stage}
 use Rattle.mot_feed.specs.Feeding.{commands_among, fault_at, is_between_turns}
 use Rattle.mot_feed.specs.Feeding.Stage.{Ready}
@@ -87,6 +88,18 @@ Listens s how before during =
     × HearsFirstChanges s.geometry.objects s.geometry.segment s.carousel (place_at_start how s)
     c place before packets)
 
+-- Behind these events of a server just opened a carousel stood there, and the server at a place; the
+-- others came from there on, and nobody starved among them.
+pub record IsServed (s : Standing) (how : Manner) (before during : List Event) : Type 0 where
+  pub now : Carousel
+  pub last : Carousel
+  pub place : Place
+  pub new : Place
+  pub came : Happen s.geometry.objects s.geometry.segment s.carousel (place_at_start how s) before
+      now place
+  pub happened : Happen s.geometry.objects s.geometry.segment now place during last new
+  pub serves : ServesAll s.geometry.objects s.geometry.segment now place during
+
 -- These happened on a server that was opened of a disk that stood for s: the commands, of which
 -- this is told, left this of the disk, and the packets are these, with their continuity indexes.
 pub record HasAired (s : Standing) (tale : Tale) (how : Manner) (stage : Stage)
@@ -112,6 +125,9 @@ pub record HasAired (s : Standing) (tale : Tale) (how : Manner) (stage : Stage)
   pub often : 0 < how.directory → IsOften how.directory events
   pub listens : (before during others : List Event) → before ++ (during ++ others) ≡ events
       → Listens s how before during
+  -- and where changes are followed nobody starves: turns end, and each body that stays is sent
+  pub nobody_starves : 0 < how.directory → (before during others : List Event)
+      → before ++ (during ++ others) ≡ events → IsServed s how before during
 
 -- The packets were written up to this ending: where a write failed, the last of them is cut or
 -- missing, and no command was in flight.

@@ -7,3 +7,5 @@ pub use Rattle.mot_feed.proofs.Grown.{grows_nil}
 -- the directory is asked for often up to any of the events; and what is heard of a window keeps the
 -- rules
 pub use Rattle.mot_feed.proofs.Listening.{often-front, rules_of_window}
+-- what happens in two parts
+pub use Rattle.mot_feed.proofs.Ends.{HappenApart, happen-apart}

@@ -109,7 +109,7 @@ ChangesAreHeard =
 -- ---- the turn on air
 
 -- whatever events come, all that is left is of the turn on air
-on-behind : (limit size : ℕ) (c last : Carousel) (place new : Place) (events : List Event) →
+pub on-behind : (limit size : ℕ) (c last : Carousel) (place new : Place) (events : List Event) →
     limit ≤ MAX_OBJECTS → 0 < size → IsSound c → IsOnAir size (turn_of_carousel c size) place →
     Happen limit size c place events last new → IsOnAir size (turn_of_carousel last size) new
 on-behind limit size c last place new [] few some sound on is =

@@ -188,7 +188,7 @@ follow-cases limit size c next command (Ok (k, done)) e sound is =
 follow-cases limit size c next command (Err refusal) e sound is = absurd (none-some next is)
 
 -- each of its bodies has bytes
-some-bodies : (objects : List Object) → AllByRecursion KeepsRules objects →
+pub some-bodies : (objects : List Object) → AllByRecursion KeepsRules objects →
     AllByRecursion (λ (b : ℕ × List ℕ). 0 < length b.1) (bodies_with_ids objects)
 some-bodies [] rules = tt
 some-bodies (o ∷ objects) rules =

@@ -1,6 +1,7 @@
 //! Feeding with the directory often, changes next, and looks within a turn.
 ghost use Rattle.std.specs.Prelude.{◌≡◌, ◌==◌, ◌-◌, ◌<◌, if◌then◌else◌, IfErr, OnOk};
 ghost use Rattle.disk_model.specs.Disk.{KeepsLength};
+ghost use Rattle.mot_feed.specs.Ends.{NobodyStarves};
 ghost use Rattle.mot_feed.specs.Feeding.{FedPacketsAreContinuous, Feeds, IsFeedFault};
 ghost use Rattle.mot_feed.specs.Listening.{ListenersHear};
 ghost use Rattle.mot_feed.specs.Often.{IsOften, look_in, pause, server_for};
@@ -109,6 +110,9 @@ pub fn feed_every<D: Disk, O: Outlet, U: Update>(
     // Who begins to listen at any packet, up to the next command; and behind a command after how
     // many packets at most, whatever commands came before it.
     ensures listeners { ListenersHear }
+
+    // Whatever commands come, turns end, and each body that stays is sent.
+    ensures nobody_starves { NobodyStarves }
 {
     if every == 0 {
         return feed(server, alloc, update, outlet, turns);

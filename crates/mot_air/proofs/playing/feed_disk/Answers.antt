@@ -36,7 +36,7 @@ by g c =
     plays g.D.Disk.state c.args.disk c.in-Ok.server c.feed_every-result.new.server
     g.met.D.Disk.sound opens.only_syncs opens.opened opens.calm opens.going opens.at_start
     c.geometry.ensures.valid feeds.keeps feeds.continuous feeds.turns_read
-    feeds.changed_turns_read feeds.listeners
+    feeds.changed_turns_read feeds.listeners feeds.nobody_starves
     g.U.Update.tells c.args.update.now
     c.feed_every-result.new.update (manner c.args.directory c.args.look c.args.early c.args.turns) _ _
     c.feed_every-result.result feeds.calm feeds.fault

@@ -3,6 +3,7 @@ use Rattle.std.proofs.lemmas.Bool.{ne_eqb}
 use Rattle.std.specs.Prelude.{◌==◌, if◌then◌else◌}
 use Rattle.mot_feed.specs.Feeding.{Feeds}
 use Rattle.mot_feed.specs.Often.{IsOften, look_in, server_for}
+use Rattle.mot_feed.proofs.Ends.{nobody_starves}
 use Rattle.mot_feed.proofs.Fed.{continuous}
 use Rattle.mot_feed.proofs.Listening.{listeners_hear}
 use Rattle.mot_feed.proofs.OnAir.{changed_turns_read, turns_read}
@@ -75,3 +76,10 @@ returns-then-every-eq0-clause-listeners g c = listeners_hear
 
 pub returns-clause-listeners : goal.returns-clause-listeners
 returns-clause-listeners g c = listeners_hear
+
+pub returns-then-every-eq0-clause-nobody_starves :
+    goal.returns-then-every-eq0-clause-nobody_starves
+returns-then-every-eq0-clause-nobody_starves g c = nobody_starves
+
+pub returns-clause-nobody_starves : goal.returns-clause-nobody_starves
+returns-clause-nobody_starves g c = nobody_starves
