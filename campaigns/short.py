@@ -1,5 +1,6 @@
 #!/usr/bin/env python3
-"""The short campaigns of the gate: hostile disks, hostile lines, kills, and two stations, side by side, within a minute on two cores.
+"""The short campaigns of the gate: hostile disks, hostile lines, kills, two stations, and listeners, side by side, within a
+minute on two cores.
 
     campaigns/short.py [PROGRAM] [--seed N]
 
@@ -19,6 +20,7 @@ RUNS = (
     ("hostile.py", "--disks", "0", "--lines", "100000"),
     ("kills.py", "--rounds", "150"),
     ("stations.py",),
+    ("listeners/run.py", "--windows", "5000", "--jobs", "1"),
 )
 # The gate tries the same each time: a change that it refuses is at fault, and not the hour.
 SEED = 1

@@ -89,6 +89,8 @@ HANDED_VALUES = {"Acknowledged commands are stored": ["Server", "ServerView"], "
 CITED_BY_NONE = [
     ("disk_store/Beginning", "first_state", "its own laws"),
     ("disk_store/FileSound", "now_is file_sound", "`mot_commands`, whose own disks are files"),
+    ("mot_carousel/Gap", "AreReordered IsLeastGap", "private functions of `mot_repository`, and its proofs"),
+    ("mot_player/Staying", "AreFewEarly", "proofs of `mot_listening` and of `mot_feed`"),
     ("mot_journal/Gaps", "IsBeside AreBeside standing_of", "private functions of `mot_repository`, and its proofs"),
     ("mot_repository/Copy", "bytes_in_row", "private functions of `mot_copying`, and a law"),
     ("mot_feed/Sending", "SendsPacket", "private functions of `mot_feed`, and its proofs"),

@@ -15,8 +15,8 @@ import typing
 import trial
 from received import FRAME, is_right, jumps_in, names_in, segments_in, sendings, timed_packets
 from tests import dab
+from tests.air import PNG
 
-SEGMENT = 1024
 # After so many seconds all files change at once, if they do. Then one changes every half minute. On a new disk it does
 # from the start on.
 SETTLED = 60
@@ -34,6 +34,7 @@ class Case(typing.NamedTuple):
     name: str
     rate: int = 32
     length: int = 96
+    segment: int = 1024
     files: int = 50
     bytes: int = 20_000
     pipe: int = 8192
@@ -43,7 +44,7 @@ class Case(typing.NamedTuple):
 
 
 AT_ONCE, SELDOM = ("--at-once",), ("--look", "700")
-SLOW = {"rate": 8, "length": 24, "files": 10, "bytes": 2000}
+SLOW = {"rate": 8, "length": 24, "segment": 80, "files": 10, "bytes": 2000}
 CASES = (
     Case("32 kbit/s, a pipe of 65,536 bytes", pipe=65_536),
     Case("32 kbit/s"),
@@ -72,7 +73,7 @@ class Station:
         os.mkfifo(self.path)
         self.pipe = os.open(self.path, os.O_RDWR | os.O_NONBLOCK)
         fcntl.fcntl(self.pipe, fcntl.F_SETPIPE_SZ, self.case.pipe)
-        sizes = f"--address {self.address} --packet {self.case.length} --segment {SEGMENT} --objects 60 --data 2000000"
+        sizes = f"--address {self.address} --packet {self.case.length} --segment {self.case.segment} --objects 60 --data 2000000"
         self.motcar("format", self.disk, *sizes.split())
         if not self.case.is_new:
             self.motcar("sync", self.disk, self.folder, "--at-once")
@@ -83,7 +84,7 @@ class Station:
 
     def file(self, name):
         """A file with new content, renamed into the folder; the content."""
-        body = self.dice.randbytes(self.case.bytes)
+        body = PNG + self.dice.randbytes(self.case.bytes - len(PNG))
         (self.room / "new").write_bytes(body)
         os.rename(self.room / "new", self.folder / name)
         return body
@@ -231,7 +232,8 @@ def judge(station, timed, expect):
     packets, segments = [it for _, it in timed], list(segments_in(timed))
     first, end = timed[0][0], timed[-1][0]
     begun, ended = first_sendings(segments)
-    starts, wholes = ([at[body[:SEGMENT]] - frame if body[:SEGMENT] in at else None for body, frame in station.changes]
+    size = station.case.segment
+    starts, wholes = ([at[body[:size]] - frame if body[:size] in at else None for body, frame in station.changes]
                       for at in (begun, ended))
     # (whoever tunes in later than half-way has not everything before the end)
     moments = [station.dice.randrange(first, (first + end) // 2) for _ in range(TUNED_IN)]
@@ -245,16 +247,42 @@ def judge(station, timed, expect):
     expect(f"{station.case.name}: jumps of the continuity index", jumps_in(packets))
 
 
-def longest_silence(room, program):
-    """The longest time without a packet for a reader that takes each at once, while a large folder is looked at: after
-    each 100 packets, seventy times."""
+class Forgetting:
+    """Makes the system forget its files again and again, where one may."""
+
+    PATH = "/proc/sys/vm/drop_caches"
+
+    def __enter__(self):
+        self.ends, self.thread = threading.Event(), threading.Thread(target=self.forget)
+        self.thread.start()
+
+    def forget(self):
+        while not self.ends.wait(0.02):
+            with open(self.PATH, "w") as file:
+                file.write("3")
+
+    def __exit__(self, *_):
+        self.ends.set()
+        self.thread.join()
+
+
+def large_folder(room, program):
+    """A disk, and a folder of many large files that it has."""
     folder, disk = room / "large", room / "large.disk"
     folder.mkdir()
     for it in range(FILES):
-        (folder / f"{it:03}.png").write_bytes(random.randbytes(BYTES))
+        (folder / f"{it:03}.png").write_bytes(PNG + random.randbytes(BYTES - len(PNG)))
     sizes = ["--objects", str(FILES), "--data", str(FILES * BYTES)]
     for words in (["format", disk, *sizes], ["sync", disk, folder, "--at-once"]):
         subprocess.run([program, *words], check=True, stdout=subprocess.DEVNULL)
+    # (files that were changed a moment ago are read again)
+    time.sleep(2.5)
+    return disk, folder
+
+
+def longest_silence(program, disk, folder):
+    """The longest time without a packet for a reader that takes each at once, while the folder is looked at: after each
+    100 packets, seventy times."""
     words = [program, "play", disk, "-", "--folder", folder]
     with subprocess.Popen(words, stdout=subprocess.PIPE, stderr=subprocess.DEVNULL) as playing:
         taken, longest, before = 0, 0, None
@@ -284,5 +312,9 @@ def delays(room, options, plain, expect):
     print("|", " | ".join(["", *heads]), "|")
     for it in stations:
         judge(it, air.timed(it), expect)
-    silence = longest_silence(room, options.program)
-    print(f"longest silence of looks at {FILES} files of {BYTES} bytes: {1000 * silence:.1f} ms")
+    large = large_folder(room, options.program)
+    print(f"longest silence of looks at {FILES} files of {BYTES} bytes: {1000 * longest_silence(options.program, *large):.1f} ms")
+    if os.access(Forgetting.PATH, os.W_OK):
+        with Forgetting():
+            silence = longest_silence(options.program, *large)
+        print(f"the same while the system forgets its files: {1000 * silence:.1f} ms")

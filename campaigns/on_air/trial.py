@@ -14,6 +14,7 @@ import threading
 import time
 
 from received import FRAME, LENGTH, groups_of, is_right, jumps_in, numbered_objects, timed_packets
+from tests.air import PNG
 
 # What each station is: the name, the address, the bytes of a packet, the rate of its sub-channel, its type, and how
 # many files it begins with.
@@ -55,7 +56,7 @@ class Station:
         self.stopping, self.thread = False, threading.Thread(target=self.supervise)
 
     def body(self):
-        return self.random.randbytes(self.random.choice((300, 2_000, 8_000)) if self.length < 96 else 20_000)
+        return PNG + self.random.randbytes(self.random.choice((300, 2_000, 8_000)) if self.length < 96 else 20_000)
 
     def file(self, name, body):
         """Written beside the folder and renamed into it."""
