@@ -17,6 +17,7 @@ from received import FRAME, is_right, jumps_in, names_in, segments_in, sendings,
 from tests import dab
 from tests.air import PNG
 
+SEGMENT = 1024
 # After so many seconds all files change at once, if they do. Then one changes every half minute. On a new disk it does
 # from the start on.
 SETTLED = 60
@@ -34,7 +35,6 @@ class Case(typing.NamedTuple):
     name: str
     rate: int = 32
     length: int = 96
-    segment: int = 1024
     files: int = 50
     bytes: int = 20_000
     pipe: int = 8192
@@ -43,8 +43,8 @@ class Case(typing.NamedTuple):
     all_change: bool = False
 
 
-AT_ONCE, SELDOM = ("--at-once",), ("--look", "700")
-SLOW = {"rate": 8, "length": 24, "segment": 80, "files": 10, "bytes": 2000}
+AT_ONCE, SELDOM, OFTEN = ("--at-once",), ("--look", "700"), ("--look", "25")
+SLOW = {"rate": 8, "length": 24, "files": 10, "bytes": 2000}
 CASES = (
     Case("32 kbit/s, a pipe of 65,536 bytes", pipe=65_536),
     Case("32 kbit/s"),
@@ -54,6 +54,7 @@ CASES = (
     Case("8 kbit/s", **SLOW),
     Case("8 kbit/s, `--at-once`", options=AT_ONCE, **SLOW),
     Case("8 kbit/s, `--look 700`", options=SELDOM, **SLOW),
+    Case("8 kbit/s, `--look 25`", options=OFTEN, **SLOW),
     Case("32 kbit/s, a new disk", is_new=True),
     Case("32 kbit/s, all files changed", all_change=True),
 )
@@ -73,7 +74,7 @@ class Station:
         os.mkfifo(self.path)
         self.pipe = os.open(self.path, os.O_RDWR | os.O_NONBLOCK)
         fcntl.fcntl(self.pipe, fcntl.F_SETPIPE_SZ, self.case.pipe)
-        sizes = f"--address {self.address} --packet {self.case.length} --segment {self.case.segment} --objects 60 --data 2000000"
+        sizes = f"--address {self.address} --packet {self.case.length} --segment {SEGMENT} --objects 60 --data 2000000"
         self.motcar("format", self.disk, *sizes.split())
         if not self.case.is_new:
             self.motcar("sync", self.disk, self.folder, "--at-once")
@@ -232,8 +233,7 @@ def judge(station, timed, expect):
     packets, segments = [it for _, it in timed], list(segments_in(timed))
     first, end = timed[0][0], timed[-1][0]
     begun, ended = first_sendings(segments)
-    size = station.case.segment
-    starts, wholes = ([at[body[:size]] - frame if body[:size] in at else None for body, frame in station.changes]
+    starts, wholes = ([at[body[:SEGMENT]] - frame if body[:SEGMENT] in at else None for body, frame in station.changes]
                       for at in (begun, ended))
     # (whoever tunes in later than half-way has not everything before the end)
     moments = [station.dice.randrange(first, (first + end) // 2) for _ in range(TUNED_IN)]
