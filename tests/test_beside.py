@@ -1,6 +1,8 @@
 """The empty file beside a disk: an opening that finds no disk leaves none."""
 from .program import Case, refused
 
+COMMANDS = ("check", "serve", "migrate", "list", "export", "inspect")
+
 
 class Beside(Case):
     def names(self):
@@ -15,11 +17,11 @@ class Beside(Case):
     def test_what_is_no_disk(self):
         self.write("text", b"no disk")
         wanted = refused(17, "NotFormatted", "text: no motcar disk: 7 bytes, and the head alone has 64")
-        for command in ("check", "serve", "migrate"):
+        for command in COMMANDS:
             self.expect_none(f"{command} of a text", wanted, command, "text")
         self.write("zeros", bytes(90_000))
         wanted = refused(17, "NotFormatted", "zeros: no motcar disk: it does not begin with MOTCAR01")
-        for command in ("check", "serve", "migrate"):
+        for command in COMMANDS:
             self.expect_none(f"{command} of zeros", wanted, command, "zeros")
 
     def test_what_is_too_short(self):
@@ -36,7 +38,7 @@ class Beside(Case):
         held = disk.read_bytes()
         (self.room / "disk-wal").unlink()
         self.write("disk", held[:1_000])
-        for command in ("check", "serve", "migrate"):
+        for command in COMMANDS:
             ended = self.motcar(command, "disk")
             number = ended[2].split()[1] if ended[2] else b""
             self.expect(f"{command} is refused", True, ended[0] == 1)

@@ -6,11 +6,12 @@ use Rattle.disk_model.proofs.Laws.{joins, keeps_on}
 use Rattle.disk_model.specs.Disk.{Elapses, IsHonestDisk, IsStill, Nothing, OnlySyncs}
 use Rattle.disk_model.specs.Disk.{State}
 use Rattle.disk_model.specs.Failures.{Rises}
-use Rattle.mot_air.proofs.Opened.{opened_throughout}
+use Rattle.mot_export.proofs.Laws.{opened_throughout}
 use Rattle.mot_air.specs.Directory.{IsFrame}
-use Rattle.mot_air.specs.Opening.{IsEnd, Leaves}
-use Rattle.mot_air.specs.Opening as opening
-use Rattle.mot_air.specs.Playing.{HasAired, Manner, Plays, Tale}
+use Rattle.mot_export.specs.Ending.{IsEnd, Leaves}
+use Rattle.mot_export.specs.Ending as opening
+use Rattle.mot_air.specs.Playing.{HasAired, Plays, Tale}
+use Rattle.mot_air.specs.declared.manner.Manner.{Manner}
 use Rattle.mot_air.specs.Telling.{EndsAs, Same, first_sources, tale_told}
 use Rattle.mot_air.specs.Telling.EndsTelling.{broken}
 use Rattle.mot_export.proofs.Laws.{AllAre}
@@ -26,7 +27,7 @@ use Rattle.mot_numbers.specs.Refusal.{IsCalm}
 use Rattle.mot_numbers.specs.declared.refusal.Refusal.{Refusal}
 use Rattle.mot_objects.specs.Carousel.{Carousel}
 use Rattle.mot_objects.specs.declared.command.Command.{Command}
-use Rattle.mot_outcome.specs.declared.used.Inputs.{Inputs}
+use Rattle.mot_shelf.specs.Given.{Given}
 use Rattle.mot_playout.proofs.Laws.{after_none, none_of}
 use Rattle.mot_playout.specs.Runs.{StandsAfterSome, accepted_commands, commands_in_flight}
 use Rattle.mot_status.specs.Teller.{TellerView}
@@ -167,16 +168,16 @@ plays_behind start mid now opens calm sound tale how ending before after is =
 
 -- of a disk that was not opened nothing is told
 pub none_told : (same : Same) (w : Option Watch) (reads : Option (List ℕ × ℕ)) (how : Manner)
-    (given : Inputs) (refused : Bool) (first : TellerView) → given.looks.all ≡ []
-    → given.lines.notes.all ≡ [] → refused ≡ false → (limit : ℕ) (c : Carousel)
-    → tale_told same w reads how given refused first first limit c Ready [] [] [] c
-none_told same w None how given refused first looks lines any limit c = (
+    (given : List Given) (read : List (List ℕ)) (refused : Bool) (first : TellerView) → given ≡ []
+    → read ≡ [] → refused ≡ false → (limit : ℕ) (c : Carousel)
+    → tale_told same w reads how given read refused first first limit c Ready [] [] [] c
+none_told same w None how given read refused first looks lines any limit c = (
   first_sources [] first,
   record { looks = sym looks; any = sym any; teller = refl },
   lines,
   no_call,
 )
-none_told same w (Some (hand, between)) how given refused first looks lines any limit c = (
+none_told same w (Some (hand, between)) how given read refused first looks lines any limit c = (
   first_sources hand first,
   record { looks = sym looks; any = sym any; teller = refl },
   sym lines,

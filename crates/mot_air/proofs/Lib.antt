@@ -1,10 +1,5 @@
-pub mod Begun
 pub mod Behind
 pub mod Endings
 pub mod Kept
-pub mod Opened
 pub mod Played
 pub mod Retold
-pub mod Synced
-pub mod Used
-pub mod Written

@@ -6,10 +6,11 @@ use Rattle.std.proofs.lemmas.Bool.{ne_eqb}
 use Rattle.std.proofs.lemmas.Bool.Decides.{nat_tests}
 use Rattle.disk_model.proofs.Laws.{keeps_on}
 use Rattle.disk_model.specs.Disk.{State, IsHonestDisk, KeepsLength, OnlySyncs}
-use Rattle.mot_air.specs.Playing.{HasAired, IsServed, Manner, Plays, Tale, look_of_feed, place_at_start}
+use Rattle.mot_air.specs.Playing.{HasAired, IsServed, Plays, Tale, look_of_feed, place_at_start}
+use Rattle.mot_air.specs.declared.manner.Manner.{Manner}
 use Rattle.mot_air.specs.Playing.{tale_of}
 use Rattle.mot_air.specs.Commands.{PlaysInto}
-use Rattle.mot_air.proofs.Opened.{ends_off, opened_leaves}
+use Rattle.mot_export.proofs.Laws.{ends_off, opened_leaves}
 use Rattle.mot_endpoints.specs.declared.packets.Target.{Target}
 use Rattle.mot_feed.specs.Ends.{NobodyStarves}
 use Rattle.mot_feed.specs.Feeding.{AreOf, AreTold, Event, FedPacketsAreContinuous}

@@ -2,11 +2,11 @@
 use Rattle.std.proofs.Common.{◌≡◌, ◌∙◌, ℕ, Bool, false, List, [], Option, Some, None, ap, inl, inr}
 use Rattle.std.proofs.Common.{refl, subst, sym}
 use Rattle.disk_model.specs.Disk.{State}
-use Rattle.mot_air.specs.Playing.{HasAired, Manner, Plays, Tale, look_of_feed, tale_of}
-use Rattle.mot_air.specs.Inner.Beside.{Beside, beside, tells_alone_of, tells_answered}
+use Rattle.mot_air.specs.Playing.{HasAired, Plays, Tale, look_of_feed, tale_of}
+use Rattle.mot_air.specs.declared.manner.Manner.{Manner}
+use Rattle.mot_air.specs.Inner.Beside.{SourcesOf, beside, tells_alone_of, tells_answered}
 use Rattle.mot_air.specs.Inner.Beside.{tells_lines_of, tells_reported}
-use Rattle.mot_air.specs.Inner.Fed.{IsEndOf, disk_of, ending_of}
-use Rattle.mot_air.specs.declared.playing.Fed.{Fed}
+use Rattle.mot_air.specs.Inner.Fed.{Fed, IsEndOf, disk_of, ending_of}
 use Rattle.mot_air.specs.Telling.{Same, Sources, first_sources, no_looks, tale_told, tale_with}
 use Rattle.mot_air.specs.Telling.{tells_alone, tells_lines}
 use Rattle.mot_events.specs.Log.{Entry, HearsAll}
@@ -19,7 +19,7 @@ use Rattle.mot_feed_lines.specs.declared.lines.Lines.{Lines}
 use Rattle.mot_feed_lines.specs.declared.reported.Reported.{Reported}
 use Rattle.mot_folder.specs.Looked.{LooksSoFar, TellsLooks, TellsWatch, Watch}
 use Rattle.mot_export.specs.declared.ended.Ended.{Ended}
-use Rattle.mot_outcome.specs.declared.used.Inputs.{Inputs}
+use Rattle.mot_shelf.specs.Given.{Given}
 use Rattle.mot_playout.specs.Attempts.{fault_of}
 use Rattle.mot_feed.specs.Feeding.{AreTold, Event, Stage}
 use Rattle.mot_feed.specs.Feeding.AreTold.{no_call, one_asked, one_call, one_played}
@@ -279,19 +279,19 @@ module _ {U W : Type 0} (view : W → TellerView) (same : Same) (known : U → L
       (tale_of (tells_alone_of same known tells) how (beside first.update [] t)
       (beside update [] (view last.watch)))
   reported_retold first last update starts is limit c stage events commands marks made told =
-      let see : Reported U W → Beside U = λ r. beside r.update [] (view r.watch) in
+      let see : Reported U W → SourcesOf U = λ r. beside r.update [] (view r.watch) in
       let one = told_as (tells_alone_of same known tells) see (λ r. Unit {0})
       (λ u v moment found these so_marked fault stays tale.
       watched_on view same {P = Unit {0}} (λ them so_answered broken one. (tt, one))
       these so_marked fault tale) tt stage events commands marks last made told in
-      subst (λ (b : Beside U). AreTold (tells_alone_of same known tells) (look_of_feed how) limit b c
+      subst (λ (b : SourcesOf U). AreTold (tells_alone_of same known tells) (look_of_feed how) limit b c
       stage events commands marks (beside update [] (view last.watch)) made)
       (ap (beside first.update []) starts)
       (subst (λ (u : U). AreTold (tells_alone_of same known tells) (look_of_feed how) limit
       (see first) c stage events commands marks (beside u [] (view last.watch)) made) (sym is) one.1)
 
 -- lines, and the update behind which they are answered
-abbrev pub seen : {R U W : Type 0} → Lines R U W → (W → TellerView) → (R → List (List ℕ)) → Beside U
+abbrev pub seen : {R U W : Type 0} → Lines R U W → (W → TellerView) → (R → List (List ℕ)) → SourcesOf U
 seen l view gave = record {
   update = l.reported.update;
   late = l.left;
@@ -320,19 +320,19 @@ module _ {R U W : Type 0} (first last : Lines R U W) (view : W → TellerView)
       watched_on view same {P = Unit {0}} (λ those so_marked up one. (tt, one))
       them so_answered broken one) stays tale in one.1)
       apart stage events commands marks last made told in
-      subst (λ (b : Beside U). AreTold (tells_lines_of same between known tells) (look_of_feed how)
+      subst (λ (b : SourcesOf U). AreTold (tells_lines_of same between known tells) (look_of_feed how)
       limit b c stage events commands marks (seen last view gave) made)
       (begins first.reported.update update first.left (gave first.reader) first.intake.hand hand
       (view first.reported.watch) t is due unread kept starts) one.1
 
-module _ {U : Type 0} (same : Same) (how : Manner) (given : Inputs) (update : U)
-    (last : Beside U) where
+module _ {U : Type 0} (same : Same) (how : Manner) (given : List Given) (read : List (List ℕ))
+    (update : U) (last : SourcesOf U) where
   module _ (at : U → Watch) (looks : U → LooksSoFar) (w : Watch) (refused : Bool)
       (begun : at update ≡ w) (none : looks update ≡ no_looks)
-      (looked : (looks last.update).given ≡ given.looks.all)
+      (looked : (looks last.update).given ≡ given)
       (any : (looks last.update).refused ≡ refused) where
     -- what is seen of looks
-    abbrev of_looks : Beside U → Sources
+    abbrev of_looks : SourcesOf U → Sources
     of_looks b = record {
       looks = looks b.update;
       late = b.late;
@@ -347,11 +347,11 @@ module _ {U : Type 0} (same : Same) (how : Manner) (given : Inputs) (update : U)
         record { looks = l; late = 0; lines = []; hand = hand; teller = t }) none
 
     -- looks alone
-    pub looks_retold : {t : TellerView} → given.lines.notes.all ≡ [] → Retells
+    pub looks_retold : {t : TellerView} → read ≡ [] → Retells
         (tale_of (tells_alone_of same (λ u. (looks u).known)
         (λ u v moment. TellsWatch (at u) (at v) moment (looks u) (looks v))) how
         (beside update [] t) last)
-        (tale_told same (Some w) None how given refused t last.teller)
+        (tale_told same (Some w) None how given read refused t last.teller)
     looks_retold {t} unread limit c stage events commands marks made told =
         let is = told_as (tells_alone same (Some w)) of_looks (λ b. at b.update ≡ w)
         (λ u v moment found these so_marked fault stays tale.
@@ -368,11 +368,11 @@ module _ {U : Type 0} (same : Same) (how : Manner) (given : Inputs) (update : U)
 
     -- looks and lines
     pub lines_retold : (between : ℕ) (hand : List ℕ) {t : TellerView}
-        → last.lines ≡ given.lines.notes.all → Retells
+        → last.lines ≡ read → Retells
         (tale_of (tells_lines_of same between (λ u. (looks u).known)
         (λ u v moment. TellsWatch (at u) (at v) moment (looks u) (looks v))) how
         (beside update hand t) last)
-        (tale_told same (Some w) (Some (hand, between)) how given refused t last.teller)
+        (tale_told same (Some w) (Some (hand, between)) how given read refused t last.teller)
     lines_retold between hand {t} heard limit c stage events commands marks made told =
         let is = told_as (tells_lines same between (Some w)) of_looks (λ b. at b.update ≡ w)
         (λ u v moment found these so_marked fault stays tale.
@@ -388,9 +388,9 @@ module _ {U : Type 0} (same : Same) (how : Manner) (given : Inputs) (update : U)
               limit b c stage events commands marks (of_looks last) made) (begin_so hand t) is.1,
         )
 
-  module _ (unlooked : given.looks.all ≡ []) {refused : Bool} (fine : false ≡ refused) where
+  module _ (unlooked : given ≡ []) {refused : Bool} (fine : false ≡ refused) where
     -- what is seen where there are no looks
-    abbrev of_none : Beside U → Sources
+    abbrev of_none : SourcesOf U → Sources
     of_none b = record {
       looks = no_looks;
       late = b.late;
@@ -400,10 +400,10 @@ module _ {U : Type 0} (same : Same) (how : Manner) (given : Inputs) (update : U)
     }
 
     -- no looks
-    pub none_retold : {t : TellerView} → given.lines.notes.all ≡ [] → Retells
+    pub none_retold : {t : TellerView} → read ≡ [] → Retells
         (tale_of (tells_alone_of same (λ u. no_looks.known)
         (λ u v moment c commands marks fault. commands ≡ [])) how (beside update [] t) last)
-        (tale_told same None None how given refused t last.teller)
+        (tale_told same None None how given read refused t last.teller)
     none_retold unread limit c stage events commands marks made told =
         let is = told_as (tells_alone same None) of_none (λ b. Unit {0})
         (λ u v moment found these so_marked fault stays tale.
@@ -417,10 +417,10 @@ module _ {U : Type 0} (same : Same) (how : Manner) (given : Inputs) (update : U)
 
     -- lines alone
     pub lines_alone : (between : ℕ) (hand : List ℕ) {t : TellerView}
-        → last.lines ≡ given.lines.notes.all → Retells
+        → last.lines ≡ read → Retells
         (tale_of (tells_lines_of same between (λ u. no_looks.known)
         (λ u v moment c commands marks fault. commands ≡ [])) how (beside update hand t) last)
-        (tale_told same None (Some (hand, between)) how given refused t last.teller)
+        (tale_told same None (Some (hand, between)) how given read refused t last.teller)
     lines_alone between hand heard limit c stage events commands marks made told =
         let is = told_as (tells_lines same between None) of_none (λ b. Unit {0})
         (λ u v moment found these so_marked fault stays tale.
@@ -462,18 +462,15 @@ told_out contents fed ended log handed Tells is given told =
     (subst (λ l. Tells (ending_of fed) (contents l)) (sym given) told)
 
 -- and so of an end that is handed out
-pub ended_out : {D L : Type 0} (contents : L → Option (List ℕ)) (ended out : Ended D Unit)
-    (log handed : L) (Tells : Option Refusal → Option (List ℕ) → Type 0) → out ≡ ended
-    → handed ≡ log → Tells (fault_of ended.result) (contents log)
-    → Tells (fault_of out.result) (contents handed)
-ended_out contents ended out log handed Tells same given told =
-    subst (λ (e : Ended _ Unit). Tells (fault_of e.result) (contents handed)) (sym same)
-    (subst (λ l. Tells (fault_of ended.result) (contents l)) (sym given) told)
+pub ended_out : {D : Type 0} (ended out : Ended D Unit) (Tells : Option Refusal → Type 0)
+    → out ≡ ended → Tells (fault_of ended.result) → Tells (fault_of out.result)
+ended_out ended out Tells same told =
+    subst (λ (e : Ended _ Unit). Tells (fault_of e.result)) (sym same) told
 
 -- whoever tells, it is so
 pub whoever : (same : Same) (w : Option Watch) (reads : Option (List ℕ × ℕ)) (how : Manner)
-    (given : Inputs) (refused : Bool) (first last : TellerView)
-    → Retells (tale_told same w reads how given refused first last)
-    (tale_with w reads how given refused)
-whoever same w reads how given refused first last limit c stage events commands marks made told =
+    (given : List Given) (read : List (List ℕ)) (refused : Bool) (first last : TellerView)
+    → Retells (tale_told same w reads how given read refused first last)
+    (tale_with w reads how given read refused)
+whoever same w reads how given read refused first last limit c stage events commands marks made told =
     (same, first, last, told)

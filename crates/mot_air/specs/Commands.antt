@@ -1,15 +1,14 @@
 -- What the commands on air do.
 use Rattle.std.specs.Prelude.{ℕ, ◌≡◌, ◌⊎◌, ◌++◌, ◌-◌, Bool, true, false, not, List, [], ◌∷◌, Option}
-use Rattle.std.specs.Prelude.{Some, None, Result, Ok, Err, codes, option_map, unwrap_or}
-use Rattle.std.specs.Borrow.{Bor}
+use Rattle.std.specs.Prelude.{Some, None, codes, option_map, unwrap_or}
 use Rattle.std.specs.Io.KnownBytes.{Keeps}
 use Rattle.clap.specs.Words.{Text}
 use Rattle.disk_model.specs.Disk.{State}
 use Rattle.disk_store.specs.Beginning.{SinceOpened}
 use Rattle.disk_store.specs.declared.file.start.Start.{Ghosts}
 use Rattle.mot_air.specs.Directory.{IsFrame, directory_of, early_of, look_of}
-use Rattle.mot_air.specs.Playing.{Manner, Plays, Tale, manner}
-use Rattle.mot_air.specs.Syncing.{Syncs}
+use Rattle.mot_air.specs.Playing.{Plays, Tale}
+use Rattle.mot_air.specs.declared.manner.Manner.{Manner}
 use Rattle.mot_air.specs.Telling.{tale_with, watch_in, watched}
 use Rattle.mot_endpoints.specs.declared.packets.Target.{Target}
 use Rattle.mot_endpoints.specs.declared.packets.Target.TheVariants.{File, Output}
@@ -19,15 +18,11 @@ use Rattle.mot_endpoints.specs.Packets.{IsTarget}
 use Rattle.mot_endpoints.specs.Types.{IsTyped, IsUntyped}
 use Rattle.mot_numbers.specs.declared.refusal.Refusal.{Refusal}
 use Rattle.mot_numbers.specs.declared.refusal.Refusal.TheVariants.{DeviceFault, WriteFault}
-use Rattle.mot_outcome.specs.Outcome.{IsUntold, OnFile, OnOpened}
-use Rattle.mot_outcome.specs.declared.used.Inputs.{Inputs}
+use Rattle.mot_outcome.specs.Outcome.{OnFile}
 use Rattle.mot_outcome.specs.declared.used.UsedDisk.{UsedDisk}
-use Rattle.mot_export.specs.Exporting.{Exports}
-use Rattle.mot_export.specs.Inspecting.{Inspects}
-use Rattle.mot_shelf.specs.Seen.{given_of}
+use Rattle.mot_shelf.specs.Given.{Given}
 use Rattle.mot_folder.specs.Looked.{Watch}
 use Rattle.mot_suffixes.specs.Types.{SuffixType}
-use Rattle.mot_cli.specs.declared.playing.LookRules.{LookRules}
 use Rattle.mot_cli.specs.declared.playing.PlayTask.{PlayTask}
 
 -- In these a frame holds so many packets.
@@ -35,8 +30,12 @@ use Rattle.mot_cli.specs.declared.playing.PlayTask.{PlayTask}
 -- how it is played with the numbers that are asked for: as good as without end, where no number of
 -- turns is
 abbrev pub played_as : PlayTask → (frame : ℕ) → Manner
-played_as p frame = manner (directory_of p.turns p.directory frame) (look_of p.turns p.look frame)
-    (early_of p.early) (unwrap_or p.turns 18446744073709551615)
+played_as p frame = record {
+  directory = directory_of p.turns p.directory frame;
+  look = look_of p.turns p.look frame;
+  early = early_of p.early;
+  turns = unwrap_or p.turns 18446744073709551615;
+}
 
 -- the folder that is asked for, by this table of suffixes
 abbrev pub watch_asked : List SuffixType → PlayTask → (frame : ℕ) → Option Watch
@@ -45,7 +44,8 @@ watch_asked table p frame = watched p.folder
 
 -- what is told of playing it: no line has begun, and lines are read at every eighth packet, where
 -- no other number is asked for
-abbrev pub tale_asked : List SuffixType → PlayTask → (frame : ℕ) → Inputs → (refused : Bool) → Tale
+abbrev pub tale_asked : List SuffixType → PlayTask → (frame : ℕ) → (given : List Given)
+    → (read : List (List ℕ)) → (refused : Bool) → Tale
 tale_asked table p frame = tale_with (watch_asked table p frame)
     (option_map (λ path. ([], unwrap_or p.every 8 - 1)) p.lines) (played_as p frame)
 
@@ -76,22 +76,14 @@ module _ {S : Type 0} {start : Ghosts S} where
   -- end, true if all is done, and a file took its place. What each write took is told, as a list
   -- that begins with the path by which that was opened; and what was given by the folder in each
   -- look, and by each read of lines. Beside packets on standard output nothing is printed to it.
-  abbrev pub PlaysTo : PlayTask → (ℕ → Inputs → Bool → Tale) → (all : Bool) → Option Refusal
+  abbrev pub PlaysTo : PlayTask → (ℕ → List Given → List (List ℕ) → Bool → Tale) → (all : Bool) → Option Refusal
       → (old new : Option (List ℕ)) → UsedDisk S start → Type 0
   PlaysTo p tale all ending old new used =
       (target : Target) × IsTarget p.packets.now target × (target ≡ Output → Keeps old new)
       × (target ≡ File → ending ≡ None → OnFile (λ disk beside. beside.taken.is_placed ≡ true) used)
       × ((refused : Bool) × (ending ≡ None → all ≡ is_all_done target refused)
-      × OnFile (λ disk beside. SinceOpened (PlaysAsked target (λ frame. tale frame beside.inputs
-      refused) p ending (p.packets.now ∷ []) beside.taken.notes.all) disk) used)
-
-  -- the carousel of the disk of a file was made equal to the folder of this path, up to this
-  -- ending, by this table of suffixes and these rules
-  abbrev pub SyncsTo : List SuffixType → LookRules → Text → (all : Bool) → Option Refusal
-      → (old new : Option (List ℕ)) → UsedDisk S start → Type 0
-  SyncsTo table rules path all ending old new = OnFile (λ disk beside. SinceOpened
-      (λ opened now. Syncs table rules.allow_empty path (given_of beside.seen) opened now all
-      ending old new) disk)
+      × OnFile (λ disk beside. SinceOpened (PlaysAsked target (λ frame. tale frame beside.looks.all
+      beside.lines.notes.all refused) p ending (p.packets.now ∷ []) beside.taken.notes.all) disk) used)
 
   -- In these the writer's known bytes were old and are new. Standard input is not read. Of what a
   -- pipe, a device or a file takes no contract tells.
@@ -103,30 +95,6 @@ module _ {S : Type 0} {start : Ghosts S} where
   PlaysTask p all ending used old new = (table : List SuffixType) × IsTyped p.types table
       × PlaysTo p (tale_asked table p) all ending old new used
 
-  -- the same of the carousel of a disk that was made equal to the folder of this path, by this file
-  -- of suffixes and these rules
-  abbrev pub SyncsTask : Option (Bor Text) → LookRules → Text → (all : Bool) → Option Refusal
-      → UsedDisk S start → (old new : Option (List ℕ)) → Type 0
-  SyncsTask types rules folder all ending used old new = (table : List SuffixType)
-      × IsTyped types table × SyncsTo table rules folder all ending old new used
-
-  -- a file was opened, and its carousel printed, or its sizes told
-  abbrev pub ExportsFile : Option Refusal → UsedDisk S start → (old new : Option (List ℕ))
-      → Type 0
-  ExportsFile ending used old new = OnOpened (Exports ending old new) used
-
-  abbrev pub InspectsFile : (rate : Option ℕ) → Option Refusal → UsedDisk S start
-      → (old new : Option (List ℕ)) → Type 0
-  InspectsFile rate ending used old new = OnOpened (Inspects rate ending old new) used
-
-  -- It came to its end, which tells whether all of it is done; or it was not begun, for such a
-  -- refusal; or this refusal ended it.
-  abbrev pub Concludes : (IsEarly : Refusal → Type 0) → (IsEnded : Bool → Option Refusal → Type 0)
-      → Result Bool Refusal → UsedDisk S start → (old new : Option (List ℕ)) → Type 0
-  Concludes IsEarly IsEnded (Ok all) used old new = IsEnded all None
-  Concludes IsEarly IsEnded (Err r) used old new =
-      (IsEarly r × IsUntold used old new) ⊎ IsEnded false (Some r)
-
 -- In these a list of what a host came to has of each as what, and by which path.
 
 -- what comes before the disk that is played, in order
@@ -136,16 +104,8 @@ played_with p =
     ++ (named (codes "folder") p.folder ++ (named (codes "status") p.status
     ++ (codes "packets", p.packets.now) ∷ [])))
 
--- and before one that is made equal to a folder
-abbrev pub synced_with : (types : Option (Bor Text)) → (folder : Text) → List (Text × Text)
-synced_with types folder = named (codes "types") types ++ (codes "folder", folder) ∷ []
-
 -- why nothing is played: there is no table of suffixes, or no folder of lines, or the disk, or what
 -- is to take the packets, can't be opened
 abbrev pub IsUnplayed : PlayTask → Refusal → Type 0
 IsUnplayed p r =
     IsUntyped p.types r ⊎ IsUnlined p.lines r ⊎ (r ≡ DeviceFault) ⊎ (r ≡ WriteFault)
-
--- why no disk is made equal to a folder
-abbrev pub IsUnsynced : (types : Option (Bor Text)) → Refusal → Type 0
-IsUnsynced types r = IsUntyped types r ⊎ (r ≡ DeviceFault)

@@ -1,4 +1,3 @@
 pub mod Beside
 pub mod Fed
-pub mod Looked
 pub mod Unbegun

@@ -3,7 +3,8 @@ use Rattle.std.specs.Prelude.{◌≡◌, ℕ, ◌<◌, min, Bool, true, false, L
 use Rattle.std.specs.Prelude.{is_some}
 use Rattle.std.specs.Option.{option_map_or}
 use Rattle.disk_model.specs.Disk.{State}
-use Rattle.mot_air.specs.Opening.{EndsBy, Leaves}
+use Rattle.mot_export.specs.Ending.{EndsBy, Leaves}
+use Rattle.mot_air.specs.declared.manner.Manner.{Manner}
 use Rattle.mot_feed.specs.Ends.{ServesAll}
 use Rattle.mot_feed.specs.Feeding.{AreOf, AreTold, EndsFeed, Event, Happen, Stage}
 use Rattle.mot_feed.specs.Feeding.{commands_among, fault_at, is_between_turns}
@@ -26,19 +27,8 @@ use Rattle.mot_playout.specs.Runs.{IsAfter, accepted_commands}
 use Rattle.mot_update.specs.Between.{Telling}
 use Rattle.mot_update.specs.declared.moment.Moment.{Moment}
 
--- How a disk is played: after how many packets the directory is sent again, where changes are
--- followed, or 0 for at each turn's beginning alone, where a change begins the turn anew; after how
--- many packets of a turn a look comes, or 0 for only between turns; how many changed bodies that are
--- not begun come early at most; and how many turns.
-pub record Manner : Type 0 where
-  pub directory : ℕ
-  pub look : ℕ
-  pub early : ℕ
-  pub turns : ℕ
-
-abbrev pub manner : (directory look early turns : ℕ) → Manner
-manner directory look early turns =
-    record { directory = directory; look = look; early = early; turns = turns }
+-- Changes are followed where the directory is sent again within turns; else a change begins the turn
+-- anew.
 
 -- where a server that was opened of a disk that stood for s begins to be played so
 abbrev pub place_at_start : Manner → Standing → Place

@@ -2,15 +2,16 @@
 -- told of it.
 use Rattle.std.specs.Prelude.{◌≡◌, ◌≢◌, ℕ, ◌&&◌, nat_lt, Bool, false, if◌then◌else◌, List, []}
 use Rattle.std.specs.Prelude.{Option, Some, None}
-use Rattle.mot_air.specs.Playing.{Manner, Tale, look_of_feed}
+use Rattle.mot_air.specs.Playing.{Tale, look_of_feed}
+use Rattle.mot_air.specs.declared.manner.Manner.{Manner}
 use Rattle.mot_events.specs.Log.{AreOfFiles, Entry, HearsAll}
 use Rattle.mot_events.specs.declared.event.LookEvent.{LookEvent}
 use Rattle.mot_feed_lines.specs.Answering.{TellsInTurn}
 use Rattle.mot_feed.specs.Feeding.{AreTold}
 use Rattle.mot_folder.specs.Looked.{LooksSoFar, TellsLooks, Watch, so_far, watch}
 use Rattle.mot_numbers.specs.declared.refusal.Refusal.{Refusal}
-use Rattle.mot_outcome.specs.declared.used.Inputs.{Inputs}
 use Rattle.mot_repository.specs.Repository.{RepositoryView}
+use Rattle.mot_shelf.specs.Given.{Given}
 use Rattle.mot_status.specs.Teller.{Hears, Misses, TellerView, TellsAfter, TellsBefore, TellsEnd}
 use Rattle.mot_suffixes.specs.Types.{SuffixType}
 use Rattle.mot_update.specs.Between.{Telling}
@@ -80,8 +81,8 @@ tells_lines same between w old new moment =
 
 -- of these sources the looks gave that, and something was refused in them, or not; and so much was
 -- told
-pub record HasSeen (end : Sources) (given : Inputs) (refused : Bool) (last : TellerView) : Type 0 where
-  pub looks : end.looks.given ≡ given.looks.all
+pub record HasSeen (end : Sources) (given : List Given) (refused : Bool) (last : TellerView) : Type 0 where
+  pub looks : end.looks.given ≡ given
   pub any : end.looks.refused ≡ refused
   pub teller : end.teller ≡ last
 
@@ -90,24 +91,26 @@ pub record HasSeen (end : Sources) (given : Inputs) (refused : Bool) (last : Tel
 -- reads, those of looks and of lines, and this is what each read of lines gave. All that is told, in
 -- order: before each packet and after it, and each line with its reply. So who tells became of the
 -- first the last.
-abbrev pub tale_told : Same → Option Watch → (reads : Option (List ℕ × ℕ)) → Manner → Inputs
-    → (refused : Bool) → (first last : TellerView) → Tale
-tale_told same w None how given refused first last limit c stage events commands marks made =
-    (end : Sources) × HasSeen end given refused last × (given.lines.notes.all ≡ [])
+abbrev pub tale_told : Same → Option Watch → (reads : Option (List ℕ × ℕ)) → Manner
+    → (given : List Given) → (read : List (List ℕ)) → (refused : Bool)
+    → (first last : TellerView) → Tale
+tale_told same w None how given read refused first last limit c stage events commands marks made =
+    (end : Sources) × HasSeen end given refused last × (read ≡ [])
     × AreTold (tells_alone same w) (look_of_feed how) limit (first_sources [] first) c stage events
     commands marks end made
-tale_told same w (Some (hand, between)) how given refused first last limit c stage events commands
-    marks made =
-    (end : Sources) × HasSeen end given refused last × (end.lines ≡ given.lines.notes.all)
+tale_told same w (Some (hand, between)) how given read refused first last limit c stage events
+    commands marks made =
+    (end : Sources) × HasSeen end given refused last × (end.lines ≡ read)
     × AreTold (tells_lines same between w) (look_of_feed how) limit (first_sources hand first) c
     stage events commands marks end made
 
 -- the same, whoever tells
-abbrev pub tale_with : Option Watch → (reads : Option (List ℕ × ℕ)) → Manner → Inputs
-    → (refused : Bool) → Tale
-tale_with w reads how given refused limit c stage events commands marks made =
+abbrev pub tale_with : Option Watch → (reads : Option (List ℕ × ℕ)) → Manner
+    → (given : List Given) → (read : List (List ℕ)) → (refused : Bool) → Tale
+tale_with w reads how given read refused limit c stage events commands marks made =
     (same : Same) × (first last : TellerView)
-    × tale_told same w reads how given refused first last limit c stage events commands marks made
+    × tale_told same w reads how given read refused first last limit c stage events commands marks
+    made
 
 -- Where playing came to its end, that is told, and then the log has these bytes; else nothing more is
 -- told.

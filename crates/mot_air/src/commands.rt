@@ -1,30 +1,23 @@
 //! The commands on air, over any streams.
-ghost use Rattle.std.specs.Prelude.{◌≡◌, ◌⊎◌, ◌++◌, ◌∷◌, [], codes, false, option_map};
-ghost use Rattle.std.specs.Result.{result_unwrap_or};
-ghost use Rattle.mot_air.specs.Commands.{Concludes, ExportsFile, InspectsFile, IsUnplayed, IsUnsynced};
-ghost use Rattle.mot_air.specs.Commands.{PlaysTask, SyncsTask, SyncsTo, played_with, synced_with};
-ghost use Rattle.mot_air.specs.Playing.{Manner};
-ghost use Rattle.mot_air.specs.Syncing.{Syncs};
+ghost use Rattle.std.specs.Prelude.{◌≡◌, ◌++◌, codes, option_map};
+ghost use Rattle.mot_air.specs.Commands.{IsUnplayed};
+ghost use Rattle.mot_outcome.specs.Outcome.{Concludes};
+ghost use Rattle.mot_air.specs.Commands.{PlaysTask, played_with};
+ghost use Rattle.mot_air.specs.declared.manner.Manner.{Manner};
 ghost use Rattle.mot_air.specs.Telling.{watch_in, watched};
 ghost use Rattle.mot_endpoints.specs.Opened.{named};
-ghost use Rattle.mot_numbers.specs.declared.refusal.Refusal.TheVariants.{DeviceFault};
-ghost use Rattle.mot_outcome.specs.Outcome.{Finishes, Opens};
-ghost use Rattle.mot_playout.specs.Attempts.{fault_of};
-ghost use Rattle.mot_shelf.specs.Seen.{given_of};
+ghost use Rattle.mot_outcome.specs.Outcome.{Opens};
 
-use crate::Ended;
-use crate::missing::folder_cause;
 use crate::on_air::{Airing, play_file};
-use crate::playing::{Followed, sync_disk};
+use crate::playing::Followed;
 use disk_model::Disk;
 use disk_store::Start;
 use mot_cli::{LookRules, PlayTask};
-use mot_endpoints::{Cause, Host, Others, StatusFile, file_types, line_folder};
-use mot_export::{export_disk, inspect_disk};
-use mot_files::{HostSystem, System};
-use mot_folder::{FileTypes, Folder};
-use mot_outcome::{Beside, Finished};
-use mot_shelf::{Seen, Shelf, SystemShelf};
+use mot_endpoints::{Host, Others, StatusFile, file_types, line_folder};
+use mot_files::HostSystem;
+use mot_folder::FileTypes;
+use mot_outcome::Finished;
+use mot_shelf::SystemShelf;
 use std::alloc::Global;
 use std::io::Write;
 
@@ -106,129 +99,5 @@ fn status_file<'a>(
     match path {
         Some(path) => Some(host.status(path, disk)),
         None => None,
-    }
-}
-
-/// Makes the carousel of the disk of the file at the path equal to the files of a folder that have
-/// one of the known suffixes, or of those that a file adds.
-pub fn sync<'a, B: Start, W: Write>(
-    host: &mut Host<'a>,
-    alloc: Global,
-    path: &str,
-    folder: &'a str,
-    types: Option<&str>,
-    rules: LookRules,
-    start: B,
-    log: &mut W,
-) -> Finished<B, bool>
-    ensures ended { Concludes (IsUnsynced types.entry) (λ all ending. SyncsTask types.entry rules
-        folder.now all ending result.disk (W.contents log.old) (W.contents log.new))
-        result.result result.disk (W.contents log.old) (W.contents log.new) }
-    ensures opens { Opens (synced_with types.entry folder.now) path.now result.disk
-        host.old.paths.all host.new.paths.all }
-{
-    match file_types(host, alloc, types) {
-        Ok(types) => sync_file(host, alloc, path, folder, &types, rules, start, log),
-        Err(unbegun) => Finished::unbegun(unbegun.refusal, unbegun.cause, start),
-    }
-}
-
-/// Makes the carousel of the disk of the file at the path equal to a folder.
-fn sync_file<'a, B: Start, W: Write>(
-    host: &mut Host<'a>,
-    alloc: Global,
-    path: &str,
-    folder: &'a str,
-    types: &FileTypes,
-    rules: LookRules,
-    start: B,
-    log: &mut W,
-) -> Finished<B, bool>
-    ensures ended { Concludes (λ r. r ≡ DeviceFault) (λ all ending. SyncsTo types.now rules
-        folder.now all ending (W.contents log.old) (W.contents log.new) result.disk)
-        result.result result.disk (W.contents log.old) (W.contents log.new) }
-    ensures opens { Opens ((codes "folder", folder.now) ∷ []) path.now result.disk
-        host.old.paths.all host.new.paths.all }
-{
-    let shelf = host.folder(folder, rules.at_once);
-    match host.disk(path, start) {
-        Ok(disk) => {
-            let (ended, cause, seen) = sync_shelf(
-                alloc,
-                disk,
-                shelf,
-                types,
-                rules.allow_empty,
-                log,
-            );
-            Finished::of_file(ended, Beside::folder(seen), cause)
-        }
-        Err(unopened) => Finished::unopened(unopened),
-    }
-}
-
-/// Makes the carousel of the disk equal to a folder. Why the folder was not opened, and what it
-/// gave, are handed out. (It is a function of its own, for any system of files, since calls at the
-/// program's own take longer to prove.)
-pub(crate) fn sync_shelf<Y: System + Drop, D: Disk, W: Write>(
-    alloc: Global,
-    disk: D,
-    shelf: SystemShelf<'_, Y>,
-    types: &FileTypes,
-    allows_empty: bool,
-    log: &mut W,
-) -> (Ended<D, bool>, Option<Cause>, Seen)
-    ensures { Syncs types.now allows_empty shelf.entry.path.now (given_of result.2)
-        (D.state disk) (D.state result.0.disk) (result_unwrap_or result.0.result false)
-        (fault_of result.0.result) (W.contents log.old) (W.contents log.new) }
-{
-    let mut folder = Folder::new(alloc, shelf, types, allows_empty);
-    let ended = sync_disk(alloc, disk, &mut folder, log);
-    let cause = folder_cause(folder.shelf.fault());
-    (ended, cause, folder.shelf.into_seen())
-}
-
-/// Prints the carousel of the disk of the file at the path as lines.
-pub fn export_file<B: Start, W: Write>(
-    host: &mut Host<'_>,
-    alloc: Global,
-    path: &str,
-    start: B,
-    writer: &mut W,
-) -> Finished<B, ()>
-    ensures ended { Finishes (λ r. r ≡ DeviceFault) (λ ending used.
-        ExportsFile ending used (W.contents writer.old) (W.contents writer.new))
-        result (W.contents writer.old) (W.contents writer.new) }
-    ensures opens { Opens [] path.now result.disk host.old.paths.all host.new.paths.all }
-{
-    match host.disk(path, start) {
-        Ok(disk) => {
-            let ended = export_disk(alloc, disk, writer);
-            Finished::of_file(ended, Beside::nothing(), None)
-        }
-        Err(unopened) => Finished::unopened(unopened),
-    }
-}
-
-/// Tells the sizes of the disk of the file at the path.
-pub fn inspect_file<B: Start, W: Write>(
-    host: &mut Host<'_>,
-    alloc: Global,
-    path: &str,
-    rate: Option<u32>,
-    start: B,
-    writer: &mut W,
-) -> Finished<B, ()>
-    ensures ended { Finishes (λ r. r ≡ DeviceFault) (λ ending used.
-        InspectsFile rate ending used (W.contents writer.old) (W.contents writer.new))
-        result (W.contents writer.old) (W.contents writer.new) }
-    ensures opens { Opens [] path.now result.disk host.old.paths.all host.new.paths.all }
-{
-    match host.disk(path, start) {
-        Ok(disk) => {
-            let ended = inspect_disk(alloc, disk, rate, writer);
-            Finished::of_file(ended, Beside::nothing(), None)
-        }
-        Err(unopened) => Finished::unopened(unopened),
     }
 }

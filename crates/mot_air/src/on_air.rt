@@ -1,15 +1,14 @@
 //! Playing the disk of a file into what a path names.
-ghost use Rattle.std.specs.Prelude.{◌≡◌, ◌≢◌, ◌⊎◌, ◌-◌, ℕ, [], ◌∷◌, false, true, Some, None, Err, Ok, codes};
+ghost use Rattle.std.specs.Prelude.{◌≡◌, ◌⊎◌, ◌-◌, ℕ, [], ◌∷◌, false, true, Some, None, Err, Ok, codes};
 ghost use Rattle.std.specs.Prelude.{◌++◌, IfErr, IfOk, List, MatchResult, option_map, unwrap_or};
 ghost use Rattle.std.specs.Io.KnownBytes.{Keeps};
 ghost use Rattle.clap.specs.Words.{Text};
 ghost use Rattle.disk_store.specs.Beginning.{IsFirst};
 ghost use Rattle.mot_air.specs.Directory.{IsFrame, directory_of, early_of, look_of};
-ghost use Rattle.mot_air.specs.Commands.{Concludes};
 ghost use Rattle.mot_air.specs.Inner.Unbegun.{IsUnbegun};
 ghost use Rattle.mot_air.specs.Playing.{Plays};
 ghost use Rattle.mot_air.specs.Commands.{PlaysAsked, PlaysTo, is_all_done, played_as};
-ghost use Rattle.mot_outcome.specs.Outcome.{Opens};
+ghost use Rattle.mot_outcome.specs.Outcome.{Concludes, Opens};
 ghost use Rattle.mot_air.specs.Telling.{EndsAs, tale_told, tale_with, watch_in, watched};
 ghost use Rattle.mot_endpoints.specs.Opened.{BeginsTo};
 ghost use Rattle.mot_endpoints.specs.Packets.{IsTarget, begun_of, target_of};
@@ -20,22 +19,22 @@ ghost use Rattle.mot_status.specs.Teller.{TellerView, starts};
 use crate::Ended;
 use crate::answered::answered;
 use crate::frames::frame_on;
-use crate::missing::folder_cause;
-use crate::playing::{Aired, Followed, play_and_answer, play_disk};
+use crate::manner::Manner;
+use crate::playing::{Followed, PlayEnd, play_and_answer, play_disk};
 use disk_model::Disk;
 use disk_store::{BegunFile, Start, WasThere};
 use mot_cli::PlayTask;
-use mot_endpoints::{Cause, Host, OpenPackets, StatusFile, Taken, Target};
+use mot_endpoints::{Cause, Host, OpenPackets, StatusFile, Target};
 use mot_events::LookEvent;
 use mot_files::{HostSystem, System};
 use mot_line_folder::LineFolder;
 use mot_numbers::Refusal;
-use mot_outcome::{Beside, Finished, Inputs};
+use mot_outcome::Finished;
 use mot_packets::Outlet;
 use mot_shelf::{Shelf, SystemShelf};
 use mot_status::Telling;
 use std::alloc::Global;
-use std::io::{self, Write};
+use std::io::Write;
 
 /// After how many packets the directory is sent again if playing has no end, and a frame holds one. So
 /// many take 8.2 seconds: with the group under way and itself it is there within ten.
@@ -59,19 +58,6 @@ pub(crate) struct Airing<'a, 't, F: Shelf + Drop, Y: System + Drop> {
     pub(crate) lines: Option<LineFolder<'a, Y>>,
     /// The file that the status is written to, if one is given.
     pub(crate) status: Option<StatusFile<'a, Y>>,
-}
-
-/// What playing came to, and why packets were not taken.
-#[derive(Drop)]
-struct Played<D: Disk> {
-    ended: Ended<D, ()>,
-    /// Whether a look at the folder refused a file, or did not list it.
-    any_refused: bool,
-    /// What each write of packets took.
-    taken: Taken,
-    /// What was given.
-    inputs: Inputs,
-    cause: Option<Cause>,
 }
 
 /// Plays the disk of the file that the words name into what they name for packets. The log goes to
@@ -161,19 +147,9 @@ fn play_both<B: Start, P: System + Drop, F: Shelf + Drop, Y: System + Drop, W: W
         → Opens others path result.disk before after }
 {
     let target = opened.target();
-    let Played {
-        ended,
-        any_refused,
-        taken,
-        inputs,
-        cause,
-    } = play_into(alloc, disk, opened, airing, writer, errors);
-    let beside = Beside::played(taken, inputs);
-    Finished::of_file(
-        answered(ended, is_all_done(target, any_refused)),
-        beside,
-        cause,
-    )
+    let end = play_into(alloc, disk, opened, airing, writer, errors);
+    let all_done = is_all_done(target, end.any_refused);
+    Finished::of_file(answered(end.ended, all_done), end.beside, end.cause)
 }
 
 /// Whether all is done that playing into the target is to do. A file is to show the folder; of a
@@ -195,19 +171,20 @@ fn play_into<D: Disk, P: System + Drop, F: Shelf + Drop, Y: System + Drop, W: Wr
     airing: Airing<'_, '_, F, Y>,
     writer: &mut W,
     errors: &mut E,
-) -> Played<D>
+) -> PlayEnd<D>
     ensures played { PlaysAsked (target_of opened.entry)
         (λ frame. let how = played_as airing.entry.task frame in
         tale_with (watched airing.entry.folder (λ followed. watch_in how (F.path followed.shelf)
         followed.types.now followed.allows_empty))
         (option_map (λ lines. (lines.hand, lines.every - 1)) airing.entry.lines) how
-        result.inputs result.any_refused) airing.entry.task (fault_of result.ended.result)
-        (begun_of opened.entry) result.taken.notes.all
+        result.beside.looks.all result.beside.lines.notes.all result.any_refused)
+        airing.entry.task (fault_of result.ended.result)
+        (begun_of opened.entry) result.beside.taken.notes.all
         (D.state disk) (D.state result.ended.disk) }
     ensures quiet { target_of opened.entry ≡ Target.Output
         → Keeps (W.contents writer.old) (W.contents writer.new) }
     ensures placed { target_of opened.entry ≡ Target.File
-        → fault_of result.ended.result ≡ None → result.taken.is_placed ≡ true }
+        → fault_of result.ended.result ≡ None → result.beside.taken.is_placed ≡ true }
 {
     match opened.target() {
         Target::Output => play_opened(alloc, disk, opened, airing, errors),
@@ -224,53 +201,55 @@ fn air<D: Disk, F: Shelf + Drop, Y: System + Drop, O: Outlet, L: Write + Drop>(
     outlet: &mut O,
     airing: Airing<'_, '_, F, Y>,
     log: L,
-) -> Aired<D, L>
+) -> (PlayEnd<D>, L)
     ensures { let same = ⟦<LookEvent as PartialEq>⟧.eq in
         let reads = option_map (λ lines. (lines.hand, lines.every - 1)) airing.entry.lines in
-        (frame : ℕ) × IsFrame airing.entry.task.rate frame (fault_of result.ended.result)
-        (D.state disk) (D.state result.ended.disk)
+        (frame : ℕ) × IsFrame airing.entry.task.rate frame (fault_of result.0.ended.result)
+        (D.state disk) (D.state result.0.ended.disk)
         × (let how = played_as airing.entry.task frame in
         (last : TellerView) × Plays (tale_told same
         (watched airing.entry.folder (λ followed. watch_in how (F.path followed.shelf)
-        followed.types.now followed.allows_empty)) reads how result.inputs
-        result.any_refused (starts Y.calls (L.contents log) (record {
+        followed.types.now followed.allows_empty)) reads how result.0.beside.looks.all
+        result.0.beside.lines.notes.all result.0.any_refused (starts Y.calls (L.contents log) (record {
           disk = airing.entry.task.disk;
           status = airing.entry.status;
           levels = airing.entry.task.levels;
-        })) last) how (fault_of result.ended.result)
+        })) last) how (fault_of result.0.ended.result)
         (O.writes outlet.old) (O.writes outlet.new)
-        (D.state disk) (D.state result.ended.disk)
-        × EndsAs reads (fault_of result.ended.result) how.turns last (L.contents result.log)) }
+        (D.state disk) (D.state result.0.ended.disk)
+        × EndsAs reads (fault_of result.0.ended.result) how.turns last (L.contents result.1)) }
 {
     match frame_on(alloc, disk, airing.task.rate) {
-        Ok((frame, disk)) => air_in_frames(alloc, disk, outlet, airing, log, frame),
-        Err(refused) => Aired::unopened(refused, log),
+        Ok((frame, disk)) => {
+            let how = manner_of(airing.task, frame);
+            air_so(alloc, disk, outlet, airing, log, how)
+        }
+        Err(refused) => (PlayEnd::unopened(refused), log),
     }
 }
 
-/// The same if a frame holds so many packets.
-fn air_in_frames<D: Disk, F: Shelf + Drop, Y: System + Drop, O: Outlet, L: Write + Drop>(
+/// The same in this manner.
+fn air_so<D: Disk, F: Shelf + Drop, Y: System + Drop, O: Outlet, L: Write + Drop>(
     alloc: Global,
     disk: D,
     outlet: &mut O,
     airing: Airing<'_, '_, F, Y>,
     log: L,
-    frame: u32,
-) -> Aired<D, L>
-    ensures { let how = played_as airing.entry.task frame in
-        let same = ⟦<LookEvent as PartialEq>⟧.eq in
+    how: Manner,
+) -> (PlayEnd<D>, L)
+    ensures { let same = ⟦<LookEvent as PartialEq>⟧.eq in
         let reads = option_map (λ lines. (lines.hand, lines.every - 1)) airing.entry.lines in
         (last : TellerView) × Plays (tale_told same
         (watched airing.entry.folder (λ followed. watch_in how (F.path followed.shelf)
-        followed.types.now followed.allows_empty)) reads how result.inputs
-        result.any_refused (starts Y.calls (L.contents log) (record {
+        followed.types.now followed.allows_empty)) reads how result.0.beside.looks.all
+        result.0.beside.lines.notes.all result.0.any_refused (starts Y.calls (L.contents log) (record {
           disk = airing.entry.task.disk;
           status = airing.entry.status;
           levels = airing.entry.task.levels;
-        })) last) how (fault_of result.ended.result)
+        })) last) how (fault_of result.0.ended.result)
         (O.writes outlet.old) (O.writes outlet.new)
-        (D.state disk) (D.state result.ended.disk)
-        × EndsAs reads (fault_of result.ended.result) how.turns last (L.contents result.log) }
+        (D.state disk) (D.state result.0.ended.disk)
+        × EndsAs reads (fault_of result.0.ended.result) how.turns last (L.contents result.1) }
 {
     let Airing {
         task,
@@ -278,22 +257,14 @@ fn air_in_frames<D: Disk, F: Shelf + Drop, Y: System + Drop, O: Outlet, L: Write
         lines,
         status,
     } = airing;
-    let directory = directory_of(task.turns, task.directory, frame);
-    let look = look_of(task.turns, task.look, frame);
-    let early = early_of(task.early);
-    let turns = turns_of(task.turns);
     let telling = Telling {
         disk: task.disk,
         status,
         levels: task.levels,
     };
     match lines {
-        Some(lines) => play_and_answer(
-            alloc, disk, outlet, folder, lines, telling, log, turns, directory, look, early,
-        ),
-        None => play_disk(
-            alloc, disk, outlet, folder, telling, log, turns, directory, look, early,
-        ),
+        Some(lines) => play_and_answer(alloc, disk, outlet, folder, lines, telling, log, how),
+        None => play_disk(alloc, disk, outlet, folder, telling, log, how),
     }
 }
 
@@ -305,52 +276,46 @@ fn play_opened<D: Disk, P: System + Drop, F: Shelf + Drop, Y: System + Drop, L: 
     opened: OpenPackets<'_, P>,
     airing: Airing<'_, '_, F, Y>,
     log: &mut L,
-) -> Played<D>
+) -> PlayEnd<D>
     ensures played { PlaysAsked (target_of opened.entry)
         (λ frame. let how = played_as airing.entry.task frame in
         tale_with (watched airing.entry.folder (λ followed. watch_in how (F.path followed.shelf)
         followed.types.now followed.allows_empty))
         (option_map (λ lines. (lines.hand, lines.every - 1)) airing.entry.lines) how
-        result.inputs result.any_refused) airing.entry.task (fault_of result.ended.result)
-        (begun_of opened.entry) result.taken.notes.all
+        result.beside.looks.all result.beside.lines.notes.all result.any_refused)
+        airing.entry.task (fault_of result.ended.result)
+        (begun_of opened.entry) result.beside.taken.notes.all
         (D.state disk) (D.state result.ended.disk) }
     ensures placed { target_of opened.entry ≡ Target.File
-        → fault_of result.ended.result ≡ None → result.taken.is_placed ≡ true }
+        → fault_of result.ended.result ≡ None → result.beside.taken.is_placed ≡ true }
 {
     let mut opened = opened;
-    let Aired {
+    let (end, _) = air(alloc, disk, &mut opened.writer, airing, log);
+    let PlayEnd {
         ended,
         any_refused,
-        fault,
-        inputs,
-        ..
-    } = air(alloc, disk, &mut opened.writer, airing, log);
-    let Ended {
-        disk,
-        result,
-        reason,
-    } = ended;
-    let (result, cause) = placed(&mut opened, result, fault);
-    let taken = opened.hand_out();
-    Played {
+        cause,
+        beside,
+    } = end;
+    let (result, cause) = placed(&mut opened, ended.result, cause);
+    PlayEnd {
         ended: Ended {
-            disk,
+            disk: ended.disk,
             result,
-            reason,
+            reason: ended.reason,
         },
         any_refused,
-        taken,
-        inputs,
         cause,
+        beside: beside.taking(opened.hand_out()),
     }
 }
 
 /// Gives a new file its place, if playing into it ended so, or takes it away; answers the fault and
-/// its cause. That the folder was not opened is a cause, too.
+/// its cause, which is that one if packets were taken.
 fn placed<P: System + Drop>(
     opened: &mut OpenPackets<'_, P>,
     ended: Result<(), Refusal>,
-    fault: Option<io::Error>,
+    cause: Option<Cause>,
 ) -> (Result<(), Refusal>, Option<Cause>)
     ensures came { (result.0 ≡ ended) ⊎ ((target_of opened.old ≡ Target.File)
         × (ended ≡ Ok tt) × (result.0 ≡ Err WriteFault)) }
@@ -360,7 +325,7 @@ fn placed<P: System + Drop>(
 {
     let cause = match opened.reason() {
         Some(cause) => Some(cause),
-        None => folder_cause(fault),
+        None => cause,
     };
     match ended {
         Ok(()) => match opened.take_place() {
@@ -371,6 +336,18 @@ fn placed<P: System + Drop>(
             opened.take_away();
             (Err(refusal), cause)
         }
+    }
+}
+
+/// How the words ask for a disk to be played, if a frame holds so many packets.
+fn manner_of(task: PlayTask<'_>, frame: u32) -> Manner
+    ensures { result ≡ played_as task.entry frame }
+{
+    Manner {
+        directory: directory_of(task.turns, task.directory, frame),
+        look: look_of(task.turns, task.look, frame),
+        early: early_of(task.early),
+        turns: turns_of(task.turns),
     }
 }
 

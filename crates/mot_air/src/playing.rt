@@ -1,51 +1,42 @@
 //! Playing a disk, and making its carousel equal to a folder.
-ghost use Rattle.std.specs.Prelude.{◌≡◌, ◌≢◌, ◌↔◌, ◌⊎◌, ◌-◌, ℕ, [], IfErr, IsSomeAnd, IsTrue, List};
-ghost use Rattle.std.specs.Prelude.{MatchResult, None, OnOk, Some, false, flat_map, true};
-ghost use Rattle.std.specs.Result.{result_unwrap_or};
-ghost use Rattle.std.specs.Io.KnownBytes.{Appends};
-ghost use Rattle.disk_model.specs.Disk.{KeepsLength};
+ghost use Rattle.std.specs.Prelude.{◌≡◌, ◌≢◌, ◌↔◌, ◌⊎◌, ◌-◌, ℕ, [], IsSomeAnd, IsTrue, List};
+ghost use Rattle.std.specs.Prelude.{None, Some, false, true};
 ghost use Rattle.mot_air.specs.Lives.{AirsOn, KeepsDone};
-ghost use Rattle.mot_air.specs.Playing.{Plays, manner, tale_of};
-ghost use Rattle.mot_air.specs.Syncing.{Syncs};
+ghost use Rattle.mot_air.specs.Playing.{Plays, tale_of};
 ghost use Rattle.mot_air.specs.Telling.{EndsLines, EndsTelling, no_looks, tale_told, watch_in, watched};
-ghost use Rattle.mot_air.specs.Inner.Beside.{Beside, beside, tells_alone_of, tells_answered, tells_lines_of};
+ghost use Rattle.mot_air.specs.Inner.Beside.{SourcesOf, beside, tells_alone_of, tells_answered, tells_lines_of};
 ghost use Rattle.mot_air.specs.Inner.Beside.{tells_reported};
 ghost use Rattle.mot_air.specs.Inner.Fed.{IsEndOf, disk_of, ending_of};
-ghost use Rattle.mot_air.specs.Inner.Looked.{LooksAndTells};
 ghost use Rattle.mot_line_folder.specs.Spooling.{Finishes};
 ghost use Rattle.mot_events.specs.Log.{AreOfFiles, Entry, HearsAll};
-ghost use Rattle.mot_events.specs.Text.{met_line};
-ghost use Rattle.mot_feed.specs.Feeding.{IsFeedFault};
 ghost use Rattle.mot_folder.specs.Looked.{so_far, watch};
-ghost use Rattle.mot_journal.specs.Image.{Standing};
 ghost use Rattle.mot_lines.specs.Hand.{bytes_in_hand};
 ghost use Rattle.mot_numbers.specs.declared.geometry.Geometry.{Geometry};
-ghost use Rattle.mot_numbers.specs.declared.refusal.Refusal.TheVariants.{WriteFault};
 ghost use Rattle.mot_objects.specs.declared.command.Command.{Command};
 ghost use Rattle.mot_export.specs.Opening.{IsUnopened};
-ghost use Rattle.mot_repository.specs.Repository.{Holds};
 ghost use Rattle.mot_playout.specs.Attempts.{fault_of};
 ghost use Rattle.mot_status.specs.Teller.{TellerView, TellsEnd, starts, teller};
-ghost use Rattle.mot_update.specs.Faults.{StaysCalm};
 ghost use Rattle.mot_update.specs.Watching.{looks_known};
 
 use crate::Ended;
+use crate::manner::Manner;
 use disk_model::Disk;
-use mot_events::{LookEvent, add_met_line};
+use mot_endpoints::Cause;
+use mot_events::LookEvent;
 use mot_feed::feed_every;
 use mot_feed_lines::{Lines, Reported};
 use mot_files::System;
-use mot_folder::{FileTypes, Folder, KnownFiles, Looks, look_at_folder};
+use mot_folder::{FileTypes, Folder, Looks};
 use mot_line_folder::{LineFolder, LineNotes, Spool};
 use mot_numbers::Refusal;
-use mot_outcome::Inputs;
+use mot_outcome::Beside;
 use mot_packets::Outlet;
 use mot_playout::{Refused, Server};
 use mot_shelf::{Inlet, LookNotes, Shelf};
 use mot_status::{Reporter, Telling};
 use mot_update::{Facts, NoUpdate, Update, Watch};
 use std::alloc::Global;
-use std::io::{self, Write};
+use std::io::Write;
 
 /// A folder that a carousel is made equal to, and which of its files are objects.
 #[derive(Drop)]
@@ -60,82 +51,62 @@ pub struct Followed<'a, S: Shelf + Drop> {
 
 /// What playing came to.
 #[derive(Drop)]
-pub struct Aired<D: Disk, L: Write + Drop> {
+pub struct PlayEnd<D: Disk> {
     /// The disk, and how playing ended.
     pub ended: Ended<D, ()>,
-    /// What took the log.
-    pub log: L,
     /// Whether a look at the folder refused a file, or did not list it.
     pub any_refused: bool,
-    /// Why the folder was not opened at the last look, if it was not.
-    pub fault: Option<io::Error>,
-    /// What was given.
-    pub inputs: Inputs,
+    /// Why it ended so, or why the folder was not opened at the last look, if more is known than the
+    /// refusal says.
+    pub cause: Option<Cause>,
+    /// What was given, and what took the packets.
+    pub beside: Beside,
 }
 
-impl<D: Disk, L: Write + Drop> Aired<D, L> {
+impl<D: Disk> PlayEnd<D> {
     /// Playing ended so, after these looks and with what these reads of lines gave.
-    fn looking<S: Shelf + Drop>(
-        ended: Ended<D, ()>,
-        log: L,
-        looks: Looks<'_, S>,
-        lines: LineNotes,
-    ) -> Self
+    fn looking<S: Shelf + Drop>(ended: Ended<D, ()>, looks: Looks<'_, S>, lines: LineNotes) -> Self
         ensures ended { result.ended ≡ ended }
-        ensures log { result.log ≡ log }
-        ensures looks { result.inputs.looks ≡ looks.entry.looks }
-        ensures lines { result.inputs.lines ≡ lines }
+        ensures looks { result.beside.looks ≡ looks.entry.looks }
+        ensures lines { result.beside.lines ≡ lines }
         ensures refused { result.any_refused ≡ looks.entry.any_refused }
     {
-        Aired {
+        PlayEnd {
             ended,
-            log,
             any_refused: looks.any_refused,
-            fault: looks.folder.shelf.fault(),
-            inputs: Inputs {
-                looks: looks.looks,
-                lines,
-            },
+            cause: Cause::of_folder(looks.folder.shelf.fault()),
+            beside: Beside::heard(looks.looks, lines),
         }
-    }
-
-    /// The disk was not opened: nothing was given, and the log is as it was.
-    pub(crate) fn unopened(refused: Refused<D>, log: L) -> Self
-        ensures ended { (fault_of result.ended.result ≡ Some refused.refusal)
-            × (result.ended.disk ≡ refused.disk) }
-        ensures log { result.log ≡ log }
-        ensures inputs { (result.inputs.looks.all ≡ []) × (result.inputs.lines.notes.all ≡ []) }
-        ensures refused { result.any_refused ≡ false }
-    {
-        Aired::unwatched(Ended::unopened(refused), log, LineNotes::new())
     }
 
     /// Playing ended so, without a folder, with what these reads of lines gave.
-    fn unwatched(ended: Ended<D, ()>, log: L, lines: LineNotes) -> Self
+    fn unwatched(ended: Ended<D, ()>, lines: LineNotes) -> Self
         ensures ended { result.ended ≡ ended }
-        ensures log { result.log ≡ log }
-        ensures looks { result.inputs.looks.all ≡ [] }
-        ensures lines { result.inputs.lines ≡ lines }
+        ensures looks { result.beside.looks.all ≡ [] }
+        ensures lines { result.beside.lines ≡ lines }
         ensures refused { result.any_refused ≡ false }
     {
-        Aired {
+        PlayEnd {
             ended,
-            log,
             any_refused: false,
-            fault: None,
-            inputs: Inputs {
-                looks: LookNotes::new(),
-                lines,
-            },
+            cause: None,
+            beside: Beside::heard(LookNotes::new(), lines),
         }
+    }
+
+    /// The disk was not opened, and nothing was given.
+    pub(crate) fn unopened(refused: Refused<D>) -> Self
+        ensures ended { (fault_of result.ended.result ≡ Some refused.refusal)
+            × (result.ended.disk ≡ refused.disk) }
+        ensures given { (result.beside.looks.all ≡ []) × (result.beside.lines.notes.all ≡ []) }
+        ensures refused { result.any_refused ≡ false }
+    {
+        PlayEnd::unwatched(Ended::unopened(refused), LineNotes::new())
     }
 }
 
-/// Opens the disk and plays it into the outlet, so many turns, with looks at the folder if there is
-/// one. The directory is sent again after so many packets, as `feed_every` does, and after so many of
-/// a turn a look comes; with 0 it comes between turns alone. At most `early` changed bodies come before
-/// the turn goes on. The lines of the looks, of the start and of the end are written to the log, and
-/// the status to its file.
+/// Opens the disk and plays it into the outlet, with looks at the folder if there is one. The lines
+/// of the looks, of the start and of the end are written to the log, and the status to its file.
 pub fn play_disk<S: Shelf + Drop, F: System + Drop, D: Disk, O: Outlet, L: Write + Drop>(
     alloc: Global,
     disk: D,
@@ -143,35 +114,27 @@ pub fn play_disk<S: Shelf + Drop, F: System + Drop, D: Disk, O: Outlet, L: Write
     folder: Option<Followed<'_, S>>,
     telling: Telling<'_, F>,
     log: L,
-    turns: u64,
-    directory: u32,
-    look: u32,
-    early: u32,
-) -> Aired<D, L>
-    ensures { let how = manner directory look early turns in
-        let same = ⟦<LookEvent as PartialEq>⟧.eq in
+    how: Manner,
+) -> (PlayEnd<D>, L)
+    ensures { let same = ⟦<LookEvent as PartialEq>⟧.eq in
         (last : TellerView) × Plays (tale_told same
         (watched folder.entry (λ followed. watch_in how (S.path followed.shelf)
-        followed.types.now followed.allows_empty)) None how result.inputs
-        result.any_refused (starts F.calls (L.contents log) telling.entry) last)
-        how (fault_of result.ended.result) (O.writes outlet.old) (O.writes outlet.new)
-        (D.state disk) (D.state result.ended.disk)
-        × EndsTelling (fault_of result.ended.result) turns last (L.contents result.log) }
+        followed.types.now followed.allows_empty)) None how result.0.beside.looks.all
+        result.0.beside.lines.notes.all result.0.any_refused (starts F.calls (L.contents log) telling.entry) last)
+        how (fault_of result.0.ended.result) (O.writes outlet.old) (O.writes outlet.new)
+        (D.state disk) (D.state result.0.ended.disk)
+        × EndsTelling (fault_of result.0.ended.result) how.turns last (L.contents result.1) }
 {
     match folder {
         Some(followed) => {
-            let update = looks_at(alloc, followed, directory, look);
-            let (ended, looks, log) = play_telling(
-                alloc, disk, update, outlet, telling, log, turns, directory, look, early,
-            );
-            Aired::looking(ended, log, looks, LineNotes::new())
+            let update = looks_at(alloc, followed, how);
+            let (ended, looks, log) = play_telling(alloc, disk, update, outlet, telling, log, how);
+            (PlayEnd::looking(ended, looks, LineNotes::new()), log)
         }
         None => {
             let update = NoUpdate;
-            let (ended, _, log) = play_telling(
-                alloc, disk, update, outlet, telling, log, turns, directory, look, early,
-            );
-            Aired::unwatched(ended, log, LineNotes::new())
+            let (ended, _, log) = play_telling(alloc, disk, update, outlet, telling, log, how);
+            (PlayEnd::unwatched(ended, LineNotes::new()), log)
         }
     }
 }
@@ -188,36 +151,33 @@ pub fn play_and_answer<S: Shelf + Drop, F: System + Drop, D: Disk, O: Outlet, L:
     lines: LineFolder<'_, F>,
     telling: Telling<'_, F>,
     log: L,
-    turns: u64,
-    directory: u32,
-    look: u32,
-    early: u32,
-) -> Aired<D, L>
-    ensures { let how = manner directory look early turns in
-        let same = ⟦<LookEvent as PartialEq>⟧.eq in
+    how: Manner,
+) -> (PlayEnd<D>, L)
+    ensures { let same = ⟦<LookEvent as PartialEq>⟧.eq in
         (last : TellerView) × Plays (tale_told same
         (watched folder.entry (λ followed. watch_in how (S.path followed.shelf)
         followed.types.now followed.allows_empty))
-        (Some (lines.entry.hand, lines.entry.every - 1)) how result.inputs result.any_refused
+        (Some (lines.entry.hand, lines.entry.every - 1)) how result.0.beside.looks.all
+        result.0.beside.lines.notes.all result.0.any_refused
         (starts F.calls (L.contents log) telling.entry) last)
-        how (fault_of result.ended.result) (O.writes outlet.old) (O.writes outlet.new)
-        (D.state disk) (D.state result.ended.disk)
-        × EndsLines (fault_of result.ended.result) turns last (L.contents result.log) }
+        how (fault_of result.0.ended.result) (O.writes outlet.old) (O.writes outlet.new)
+        (D.state disk) (D.state result.0.ended.disk)
+        × EndsLines (fault_of result.0.ended.result) how.turns last (L.contents result.1) }
 {
     match folder {
         Some(followed) => {
-            let update = looks_at(alloc, followed, directory, look);
+            let update = looks_at(alloc, followed, how);
             let (ended, looks, log, lines) = play_answering(
-                alloc, disk, update, outlet, lines, telling, log, turns, directory, look, early,
+                alloc, disk, update, outlet, lines, telling, log, how,
             );
-            Aired::looking(ended, log, looks, lines)
+            (PlayEnd::looking(ended, looks, lines), log)
         }
         None => {
             let update = NoUpdate;
             let (ended, _, log, lines) = play_answering(
-                alloc, disk, update, outlet, lines, telling, log, turns, directory, look, early,
+                alloc, disk, update, outlet, lines, telling, log, how,
             );
-            Aired::unwatched(ended, log, lines)
+            (PlayEnd::unwatched(ended, lines), log)
         }
     }
 }
@@ -232,32 +192,19 @@ fn play_telling<D: Disk, U: Update + Facts + Drop, F: System + Drop, O: Outlet, 
     outlet: &mut O,
     telling: Telling<'_, F>,
     log: L,
-    turns: u64,
-    directory: u32,
-    look: u32,
-    early: u32,
+    how: Manner,
 ) -> (Ended<D, ()>, U, L)
-    ensures { let how = manner directory look early turns in
-        let same = ⟦<LookEvent as PartialEq>⟧.eq in
+    ensures { let same = ⟦<LookEvent as PartialEq>⟧.eq in
         (last : TellerView) × Plays (tale_of (tells_alone_of same U.known U.tells) how
         (beside update [] (starts F.calls (L.contents log) telling.entry))
         (beside result.1 [] last)) how (fault_of result.0.result) (O.writes outlet.old)
         (O.writes outlet.new) (D.state disk) (D.state result.0.disk)
-        × EndsTelling (fault_of result.0.result) turns last (L.contents result.2) }
+        × EndsTelling (fault_of result.0.result) how.turns last (L.contents result.2) }
 {
     let watch = Reporter::new(alloc, log, telling);
     let mut reported = Reported { update, watch };
-    let fed = feed_reported(
-        alloc,
-        disk,
-        &mut reported,
-        outlet,
-        turns,
-        directory,
-        look,
-        early,
-    );
-    let ended = end_telling(alloc, fed, turns, &mut reported);
+    let fed = feed_reported(alloc, disk, &mut reported, outlet, how);
+    let ended = end_telling(alloc, fed, how.turns, &mut reported);
     let (update, watch) = reported.into_parts();
     (ended, update, watch.into_log())
 }
@@ -268,17 +215,13 @@ fn feed_reported<D: Disk, U: Update + Facts + Drop, T: Watch + Drop, O: Outlet>(
     disk: D,
     reported: &mut Reported<U, T>,
     outlet: &mut O,
-    turns: u64,
-    directory: u32,
-    look: u32,
-    early: u32,
+    how: Manner,
 ) -> Fed<D>
-    ensures { let how = manner directory look early turns in
-        Plays (tale_of (tells_reported T.begins T.ends U.known U.tells) how
+    ensures { Plays (tale_of (tells_reported T.begins T.ends U.known U.tells) how
         reported.old reported.new) how (ending_of result)
         (O.writes outlet.old) (O.writes outlet.new) (D.state disk) (D.state (disk_of result)) }
 {
-    feed_disk(alloc, disk, reported, outlet, turns, directory, look, early)
+    feed_disk(alloc, disk, reported, outlet, how)
 }
 
 /// The same as `play_telling`, with answers to the lines of the files in a folder. What was read of
@@ -291,26 +234,20 @@ fn play_answering<D: Disk, U: Update + Facts + Drop, F: System + Drop, O: Outlet
     lines: LineFolder<'_, F>,
     telling: Telling<'_, F>,
     log: L,
-    turns: u64,
-    directory: u32,
-    look: u32,
-    early: u32,
+    how: Manner,
 ) -> (Ended<D, ()>, U, L, LineNotes)
-    ensures { let how = manner directory look early turns in
-        let same = ⟦<LookEvent as PartialEq>⟧.eq in
-        (last : Beside U) × (last.update ≡ result.1) × (last.lines ≡ result.3.notes.all)
+    ensures { let same = ⟦<LookEvent as PartialEq>⟧.eq in
+        (last : SourcesOf U) × (last.update ≡ result.1) × (last.lines ≡ result.3.notes.all)
         × Plays (tale_of (tells_lines_of same (lines.entry.every - 1) U.known U.tells) how
         (beside update lines.entry.hand (starts F.calls (L.contents log) telling.entry))
         last) how (fault_of result.0.result) (O.writes outlet.old)
         (O.writes outlet.new) (D.state disk) (D.state result.0.disk)
-        × EndsLines (fault_of result.0.result) turns last.teller (L.contents result.2) }
+        × EndsLines (fault_of result.0.result) how.turns last.teller (L.contents result.2) }
 {
     let watch = Reporter::new(alloc, log, telling);
     let mut lines = lines_between(alloc, lines, Reported { update, watch });
-    let fed = feed_lines(
-        alloc, disk, &mut lines, outlet, turns, directory, look, early,
-    );
-    let ended = end_lines(alloc, fed, turns, &mut lines);
+    let fed = feed_lines(alloc, disk, &mut lines, outlet, how);
+    let ended = end_lines(alloc, fed, how.turns, &mut lines);
     let (spool, update, watch) = lines.into_parts();
     (ended, update, watch.into_log(), spool.into_lines())
 }
@@ -321,30 +258,25 @@ fn feed_lines<D: Disk, R: Inlet + Drop, U: Update + Facts + Drop, T: Watch + Dro
     disk: D,
     lines: &mut Lines<R, U, T>,
     outlet: &mut O,
-    turns: u64,
-    directory: u32,
-    look: u32,
-    early: u32,
+    how: Manner,
 ) -> Fed<D>
-    ensures { let how = manner directory look early turns in
-        Plays (tale_of (tells_answered (HearsAll T.hears T.misses) T.begins T.ends R.gave U.known
+    ensures { Plays (tale_of (tells_answered (HearsAll T.hears T.misses) T.begins T.ends R.gave U.known
         U.tells) how lines.old lines.new) how (ending_of result)
         (O.writes outlet.old) (O.writes outlet.new) (D.state disk) (D.state (disk_of result)) }
 {
-    feed_disk(alloc, disk, lines, outlet, turns, directory, look, early)
+    feed_disk(alloc, disk, lines, outlet, how)
 }
 
 /// Looks at the folder while a disk is played so: after so many packets, if looks come within turns.
 fn looks_at<'a, S: Shelf + Drop>(
     alloc: Global,
     followed: Followed<'a, S>,
-    directory: u32,
-    look: u32,
+    how: Manner,
 ) -> Looks<'a, S>
-    ensures watch { (early turns : ℕ) → watch (S.path result.folder.shelf) result.folder.types.now
+    ensures watch { watch (S.path result.folder.shelf) result.folder.types.now
         result.folder.allows_empty result.every result.within
-        ≡ watch_in (manner directory look early turns) (S.path followed.entry.shelf)
-        followed.entry.types.now followed.entry.allows_empty }
+        ≡ watch_in how (S.path followed.entry.shelf) followed.entry.types.now
+        followed.entry.allows_empty }
     ensures none { so_far result.left result.looks.all result.any_refused
         (looks_known result.count result.folder.report.events.items result.before.items)
         result.folder.files.known.items ≡ no_looks }
@@ -356,8 +288,8 @@ fn looks_at<'a, S: Shelf + Drop>(
     } = followed;
     let folder = Folder::new(alloc, shelf, types, allows_empty);
     let mut looks = Looks::new(alloc, folder);
-    if directory > 0 && look > 0 {
-        looks.every = u64::from(look);
+    if how.directory > 0 && how.look > 0 {
+        looks.every = u64::from(how.look);
         looks.within = true;
     }
     looks
@@ -379,14 +311,8 @@ fn lines_between<'a, F: System + Drop, U: Update + Facts + Drop, T: Watch + Drop
     Lines::new(alloc, place.spool(alloc), hand, every, reported)
 }
 
-/// What became of a disk that was to be played.
-#[derive(Drop)]
-pub(crate) enum Fed<D: Disk> {
-    /// It was not opened.
-    Unopened(Refused<D>),
-    /// It is open, and feeding came to this.
-    Open(Server<D>, Result<(), Refusal>),
-}
+/// What feeding a disk came to, with the server, or why the disk was not opened.
+type Fed<D> = Result<(Server<D>, Result<(), Refusal>), Refused<D>>;
 
 /// Tells the end, if feeding has come to one, with the last status.
 fn end_telling<D: Disk, U: Update + Facts + Drop, F: System + Drop, L: Write + Drop>(
@@ -401,8 +327,8 @@ fn end_telling<D: Disk, U: Update + Facts + Drop, F: System + Drop, L: Write + D
         (teller F.calls L.contents reported.new.watch).log.bytes }
 {
     match fed {
-        Fed::Unopened(refused) => Ended::unopened(refused),
-        Fed::Open(server, result) => {
+        Err(refused) => Ended::unopened(refused),
+        Ok((server, result)) => {
             tell_end(alloc, &server, result, turns, reported);
             Ended {
                 disk: server.into_disk(),
@@ -457,8 +383,8 @@ fn has_ended<D: Disk>(fed: &Fed<D>) -> bool
     ensures { IsTrue result ↔ (ending_of fed.now ≡ None) }
 {
     match fed {
-        Fed::Open(_, result) => result.is_ok(),
-        Fed::Unopened(_) => false,
+        Ok((_, result)) => result.is_ok(),
+        Err(_) => false,
     }
 }
 
@@ -484,21 +410,15 @@ fn finish<'a, F: System + Drop, U: Update + Facts + Drop, T: Watch + Drop>(
     }
 }
 
-/// Opens the disk and plays it into the outlet, so many turns, with one of these updates in front
-/// of each packet. The directory is sent again after so many packets, as `feed_every` does. A look
-/// may come in front of each packet of a turn, or with 0 between turns alone.
+/// Opens the disk and plays it into the outlet, with one of these updates in front of each packet.
 pub fn play_with<D: Disk, U: Update, O: Outlet>(
     alloc: Global,
     disk: D,
     update: &mut U,
     outlet: &mut O,
-    turns: u64,
-    directory: u32,
-    look: u32,
-    early: u32,
+    how: Manner,
 ) -> Ended<D, ()>
-    ensures ended { let how = manner directory look early turns in
-        Plays (tale_of U.tells how update.old update.new) how (fault_of result.result)
+    ensures ended { Plays (tale_of U.tells how update.old update.new) how (fault_of result.result)
         (O.writes outlet.old) (O.writes outlet.new) (D.state disk) (D.state result.disk) }
 
     // If commands were done in the lives before, it goes on from them.
@@ -506,13 +426,13 @@ pub fn play_with<D: Disk, U: Update, O: Outlet>(
         → KeepsDone g first done (D.state disk) → (D.state result.disk).IsHonest
         → IsSomeAnd (fault_of result.result)
         (λ r. IsUnopened r (D.state disk) (D.state result.disk))
-        ⊎ (let how = manner directory look early turns in AirsOn g first done
-        (tale_of U.tells how update.old update.new) how (fault_of result.result)
-        (O.writes outlet.old) (O.writes outlet.new) (D.state disk) (D.state result.disk)) }
+        ⊎ AirsOn g first done (tale_of U.tells how update.old update.new) how
+        (fault_of result.result) (O.writes outlet.old) (O.writes outlet.new) (D.state disk)
+        (D.state result.disk) }
 {
-    match feed_disk(alloc, disk, update, outlet, turns, directory, look, early) {
-        Fed::Unopened(refused) => Ended::unopened(refused),
-        Fed::Open(server, result) => Ended {
+    match feed_disk(alloc, disk, update, outlet, how) {
+        Err(refused) => Ended::unopened(refused),
+        Ok((server, result)) => Ended {
             disk: server.into_disk(),
             result,
             reason: None,
@@ -520,31 +440,26 @@ pub fn play_with<D: Disk, U: Update, O: Outlet>(
     }
 }
 
-/// Opens the disk and plays it into the outlet, so many turns, as `play_with` does.
+/// Opens the disk and plays it into the outlet, as `play_with` does.
 fn feed_disk<D: Disk, U: Update, O: Outlet>(
     alloc: Global,
     disk: D,
     update: &mut U,
     outlet: &mut O,
-    turns: u64,
-    directory: u32,
-    look: u32,
-    early: u32,
+    how: Manner,
 ) -> Fed<D>
-    ensures ended { let how = manner directory look early turns in
-        Plays (tale_of U.tells how update.old update.new) how (ending_of result)
+    ensures ended { Plays (tale_of U.tells how update.old update.new) how (ending_of result)
         (O.writes outlet.old) (O.writes outlet.new) (D.state disk) (D.state (disk_of result)) }
     ensures lives { (g : Geometry) (first : ℕ) (done : List Command)
         → KeepsDone g first done (D.state disk) → (D.state (disk_of result)).IsHonest
         → IsSomeAnd (ending_of result)
         (λ r. IsUnopened r (D.state disk) (D.state (disk_of result)))
-        ⊎ (let how = manner directory look early turns in AirsOn g first done
-        (tale_of U.tells how update.old update.new) how (ending_of result)
-        (O.writes outlet.old) (O.writes outlet.new) (D.state disk) (D.state (disk_of result))) }
+        ⊎ AirsOn g first done (tale_of U.tells how update.old update.new) how (ending_of result)
+        (O.writes outlet.old) (O.writes outlet.new) (D.state disk) (D.state (disk_of result)) }
 {
     let mut server = match Server::open(alloc, disk) {
         Ok(server) => server,
-        Err(refused) => return Fed::Unopened(refused),
+        Err(refused) => return Err(refused),
     };
     // Its sizes are in their ranges: each packet has room. (The line is there for the proof.)
     let _ = server.geometry();
@@ -553,97 +468,10 @@ fn feed_disk<D: Disk, U: Update, O: Outlet>(
         alloc,
         update,
         outlet,
-        turns,
-        directory,
-        look.min(1),
-        early,
+        how.turns,
+        how.directory,
+        how.look.min(1),
+        how.early,
     );
-    Fed::Open(server, result)
-}
-
-/// Opens the disk and makes its carousel equal to the folder, of which all files are read; whether
-/// nothing was refused. The lines of the look are written to the log.
-pub fn sync_disk<S: Shelf + Drop, D: Disk, L: Write>(
-    alloc: Global,
-    disk: D,
-    folder: &mut Folder<'_, S>,
-    log: &mut L,
-) -> Ended<D, bool>
-    ensures { Syncs folder.old.types.now folder.old.allows_empty (S.path folder.old.shelf)
-        (S.gave folder.new.shelf) (D.state disk) (D.state result.disk)
-        (result_unwrap_or result.result false) (fault_of result.result)
-        (L.contents log.old) (L.contents log.new) }
-{
-    let mut server = match Server::open(alloc, disk) {
-        Ok(server) => server,
-        Err(refused) => return Ended::unopened(refused),
-    };
-    // Its sizes are in their ranges. (The line is there for the proof.)
-    let _ = server.geometry();
-    // Whatever is known of them, the files are read.
-    folder.files = KnownFiles::new(alloc);
-    let result = look_and_tell(alloc, &mut server, folder, log);
-    Ended {
-        disk: server.into_disk(),
-        result,
-        reason: None,
-    }
-}
-
-/// Looks at the folder once, and writes the lines of the look to the log; whether nothing was
-/// refused.
-fn look_and_tell<S: Shelf + Drop, D: Disk, L: Write>(
-    alloc: Global,
-    server: &mut Server<D>,
-    folder: &mut Folder<'_, S>,
-    log: &mut L,
-) -> Result<bool, Refusal>
-    ensures keeps { KeepsLength (D.state server.old.disk) (D.state server.new.disk) }
-    ensures faults { MatchResult result (λ _. StaysCalm server.old server.new
-        (D.state server.old.disk) (D.state server.new.disk)) (λ r. IsFeedFault server.old
-        (D.state server.old.disk) (D.state server.new.disk) r) }
-    ensures looked { (s : Standing) → Holds server.old.view s (D.state server.old.disk)
-        → (D.state server.new.disk).IsHonest
-        → LooksAndTells server.old server.new (D.state server.old.disk)
-        (D.state server.new.disk) s folder.old.types.now folder.old.allows_empty
-        (S.path folder.old.shelf) (S.gave folder.new.shelf) folder.old.files.known.items
-        (L.contents log.old) (L.contents log.new) result }
-{
-    let looked = look_at_folder(alloc, server, folder);
-    let told = write_events(alloc, log, folder.report.events.as_slice());
-    looked?;
-    told?;
-    Ok(!folder.report.any_refused)
-}
-
-/// Writes a line for each event to the log.
-fn write_events<L: Write>(alloc: Global, log: &mut L, events: &[LookEvent]) -> Result<(), Refusal>
-    ensures written { OnOk result (Appends (L.contents log.old) (L.contents log.new)
-        (flat_map met_line events.now)) }
-    ensures fault { IfErr result (λ r. r ≡ WriteFault) }
-{
-    let mut line = Vec::new(alloc);
-    for event in events {
-        write_event(&mut line, log, event)?;
-    }
-    match log.flush() {
-        Ok(()) => Ok(()),
-        Err(_) => Err(Refusal::WriteFault),
-    }
-}
-
-/// Writes the line of an event to the log.
-fn write_event<L: Write>(line: &mut Vec<u8>, log: &mut L, event: &LookEvent) -> Result<(), Refusal>
-    ensures written { OnOk result (Appends (L.contents log.old) (L.contents log.new)
-        (met_line event.now)) }
-    ensures fault { IfErr result (λ r. r ≡ WriteFault) }
-{
-    line.clear();
-    if add_met_line(line, event).is_err() {
-        return Err(Refusal::WriteFault);
-    }
-    match log.write_all(line.as_slice()) {
-        Ok(()) => Ok(()),
-        Err(_) => Err(Refusal::WriteFault),
-    }
+    Ok((server, result))
 }

@@ -8,6 +8,8 @@ use Rattle.disk_store.specs.Ram.{ram_state}
 use Rattle.disk_store.specs.declared.file.start.Start.{Ghosts}
 use Rattle.disk_store.specs.declared.memory.ram.RamDisk.{RamDisk}
 use Rattle.mot_devices.specs.Looking.{IsFree, OnlyLooks}
+use Rattle.mot_export.specs.Exporting.{Exports}
+use Rattle.mot_export.specs.Inspecting.{Inspects}
 use Rattle.mot_files.specs.Call.{Call}
 use Rattle.mot_commands.specs.Asking.{WithdrawsEach}
 use Rattle.mot_commands.specs.Report.{Checks, Formats, Migrates}
@@ -73,6 +75,15 @@ module _ {S : Type 0} {start : Ghosts S} where
   abbrev pub MigratesFile : Option Refusal → UsedDisk S start → (old new : Option (List ℕ))
       → Type 0
   MigratesFile ending used old new = OnOpened (Migrates ending old new) used
+
+  -- a file was opened, and its carousel printed, or its sizes told
+  abbrev pub ExportsFile : Option Refusal → UsedDisk S start → (old new : Option (List ℕ))
+      → Type 0
+  ExportsFile ending used old new = OnOpened (Exports ending old new) used
+
+  abbrev pub InspectsFile : (rate : Option ℕ) → Option Refusal → UsedDisk S start
+      → (old new : Option (List ℕ)) → Type 0
+  InspectsFile rate ending used old new = OnOpened (Inspects rate ending old new) used
 
   -- a file was opened, and its objects listed, or the body of one of them printed
   abbrev pub ListsFile : Option Refusal → UsedDisk S start → (old new : Option (List ℕ)) → Type 0

@@ -21,6 +21,7 @@ use mot_cli::CopyTask;
 use mot_copying::{NotCopied, copy};
 use mot_devices::use_of;
 use mot_endpoints::{Cause, Host, NewDiskFault};
+use mot_export::Ended;
 use mot_files::System;
 use mot_journal::Reason;
 use mot_numbers::{Geometry, Refusal, TransportId};
@@ -29,20 +30,13 @@ use mot_repository::Repository;
 use std::alloc::Global;
 use std::io::Write;
 
-/// What copying came to, and the disks then.
-#[derive(Drop)]
-struct CopyEnd<S: Start> {
-    /// The disk that was copied.
-    from: BegunFile<S, WasThere>,
-    /// That of the copy, if its file was opened or made.
-    to: Option<SecondDisk<S>>,
-    /// What it came to.
-    result: Result<(), Refusal>,
-    /// Why it was refused, if more is known than the refusal says.
-    cause: Option<Cause>,
-    /// Why one of the disks was refused, if that is known.
-    reason: Option<Reason>,
-}
+/// What copying came to, with the disk that was copied; that of the copy, if its file was opened or
+/// made; and why it was refused, if more is known than the refusal says.
+type Copying<S> = (
+    Ended<BegunFile<S, WasThere>, ()>,
+    Option<SecondDisk<S>>,
+    Option<Cause>,
+);
 
 /// Copies the disk of a file to that of another, which is opened, or made if it can't be, and removed
 /// again if nothing was copied to it. That is not done for sizes that no disk has, or if it is a
@@ -69,12 +63,12 @@ pub fn copy_file<Y: System, S: Start, W: Write>(
         Ok(disk) => disk,
         Err(unopened) => return Finished::unopened(unopened),
     };
-    let end = copy_disk(host, system, alloc, task, disk, second, writer);
+    let (ended, to, cause) = copy_disk(host, system, alloc, task, disk, second, writer);
     Finished {
-        result: end.result,
-        disk: UsedDisk::OfCopy(end.from.disk, end.to),
-        cause: end.cause,
-        reason: end.reason,
+        result: ended.result,
+        disk: UsedDisk::OfCopy(ended.disk.disk, to),
+        cause,
+        reason: ended.reason,
     }
 }
 
@@ -87,13 +81,13 @@ fn copy_disk<Y: System, S: Start, W: Write>(
     disk: BegunFile<S, WasThere>,
     second: Second<S>,
     writer: &mut W,
-) -> CopyEnd<S>
-    ensures ended { CopiesTo task.now.sizes task.now.after (fault_of result.result) result.to
+) -> Copying<S>
+    ensures ended { CopiesTo task.now.sizes task.now.after (fault_of result.0.result) result.1
         (W.contents writer.old) (W.contents writer.new)
-        (file_state disk.disk) (file_state result.from.disk) }
-    ensures files { ComesToCopy (fault_of result.result) task.now.new.now result.to
+        (file_state disk.disk) (file_state result.0.disk.disk) }
+    ensures files { ComesToCopy (fault_of result.0.result) task.now.new.now result.1
         host.old.paths.all host.new.paths.all }
-    ensures looked { LooksAtCopy task.now.new.now result.to
+    ensures looked { LooksAtCopy task.now.new.now result.1
         (Y.calls system.old) (Y.calls system.new) }
 {
     let repository = match Repository::open(alloc, disk) {
@@ -138,22 +132,15 @@ fn uncopied<S: Start>(
     refusal: Refusal,
     cause: Option<Cause>,
     reason: Option<Reason>,
-) -> CopyEnd<S>
-    ensures { result ≡ record {
-      from = from;
-      to = None;
-      result = Err refusal;
-      cause = cause;
-      reason = reason;
-    } }
+) -> Copying<S>
+    ensures { result ≡ (record { disk = from; result = Err refusal; reason = reason }, None, cause) }
 {
-    CopyEnd {
-        from,
-        to: None,
+    let ended = Ended {
+        disk: from,
         result: Err(refusal),
-        cause,
         reason,
-    }
+    };
+    (ended, None, cause)
 }
 
 /// Copies an open disk to that of the file at the path of the task, which is opened or made.
@@ -165,14 +152,14 @@ fn copy_open<S: Start, W: Write>(
     task: &CopyTask<'_>,
     second: Second<S>,
     writer: &mut W,
-) -> CopyEnd<S>
+) -> Copying<S>
     requires { IsValid geometry.now }
     ensures reads { OnlyReads (file_state repository.disk.disk)
-        (file_state result.from.disk) }
+        (file_state result.0.disk.disk) }
     ensures ended { CopiesView repository.view geometry.now task.now.after
-        (fault_of result.result) result.to (W.contents writer.old) (W.contents writer.new)
-        (file_state repository.disk.disk) (file_state result.from.disk) }
-    ensures files { ComesToCopy (fault_of result.result) task.now.new.now result.to
+        (fault_of result.0.result) result.1 (W.contents writer.old) (W.contents writer.new)
+        (file_state repository.disk.disk) (file_state result.0.disk.disk) }
+    ensures files { ComesToCopy (fault_of result.0.result) task.now.new.now result.1
         host.old.paths.all host.new.paths.all }
 {
     match host.disk(task.new, second) {
@@ -203,14 +190,14 @@ fn copy_to_new<S: Start, W: Write>(
     task: &CopyTask<'_>,
     unopened: Unopened<Second<S>>,
     writer: &mut W,
-) -> CopyEnd<S>
+) -> Copying<S>
     requires { IsValid geometry.now }
     ensures reads { OnlyReads (file_state repository.disk.disk)
-        (file_state result.from.disk) }
+        (file_state result.0.disk.disk) }
     ensures ended { CopiesView repository.view geometry.now task.now.after
-        (fault_of result.result) result.to (W.contents writer.old) (W.contents writer.new)
-        (file_state repository.disk.disk) (file_state result.from.disk) }
-    ensures files { ComesToCopy (fault_of result.result) task.now.new.now result.to
+        (fault_of result.0.result) result.1 (W.contents writer.old) (W.contents writer.new)
+        (file_state repository.disk.disk) (file_state result.0.disk.disk) }
+    ensures files { ComesToCopy (fault_of result.0.result) task.now.new.now result.1
         host.old.paths.all host.new.paths.all }
 {
     let mut to = match host.make_disk(task.new, geometry.length(), unopened.start) {
@@ -252,25 +239,24 @@ fn end_of<S: Start>(
     to: FileDiskFrom<Second<S>>,
     made: Result<(), Refusal>,
     geometry: &Geometry,
-) -> CopyEnd<S>
-    ensures from { result.from ≡ repository.disk }
-    ensures to { IfSome result.to (λ second. (second.file ≡ to.file)
+) -> Copying<S>
+    ensures from { result.0.disk ≡ repository.disk }
+    ensures to { IfSome result.1 (λ second. (second.file ≡ to.file)
         × (second.failures ≡ to.failures) × (second.calls ≡ to.calls)) }
-    ensures some { IsSome result.to }
-    ensures made { result.result ≡ made }
+    ensures some { IsSome result.1 }
+    ensures made { result.0.result ≡ made }
 {
     let cause = cause_of(&made, &repository, geometry);
     let reason = match made {
         Ok(()) => None,
         Err(refusal) => Reason::of_formatting(refusal, to.len(), geometry),
     };
-    CopyEnd {
-        from: repository.into_disk(),
-        to: Some(SecondDisk::of(to)),
+    let ended = Ended {
+        disk: repository.into_disk(),
         result: made,
-        cause,
         reason,
-    }
+    };
+    (ended, Some(SecondDisk::of(to)), cause)
 }
 
 /// Why a copy has no room, with both numbers.

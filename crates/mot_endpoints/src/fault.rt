@@ -113,6 +113,16 @@ pub enum Cause {
     NewFile(PacketsFault),
 }
 
+impl Cause {
+    /// The cause, if the folder was not opened at the last look.
+    pub fn of_folder(fault: Option<io::Error>) -> Option<Cause> {
+        match fault {
+            Some(error) => Some(Cause::Folder(error)),
+            None => None,
+        }
+    }
+}
+
 /// Why a task was not begun.
 #[derive(Clone, Copy)]
 pub struct Unbegun {

@@ -1,3 +1,4 @@
+pub mod Endings
 pub mod Exported
 pub mod Filled
 pub mod Inspected

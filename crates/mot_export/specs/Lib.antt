@@ -1,3 +1,4 @@
+pub mod Ending
 pub mod Exporting
 pub mod Filling
 pub mod Inner

@@ -1,3 +1,5 @@
+mod Begun
+mod Comings
 mod Explained
 pub mod Laws
 mod Opened

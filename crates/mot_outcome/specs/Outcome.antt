@@ -1,7 +1,7 @@
 -- What a run of the program comes to, whatever its tasks are.
 use Rattle.std.specs.declared.io.Error.{Error}
 use Rattle.std.specs.Prelude.{ℕ, ◌≡◌, ◌++◌, ◌∷◌, [], Bool, true, List, Option, Some, None, codes}
-use Rattle.std.specs.Prelude.{◌⊎◌, IsErrAnd, option_map}
+use Rattle.std.specs.Prelude.{◌⊎◌, Err, IsErrAnd, Ok, Result, false, option_map}
 use Rattle.std.specs.Fmt.{decimal}
 use Rattle.std.specs.Io.KnownBytes.{Appends, Keeps}
 use Rattle.clap.specs.Words.{Row, Text}
@@ -79,6 +79,14 @@ module _ {S : Type 0} {start : Ghosts S} where
   Finishes IsEarly IsEnded finished old new =
       IsErrAnd finished.result (λ refusal. IsEarly refusal × IsUntold finished.disk old new)
       ⊎ IsEnded (fault_of finished.result) finished.disk
+
+  -- It came to its end, which tells whether all of it is done; or it was not begun, for such a
+  -- refusal; or this refusal ended it.
+  abbrev pub Concludes : (IsEarly : Refusal → Type 0) → (IsEnded : Bool → Option Refusal → Type 0)
+      → Result Bool Refusal → UsedDisk S start → (old new : Option (List ℕ)) → Type 0
+  Concludes IsEarly IsEnded (Ok all) used old new = IsEnded all None
+  Concludes IsEarly IsEnded (Err r) used old new =
+      (IsEarly r × IsUntold used old new) ⊎ IsEnded false (Some r)
 
   -- In this a list of what a host came to has of each as what, and by which path. Where the disk of
   -- a file is handed out, it came to these others, each once and in order, and then to the disk of

@@ -13,4 +13,4 @@ pub use exit::{Exit, explain, refuse};
 pub use printing::{write_bytes, write_last, write_number};
 pub use subject::{Subject, subject_of, tell};
 pub use unfit::clear_unfit;
-pub use used::{Beside, Finished, Inputs, UsedDisk};
+pub use used::{Beside, Finished, UsedDisk};

@@ -1,5 +1,5 @@
 //! The disk that a task worked on, as it is left.
-ghost use Rattle.std.specs.Prelude.{◌≡◌, [], Err, None, Some, option_map};
+ghost use Rattle.std.specs.Prelude.{◌≡◌, Err, None, Some, option_map};
 ghost use Rattle.mot_endpoints.specs.declared.fault.Cause.TheVariants.{Disk, NewDisk};
 ghost use Rattle.mot_endpoints.specs.declared.fault.NewDiskFault.TheVariants as NewDiskFault;
 ghost use Rattle.mot_numbers.specs.declared.refusal.Refusal.TheVariants.{DeviceFault};
@@ -75,48 +75,16 @@ pub struct Beside {
     pub taken: Taken,
     /// What the folder gave that the carousel was to be made equal to.
     pub seen: Seen,
-    /// What was given while a disk was played.
-    pub inputs: Inputs,
-}
-
-/// What was given while a disk was played, as lists that only clauses read.
-#[derive(Drop)]
-pub struct Inputs {
-    /// What the folder gave in each look.
+    /// What the folder gave in each look while a disk was played.
     pub looks: LookNotes,
-    /// What each read of lines gave.
+    /// What each read of lines gave meanwhile.
     pub lines: LineNotes,
-}
-
-impl Inputs {
-    /// Nothing but what these looks gave.
-    pub fn of_looks(looks: LookNotes) -> Inputs
-        ensures looks { result.looks ≡ looks }
-        ensures lines { result.lines.notes.all ≡ [] }
-    {
-        Inputs {
-            looks,
-            lines: LineNotes::new(),
-        }
-    }
 }
 
 impl Beside {
     /// Nothing.
     pub fn nothing() -> Beside {
         Beside::folder(Seen::nothing())
-    }
-
-    /// Packets were written, and this was given.
-    pub fn played(taken: Taken, inputs: Inputs) -> Beside
-        ensures taken { result.taken ≡ taken }
-        ensures inputs { result.inputs ≡ inputs }
-    {
-        Beside {
-            taken,
-            seen: Seen::nothing(),
-            inputs,
-        }
     }
 
     /// A folder was looked at.
@@ -126,7 +94,38 @@ impl Beside {
         Beside {
             taken: Taken::nothing(),
             seen,
-            inputs: Inputs::of_looks(LookNotes::new()),
+            looks: LookNotes::new(),
+            lines: LineNotes::new(),
+        }
+    }
+
+    /// This was given while a disk was played.
+    pub fn heard(looks: LookNotes, lines: LineNotes) -> Beside
+        ensures looks { result.looks ≡ looks }
+        ensures lines { result.lines ≡ lines }
+    {
+        Beside {
+            taken: Taken::nothing(),
+            seen: Seen::nothing(),
+            looks,
+            lines,
+        }
+    }
+
+    /// The same, and what each write of packets took.
+    pub fn taking(self, taken: Taken) -> Beside
+        ensures { result ≡ record {
+          taken = taken;
+          seen = self.seen;
+          looks = self.looks;
+          lines = self.lines;
+        } }
+    {
+        Beside {
+            taken,
+            seen: self.seen,
+            looks: self.looks,
+            lines: self.lines,
         }
     }
 }

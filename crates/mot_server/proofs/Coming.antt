@@ -6,7 +6,7 @@ use Rattle.std.specs.Prelude.{IsErrAnd}
 use Rattle.std.specs.Result.{result_unwrap_or}
 use Rattle.clap.specs.Words.{Text}
 use Rattle.disk_store.specs.declared.file.start.Start.{Ghosts}
-use Rattle.mot_air.specs.Commands.{Concludes}
+use Rattle.mot_outcome.specs.Outcome.{Concludes}
 use Rattle.mot_cli.specs.Asked.{AskFor}
 use Rattle.mot_cli.specs.Command.{motcar_app}
 use Rattle.mot_cli.specs.Task.{IsTask}

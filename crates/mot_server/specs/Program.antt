@@ -4,9 +4,10 @@ use Rattle.std.specs.Io.KnownBytes.{Keeps}
 use Rattle.std.specs.Option.{option_map_or}
 use Rattle.clap.specs.Words.{Text, subcommand_of}
 use Rattle.disk_store.specs.declared.file.start.Start.{Ghosts}
-use Rattle.mot_air.specs.Commands.{ExportsFile, InspectsFile, IsUnplayed, IsUnsynced, PlaysTask}
-use Rattle.mot_air.specs.Commands.{SyncsTask, played_with, synced_with}
-use Rattle.mot_air.specs.Trying.{TriesTask}
+use Rattle.mot_air.specs.Commands.{IsUnplayed, PlaysTask, played_with}
+use Rattle.mot_commands.specs.Commands.{ExportsFile, InspectsFile}
+use Rattle.mot_sync_command.specs.Commands.{IsUnsynced, SyncsTask, synced_with}
+use Rattle.mot_sync_command.specs.Trying.{TriesTask}
 use Rattle.mot_cli.specs.Command.{motcar_app}
 use Rattle.mot_cli.specs.Task.{AskForNothing, IsTask, LackOption, bad_number}
 use Rattle.mot_cli.specs.declared.task.Task.{Task}

@@ -5,16 +5,17 @@ ghost use Rattle.mot_server.specs.Inner.Coming.{ComesOut, whole_result};
 ghost use Rattle.mot_server.specs.Program.{LooksFor, UsesFor};
 
 use disk_store::Start;
-use mot_air::{export_file, inspect_file, play, sync, try_sync};
+use mot_air::play;
 use mot_cli::Task;
 use mot_commands::{
-    check_file, format_file, get_file, list_file, migrate_file, put, serve_file, serve_memory,
-    withdraw_file,
+    check_file, export_file, format_file, get_file, inspect_file, list_file, migrate_file, put,
+    serve_file, serve_memory, withdraw_file,
 };
 use mot_copy_command::copy_file;
 use mot_endpoints::Host;
 use mot_files::System;
 use mot_outcome::Finished;
+use mot_sync_command::{sync, try_sync};
 use std::alloc::Global;
 use std::io::{Read, Write};
 

@@ -13,7 +13,7 @@ use Rattle.mot_update.specs.declared.moment.Moment.{Moment}
 
 -- the update; how many packets are to come before the next read of lines, what each of these gave so
 -- far, what has come of the next line; and what was told
-pub record Beside (U : Type 0) : Type 0 where
+pub record SourcesOf (U : Type 0) : Type 0 where
   pub update : U
   pub late : ℕ
   pub lines : List (List ℕ)
@@ -21,26 +21,26 @@ pub record Beside (U : Type 0) : Type 0 where
   pub teller : TellerView
 
 -- nothing was read
-abbrev pub beside : {U : Type 0} → U → (hand : List ℕ) → TellerView → Beside U
+abbrev pub beside : {U : Type 0} → U → (hand : List ℕ) → TellerView → SourcesOf U
 beside update hand teller =
     record { update = update; late = 0; lines = []; hand = hand; teller = teller }
 
 module _ {U : Type 0} (same : Same) (known : U → LooksKnown)
     (tells : U → U → Moment → Telling) where
   -- what the update tells, and that it was told, up to here
-  abbrev pub tells_told_of : (old new : Beside U) → (told : TellerView) → Moment → Telling
+  abbrev pub tells_told_of : (old new : SourcesOf U) → (told : TellerView) → Moment → Telling
   tells_told_of old new told moment =
       TellsWatched TellsBefore (TellsAfter same) old.teller (known new.update) told moment
       (tells old.update new.update moment)
 
   -- nothing else is told
-  abbrev pub tells_alone_of : (old new : Beside U) → Moment → Telling
+  abbrev pub tells_alone_of : (old new : SourcesOf U) → Moment → Telling
   tells_alone_of old new moment = tells_told_of old new new.teller moment
 
 module _ {U : Type 0} (same : Same) (between : ℕ) (known : U → LooksKnown)
     (tells : U → U → Moment → Telling) where
   -- or lines, of which so many packets come between two reads
-  abbrev pub tells_lines_of : (old new : Beside U) → Moment → Telling
+  abbrev pub tells_lines_of : (old new : SourcesOf U) → Moment → Telling
   tells_lines_of old new moment =
       TellsInTurn (HearsAll Hears Misses) between old.late new.late old.hand new.hand old.lines
       new.lines (λ (told : TellerView). tells_told_of same known tells old new told moment)

@@ -5,7 +5,8 @@ use Rattle.std.specs.Borrow.{Bor}
 use Rattle.disk_model.specs.Disk.{State}
 use Rattle.disk_store.specs.Beginning.{SinceOpened}
 use Rattle.disk_store.specs.declared.file.start.Start.{Ghosts}
-use Rattle.mot_air.specs.Commands.{Concludes, IsUnplayed, PlaysTask, PlaysTo, played_as, played_with}
+use Rattle.mot_air.specs.Commands.{IsUnplayed, PlaysTask, PlaysTo, played_as, played_with}
+use Rattle.mot_outcome.specs.Outcome.{Concludes}
 use Rattle.mot_air.specs.Commands.{PlaysAsked, PlaysInto, watch_asked}
 use Rattle.mot_air.specs.Telling.{tale_with}
 use Rattle.mot_folder.specs.Looked.{Watch}
@@ -16,8 +17,8 @@ use Rattle.mot_outcome.specs.declared.used.UsedDisk.{UsedDisk}
 use Rattle.mot_outcome.specs.declared.used.UsedDisk.TheVariants.{InMemory, OfCopy, OfFile, Untouched}
 use Rattle.mot_cli.specs.declared.playing.PlayTask.{PlayTask}
 use Rattle.std.proofs.KnownBytes.{Keeps-refl}
-use Rattle.mot_air.proofs.Begun.{concludes_more}
-use Rattle.mot_air.proofs.Used.{begun_after, begun_first, opened_after}
+use Rattle.mot_outcome.proofs.Laws.{concludes_more}
+use Rattle.mot_outcome.proofs.Laws.{begun_after, begun_first, opened_after}
 use Rattle.mot_air.proofs.commands.play.Goals as goal
 use Rattle.mot_endpoints.specs.Opened.{named}
 use Rattle.mot_line_folder.specs.declared.folder.LineFolder.{LineFolder}
@@ -52,17 +53,17 @@ asked task used old new w v h k all ending same held
         refused,
         whole,
         since_as (λ beside. PlaysAsked target (λ frame. tale_with (w frame) h (played_as task frame)
-            beside.inputs refused) task ending (task.packets.now ∷ []) beside.taken.notes.all)
+            beside.looks.all beside.lines.notes.all refused) task ending (task.packets.now ∷ []) beside.taken.notes.all)
             (λ beside. PlaysAsked target (λ frame. tale_with (v frame) k (played_as task frame)
-            beside.inputs refused) task ending (task.packets.now ∷ []) beside.taken.notes.all)
+            beside.looks.all beside.lines.notes.all refused) task ending (task.packets.now ∷ []) beside.taken.notes.all)
             (λ beside opened now plays. (
               plays.0,
               plays.1,
-              subst (λ x. PlaysInto target (tale_with x k (played_as task plays.0) beside.inputs refused)
+              subst (λ x. PlaysInto target (tale_with x k (played_as task plays.0) beside.looks.all beside.lines.notes.all refused)
                   (played_as task plays.0) ending (task.packets.now ∷ []) beside.taken.notes.all opened
                   now) (same plays.0)
                   (subst (λ x. PlaysInto target (tale_with (w plays.0) x (played_as task plays.0)
-                  beside.inputs refused) (played_as task plays.0) ending (task.packets.now ∷ [])
+                  beside.looks.all beside.lines.notes.all refused) (played_as task plays.0) ending (task.packets.now ∷ [])
                   beside.taken.notes.all opened now) held plays.2),
             )) used so,
       ),

@@ -1,12 +1,13 @@
-use Rattle.std.proofs.Common.{◌≡◌, ◌-◌, List, [], ℕ, Option, Some, None, ap, inl, refl, subst, sym}
+use Rattle.std.proofs.Common.{◌≡◌, ◌-◌, Bool, List, [], ℕ, Option, Some, None, inl, refl, subst, sym}
 use Rattle.std.specs.Prelude.{IsSomeAnd, option_map}
 use Rattle.disk_model.specs.Disk.{KeepsLength, State}
 use Rattle.mot_air.proofs.Behind.{frame_behind, none_ends, none_told, plays_behind}
 use Rattle.mot_air.proofs.on_air.air.Goals as goal
 use Rattle.mot_air.specs.Commands.{played_as}
 use Rattle.mot_air.specs.Directory.{IsFrame}
-use Rattle.mot_air.specs.Playing.{Manner, Plays, Tale}
-use Rattle.mot_air.specs.Telling.{watch_in, watched}
+use Rattle.mot_air.specs.Playing.{Plays, Tale}
+use Rattle.mot_air.specs.declared.manner.Manner.{Manner}
+use Rattle.mot_air.specs.Telling.{EndsAs, Same, tale_told, watch_in, watched}
 use Rattle.mot_export.specs.Opening.{IsUnopened}
 use Rattle.mot_feed.proofs.Laws.{grows_nil}
 use Rattle.mot_feed.specs.Feeding.Stage.{Ready}
@@ -14,29 +15,52 @@ use Rattle.mot_line_folder.specs.declared.folder.LineFolder.{LineFolder}
 use Rattle.mot_numbers.specs.declared.refusal.Refusal.{Refusal}
 use Rattle.mot_objects.specs.Carousel.{Carousel}
 use Rattle.mot_playout.specs.Attempts.{fault_of}
-use Rattle.mot_status.specs.Teller.{starts}
+use Rattle.mot_folder.specs.Looked.{Watch}
+use Rattle.mot_shelf.specs.Given.{Given}
+use Rattle.mot_status.specs.Teller.{TellerView, starts}
 use Rattle.mot_update.proofs.Laws.{not_none}
+
+-- what is told in this manner
+module _ (same : Same) (w : Manner → Option Watch) (reads : Option (List ℕ × ℕ))
+    (given : List Given) (read : List (List ℕ)) (refused : Bool) (first : TellerView)
+    (ending : Option Refusal) (before after : Option (List (List ℕ))) (start now : State)
+    (log : Option (List ℕ)) where
+  abbrev AirsIn : Manner → Type 0
+  AirsIn how = (last : TellerView)
+      × Plays (tale_told same (w how) reads how given read refused first last) how ending before
+      after start now
+      × EndsAs reads ending how.turns last log
 
 pub returns-in-Ok : goal.returns-in-Ok
 returns-in-Ok g c =
     let state = g.D.Disk.state in
     let found = c.in-Ok.ensures in
-    let told = c.air_in_frames.ensures in
+    let told = c.air_so.ensures in
+    let out = c.air_so.result.0 in
     let start = state c.args.disk in
     let mid = state c.in-Ok.disk in
-    let now = state c.air_in_frames.result.ended.disk in
-    let how = played_as c.args.airing.task c.in-Ok.frame in
-    let ending = fault_of c.air_in_frames.result.ended.result in (
+    let now = state out.ended.disk in
+    let how = c.manner_of-how.result in
+    let ending = fault_of out.ended.result in
+    let before = g.O.Outlet.writes c.args.outlet.now in
+    let after = g.O.Outlet.writes c.air_so.new.outlet in
+    let first = starts g.Y.System.calls (g.L.Write.contents c.args.log) (record {
+      disk = c.args.airing.task.disk;
+      status = c.args.airing.status;
+      levels = c.args.airing.task.levels;
+    }) in (
       c.in-Ok.frame,
       frame_behind c.args.airing.task.rate c.in-Ok.frame ending start mid now
           told.1.keeps.was_honest found.frame,
-      (
-        told.0,
-        plays_behind start mid now found.syncs found.calm (g.met.D.Disk.sound c.args.disk) _ how
-            ending (g.O.Outlet.writes c.args.outlet.now)
-            (g.O.Outlet.writes c.air_in_frames.new.outlet) told.1,
-        told.2,
-      ),
+      subst (AirsIn _ (λ (how : Manner). watched c.args.airing.folder (λ followed. watch_in how
+          (g.F.Shelf.path followed.shelf) followed.types.now followed.allows_empty)) _
+          out.beside.looks.all out.beside.lines.notes.all out.any_refused first ending before after
+          start now (g.L.Write.contents c.air_so.result.1)) c.manner_of-how.ensures (
+            told.0,
+            plays_behind start mid now found.syncs found.calm (g.met.D.Disk.sound c.args.disk) _ how
+                ending before after told.1,
+            told.2,
+          ),
     )
 
 -- a disk that was not opened has any frame
@@ -82,9 +106,9 @@ returns-in-Err g c =
         unplayed _ how ending (g.O.Outlet.writes c.args.outlet.now) start now keeps none
             (none_told _ (watched c.args.airing.folder (λ followed. watch_in how
             (g.F.Shelf.path followed.shelf) followed.types.now followed.allows_empty)) reads how
-            out.inputs out.any_refused first is.inputs.0 is.inputs.1 is.refused),
-        none_ends reads ending how.turns first (g.L.Write.contents out.log)
-            (subst (λ e. e ≡ None → ⊥) (sym is.ended.0) (not_none refused.refusal))
-            (ap (λ l. g.L.Write.contents l) is.log),
+            out.beside.looks.all out.beside.lines.notes.all out.any_refused first is.given.0 is.given.1
+            is.refused),
+        none_ends reads ending how.turns first (g.L.Write.contents c.args.log)
+            (subst (λ e. e ≡ None → ⊥) (sym is.ended.0) (not_none refused.refusal)) refl,
       ),
     )

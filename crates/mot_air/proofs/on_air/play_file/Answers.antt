@@ -1,11 +1,25 @@
-use Rattle.std.proofs.Common.{[], ◌∷◌, ◌-◌}
+use Rattle.std.proofs.Common.{ℕ, [], ◌∷◌, ◌-◌, Bool, List, Option, Result, inl, subst, sym}
+use Rattle.std.proofs.KnownBytes.{Keeps-refl}
+use Rattle.disk_store.specs.declared.file.start.Start.{Ghosts}
+use Rattle.mot_air.specs.Inner.Unbegun.{IsUnbegun}
+use Rattle.mot_numbers.specs.declared.refusal.Refusal.{Refusal}
+use Rattle.mot_outcome.specs.Outcome.{Concludes}
+use Rattle.mot_outcome.specs.declared.used.UsedDisk.{UsedDisk}
 use Rattle.std.specs.Prelude.{codes, option_map}
 use Rattle.mot_air.specs.Commands.{PlaysTo, played_as}
 use Rattle.mot_air.specs.Telling.{tale_with, watch_in, watched}
-use Rattle.mot_air.proofs.Begun.{unbegun_so}
 use Rattle.mot_line_folder.specs.declared.folder.LineFolder.{LineFolder}
-use Rattle.mot_air.proofs.Used.{opened_none}
+use Rattle.mot_outcome.proofs.Laws.{opened_none}
 use Rattle.mot_air.proofs.on_air.play_file.Goals as goal
+
+-- what was not begun
+unbegun_so : {S : Type 0} {start : Ghosts S} (IsEarly : Refusal → Type 0)
+    (IsEnded : Bool → Option Refusal → Type 0) (result : Result Bool Refusal)
+    (used : UsedDisk S start) (log : Option (List ℕ)) → IsUnbegun IsEarly result used
+    → Concludes IsEarly IsEnded result used log log
+unbegun_so IsEarly IsEnded result used log is =
+    subst (λ (r : Result Bool Refusal). Concludes IsEarly IsEnded r used log log) (sym is.refused)
+    (inl (is.early, record { untouched = is.untouched; silent = Keeps-refl log }))
 
 pub returns-in-Ok-clause-ended : goal.returns-in-Ok-clause-ended
 returns-in-Ok-clause-ended g c =

@@ -1,13 +1,18 @@
-use Rattle.std.proofs.Common.{◌≡◌, ◌∙◌, ◌⊎◌, true, List, ℕ, Result, Ok, Err, ap, inl, inr, subst, sym}
+use Rattle.std.proofs.Common.{◌≡◌, ◌∙◌, ◌⊎◌, ◌-◌, true, List, ℕ, Result, Ok, Err, ap, inl, inr, subst, sym}
 use Rattle.std.proofs.Common.{Option, Some}
 use Rattle.disk_model.specs.Disk.{State}
 use Rattle.mot_air.specs.Directory.{IsFrame}
-use Rattle.mot_air.specs.Playing.{Manner, Plays, Tale}
-use Rattle.mot_air.specs.Commands.{PlaysInto}
+use Rattle.mot_air.specs.Playing.{Plays, Tale}
+use Rattle.mot_air.specs.declared.manner.Manner.{Manner}
+use Rattle.std.specs.Prelude.{option_map}
+use Rattle.mot_air.specs.Commands.{PlaysAsked, PlaysInto, played_as}
+use Rattle.mot_air.specs.Telling.{tale_with, watch_in, watched}
+use Rattle.mot_line_folder.specs.declared.folder.LineFolder.{LineFolder}
+use Rattle.mot_outcome.specs.declared.used.Beside.{Beside}
 use Rattle.mot_air.proofs.Behind.{frame_behind}
 use Rattle.mot_air.proofs.Retold.{plays_as, whoever}
 use Rattle.mot_air.proofs.on_air.play_opened.Goals as goal
-use Rattle.mot_endpoints.specs.Packets.{target_of}
+use Rattle.mot_endpoints.specs.Packets.{begun_of, target_of}
 use Rattle.mot_endpoints.specs.declared.packets.Target.{Target}
 use Rattle.mot_endpoints.specs.declared.packets.Target.TheVariants.{File}
 use Rattle.mot_endpoints.specs.declared.taken.Taken.{Taken}
@@ -46,19 +51,28 @@ frame_placed rate target frame start now a b (inr lost) found =
 
 pub returns-clause-played : goal.returns-clause-played
 returns-clause-played g c =
-    let told = c.air-ended.ensures in
-    let came = c.placed-result.ensures.came in (
+    let told = c.air-end.ensures in
+    let end = c.air-end.result.0 in
+    let came = c.placed-result.ensures.came in
+    let target = target_of c.args.opened in
+    let ending = fault_of c.placed-result.result.0 in
+    subst (λ (b : Beside). PlaysAsked target (λ frame. let how = played_as c.args.airing.task frame in
+    tale_with (watched c.args.airing.folder (λ followed. watch_in how
+    (g.F.Shelf.path followed.shelf) followed.types.now followed.allows_empty))
+    (option_map (λ (lines : LineFolder _). (lines.hand, lines.every - 1)) c.args.airing.lines) how
+    b.looks.all b.lines.notes.all end.any_refused) c.args.airing.task ending
+    (begun_of c.args.opened) b.taken.notes.all (g.D.Disk.state c.args.disk)
+    (g.D.Disk.state end.ended.disk)) (sym c.taking.ensures) (
       told.0,
-      frame_placed c.args.airing.task.rate (target_of c.args.opened) told.0 _ _
-          c.air-ended.result.ended.result c.placed-result.result.0 came told.1,
-      placed (target_of c.args.opened) _ _ _ _ _ _ _ c.air-ended.result.ended.result
-          c.placed-result.result.0
-          (ap (λ (t : Taken). t.notes.all) c.hand_out-taken.ensures ∙ c.placed-result.ensures.same)
-          came
-          (plays_as _ _ (whoever _ _ _ _ _ _ _ told.2.0) _ _ _ _ _ _ told.2.1),
+      frame_placed c.args.airing.task.rate target told.0 _ _ end.ended.result
+          c.placed-result.result.0 came told.1,
+      placed target _ _ _ _ _ _ _ end.ended.result c.placed-result.result.0
+          (ap (λ (t : Taken). t.notes.all) c.hand_out.ensures ∙ c.placed-result.ensures.same) came
+          (plays_as _ _ (whoever _ _ _ _ _ _ _ _ told.2.0) _ _ _ _ _ _ told.2.1),
     )
 
 pub returns-clause-placed : goal.returns-clause-placed
 returns-clause-placed g c = λ file none.
-    subst (λ (t : Taken). t.is_placed ≡ true) (sym c.hand_out-taken.ensures)
-    (c.placed-result.ensures.placed file none)
+    subst (λ (b : Beside). b.taken.is_placed ≡ true) (sym c.taking.ensures)
+    (subst (λ (t : Taken). t.is_placed ≡ true) (sym c.hand_out.ensures)
+    (c.placed-result.ensures.placed file none))

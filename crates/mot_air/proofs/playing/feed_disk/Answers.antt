@@ -1,5 +1,5 @@
 use Rattle.std.proofs.Common.{ℕ, ◌<◌, inl, subst}
-use Rattle.mot_air.specs.Playing.{Plays, manner, tale_of}
+use Rattle.mot_air.specs.Playing.{Plays, tale_of}
 use Rattle.mot_air.proofs.Kept.{lives}
 use Rattle.mot_air.proofs.Played.{plays}
 use Rattle.mot_air.proofs.playing.feed_disk.Given as given
@@ -25,8 +25,8 @@ returns-in-Err-clause-ended g c =
 
 -- the playing
 by : (g : given.Over) (c : After-feed_every-result g) → Plays
-    (tale_of g.U.Update.tells (manner c.args.directory c.args.look c.args.early c.args.turns) c.args.update.now
-    c.feed_every-result.new.update) (manner c.args.directory c.args.look c.args.early c.args.turns)
+    (tale_of g.U.Update.tells c.args.how c.args.update.now
+    c.feed_every-result.new.update) c.args.how
     (fault_of c.feed_every-result.result)
     (g.O.Outlet.writes c.args.outlet.now) (g.O.Outlet.writes c.feed_every-result.new.outlet)
     (g.D.Disk.state c.args.disk) (g.D.Disk.state c.feed_every-result.new.server.disk)
@@ -38,15 +38,15 @@ by g c =
     c.geometry.ensures.valid feeds.keeps feeds.continuous feeds.turns_read
     feeds.changed_turns_read feeds.listeners feeds.nobody_starves
     g.U.Update.tells c.args.update.now
-    c.feed_every-result.new.update (manner c.args.directory c.args.look c.args.early c.args.turns) _ _
+    c.feed_every-result.new.update c.args.how _ _
     c.feed_every-result.result feeds.calm feeds.fault
     (λ s holds honest. subst (λ (l : ℕ). (fed : Feeds g.U.Update.tells
-    (look_in c.args.directory l) c.args.turns (fault_of c.feed_every-result.result)
-    c.args.update.now c.feed_every-result.new.update (server_for c.args.directory c.args.early c.in-Ok.server)
+    (look_in c.args.how.directory l) c.args.how.turns (fault_of c.feed_every-result.result)
+    c.args.update.now c.feed_every-result.new.update (server_for c.args.how.directory c.args.how.early c.in-Ok.server)
     c.feed_every-result.new.server (g.D.Disk.state c.in-Ok.server.disk)
     (g.D.Disk.state c.feed_every-result.new.server.disk) s (g.O.Outlet.writes c.args.outlet.now)
     (g.O.Outlet.writes c.feed_every-result.new.outlet))
-    × (0 < c.args.directory → IsOften c.args.directory fed.events)) c.min.ensures
+    × (0 < c.args.how.directory → IsOften c.args.how.directory fed.events)) c.min.ensures
     (feeds.fed s holds honest))
 
 pub returns-clause-ended : goal.returns-clause-ended
@@ -60,7 +60,7 @@ returns-in-Err-clause-lives g c = λ geometry first done was honest.
 pub returns-clause-lives : goal.returns-clause-lives
 returns-clause-lives g c =
     let from = (goal.at.returns-clause-lives g c).After-feed_every-result in
-    let how = manner c.args.directory c.args.look c.args.early c.args.turns in
+    let how = c.args.how in
     let last = c.feed_every-result.new.update in λ geometry first done was honest.
     lives geometry first done (tale_of g.U.Update.tells how c.args.update.now last) how
     (g.O.Outlet.writes c.args.outlet.now) (g.O.Outlet.writes c.feed_every-result.new.outlet)

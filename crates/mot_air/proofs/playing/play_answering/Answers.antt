@@ -1,6 +1,5 @@
 use Rattle.std.proofs.Common.{◌∙◌, ◌-◌, ap, sym}
 use Rattle.mot_air.specs.Inner.Fed.{disk_of, ending_of}
-use Rattle.mot_air.specs.Playing.{manner}
 use Rattle.mot_air.specs.Telling.{EndsLines}
 use Rattle.mot_air.proofs.Retold.{answered_retold, fed_out, plays_as, seen, told_out}
 use Rattle.mot_air.proofs.playing.play_answering.Goals as goal
@@ -8,7 +7,7 @@ use Rattle.mot_status.specs.Teller.{teller}
 
 pub returns : goal.returns
 returns g c =
-    let how = manner c.args.directory c.args.look c.args.early c.args.turns in
+    let how = c.args.how in
     let fed = c.feed_lines-fed.result in
     let ended = c.end_lines-ended.result in
     let before = g.O.Outlet.writes c.args.outlet.now in
@@ -32,7 +31,7 @@ returns g c =
           how (ending_of fed) before after start (g.D.Disk.state (disk_of fed))
           c.feed_lines-fed.ensures),
       told_out g.L.Write.contents fed ended _ c.into_log.result
-          (λ f b. EndsLines f c.args.turns (view last.reported.watch) b)
+          (λ f b. EndsLines f how.turns (view last.reported.watch) b)
           c.end_lines-ended.ensures.ended
           (c.into_log.ensures ∙ ap (λ (w : _). w.log.writer) c.into_parts-spool.ensures.watch)
           c.end_lines-ended.ensures.told,

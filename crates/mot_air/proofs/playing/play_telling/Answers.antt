@@ -1,6 +1,5 @@
 use Rattle.std.proofs.Common.{◌∙◌, ap}
 use Rattle.mot_air.specs.Inner.Fed.{disk_of, ending_of}
-use Rattle.mot_air.specs.Playing.{manner}
 use Rattle.mot_air.specs.Telling.{EndsTelling}
 use Rattle.mot_air.proofs.Retold.{fed_out, plays_as, reported_retold, told_out}
 use Rattle.mot_air.proofs.playing.play_telling.Goals as goal
@@ -8,7 +7,7 @@ use Rattle.mot_status.specs.Teller.{teller}
 
 pub returns : goal.returns
 returns g c =
-    let how = manner c.args.directory c.args.look c.args.early c.args.turns in
+    let how = c.args.how in
     let fed = c.feed_reported-fed.result in
     let ended = c.end_telling-ended.result in
     let before = g.O.Outlet.writes c.args.outlet.now in
@@ -24,7 +23,7 @@ returns g c =
           how (ending_of fed) before after start (g.D.Disk.state (disk_of fed))
           c.feed_reported-fed.ensures),
       told_out g.L.Write.contents fed ended _ c.into_log.result
-          (λ f b. EndsTelling f c.args.turns (view last.watch) b) c.end_telling-ended.ensures.ended
+          (λ f b. EndsTelling f how.turns (view last.watch) b) c.end_telling-ended.ensures.ended
           (c.into_log.ensures ∙ ap (λ (w : _). w.log.writer) c.into_parts-update.ensures.watch)
           c.end_telling-ended.ensures.told,
     )

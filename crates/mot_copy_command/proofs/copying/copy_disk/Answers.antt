@@ -19,8 +19,8 @@ pub returns-in-Err-clause-ended : goal.returns-in-Err-clause-ended
 returns-in-Err-clause-ended g c =
     let opens = c.in-Err.ensures in
     let old = g.W.Write.contents c.args.writer.now in
-    subst (λ (e : _). CopiesTo c.args.task.now.sizes c.args.task.now.after (fault_of e.result) e.to
-    old old (file_state c.args.disk.disk) (file_state e.from.disk)) (sym c.uncopied.ensures) (
+    subst (λ (e : _). CopiesTo c.args.task.now.sizes c.args.task.now.after (fault_of e.0.result) e.1
+    old old (file_state c.args.disk.disk) (file_state e.0.disk.disk)) (sym c.uncopied.ensures) (
       opens.only_syncs,
       Keeps-refl _,
       (
@@ -38,10 +38,10 @@ returns-clause-ended g c =
     let mid = file_state c.in-Ok.repository.disk.disk in
     let end = c.copy_open.result in
     let done = c.copy_open.ensures in
-    copies_to start mid (file_state end.from.disk) view opens.only_syncs opens.opened opens.calm
-    done.reads c.in-Some.geometry c.args.task.now.after (fault_of end.result)
+    copies_to start mid (file_state end.0.disk.disk) view opens.only_syncs opens.opened opens.calm
+    done.reads c.in-Some.geometry c.args.task.now.after (fault_of end.0.result)
     (g.W.Write.contents c.args.writer.now) (g.W.Write.contents c.copy_open.new.writer)
-    c.args.task.now.sizes end.to c.in-Some.ensures.some.1
+    c.args.task.now.sizes end.1 c.in-Some.ensures.some.1
     (subst (λ (h : Geometry). geometry_over h c.args.task.now.sizes ≡ Some c.in-Some.geometry)
     c.geometry.ensures.value c.in-Some.ensures.some.0) done.ended
 
@@ -59,7 +59,7 @@ returns-in_default-clause-ended g c =
     subst (λ (h : Geometry). (geometry : Geometry) → geometry_over h sizes ≡ Some geometry
     → IsValid geometry → ⊥) c.geometry.ensures.value
     c.in_default.ensures.none in
-    subst (λ (e : _). CopiesTo sizes ids (fault_of e.result) e.to old old start (file_state e.from.disk))
+    subst (λ (e : _). CopiesTo sizes ids (fault_of e.0.result) e.1 old old start (file_state e.0.disk.disk))
     (sym c.uncopied-in_default.ensures)
     (subst (λ (d : _). OnlySyncs start (file_state d.disk) × Keeps old old
     × ((refusal : Refusal) × (Some BadGeometry ≡ Some refusal)
@@ -82,7 +82,7 @@ returns-in-Some-use_of-clause-ended g c =
     let ids = c.args.task.now.after in
     let start = file_state c.args.disk.disk in
     let old = g.W.Write.contents c.args.writer.now in
-    subst (λ (e : _). CopiesTo sizes ids (fault_of e.result) e.to old old start (file_state e.from.disk))
+    subst (λ (e : _). CopiesTo sizes ids (fault_of e.0.result) e.1 old old start (file_state e.0.disk.disk))
     (sym c.uncopied-in-Some-use_of.ensures)
     (subst (λ (d : _). OnlySyncs start (file_state d.disk) × Keeps old old
     × ((refusal : Refusal) × (Some DeviceFault ≡ Some refusal)
@@ -93,5 +93,5 @@ pub returns-clause-looked : goal.returns-clause-looked
 returns-clause-looked g c =
     let calls = g.Y.System.calls c.args.system.now in
     let after = g.Y.System.calls c.use_of.new.system in
-    looks_at c.args.task.now.new.now c.copy_open.result.to calls after c.use_of.ensures.looks
+    looks_at c.args.task.now.new.now c.copy_open.result.1 calls after c.use_of.ensures.looks
     c.in_default-use_of.ensures.free

@@ -14,12 +14,12 @@ returns-clause-ended g c =
     let sizes = c.args.task.now.sizes in
     let ids = c.args.task.now.after in
     let old = g.W.Write.contents c.args.writer.now in
-    let new = g.W.Write.contents c.copy_disk-end.new.writer in
-    let end = c.copy_disk-end.result in
-    let copies = c.copy_disk-end.ensures.ended in
-    inr (since_opened c.in-Ok.disk.disk end.from.disk
-    (CopiesTo sizes ids (fault_of end.result) end.to old new) c.in-Ok.ensures.first end.from.begins
-    (syncs_of sizes ids (fault_of end.result) end.to old new _ _ copies).keeps copies)
+    let new = g.W.Write.contents c.copy_disk-ended.new.writer in
+    let end = c.copy_disk-ended.result in
+    let copies = c.copy_disk-ended.ensures.ended in
+    inr (since_opened c.in-Ok.disk.disk end.0.disk.disk
+    (CopiesTo sizes ids (fault_of end.0.result) end.1 old new) c.in-Ok.ensures.first end.0.disk.begins
+    (syncs_of sizes ids (fault_of end.0.result) end.1 old new _ _ copies).keeps copies)
 
 pub returns-in-Err-clause-ended : goal.returns-in-Err-clause-ended
 returns-in-Err-clause-ended g c =
@@ -30,9 +30,9 @@ returns-in-Err-clause-ended g c =
 
 pub returns-clause-files : goal.returns-clause-files
 returns-clause-files g c =
-    let end = c.copy_disk-end.result in
-    subst (λ before. ComesToCopy (fault_of end.result) c.args.task.now.new.now end.to before
-    c.copy_disk-end.new.host.paths.all) c.in-Ok.ensures.paths c.copy_disk-end.ensures.files
+    let end = c.copy_disk-ended.result in
+    subst (λ before. ComesToCopy (fault_of end.0.result) c.args.task.now.new.now end.1 before
+    c.copy_disk-ended.new.host.paths.all) c.in-Ok.ensures.paths c.copy_disk-ended.ensures.files
 
 pub returns-in-Err-clause-files : goal.returns-in-Err-clause-files
 returns-in-Err-clause-files g c =

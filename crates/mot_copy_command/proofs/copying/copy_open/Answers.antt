@@ -31,11 +31,11 @@ returns-after-is_refused-clause-ended g c =
     (Known view geometry ids ending old new mid now) c.in-Ok.ensures.first last.begins copies.keeps
     copies in
     let end = c.end_of.result in
-    subst (λ (d : _). CopiesView view geometry ids (fault_of end.result) end.to old new mid
+    subst (λ (d : _). CopiesView view geometry ids (fault_of end.0.result) end.1 old new mid
     (file_state d.disk)) (sym c.end_of.ensures.from)
-    (subst (λ (r : _). CopiesView view geometry ids (fault_of r) end.to old new mid now)
+    (subst (λ (r : _). CopiesView view geometry ids (fault_of r) end.1 old new mid now)
     (sym c.end_of.ensures.made)
-    (opened_view view geometry ids ending old new mid now last.disk refl end.to
+    (opened_view view geometry ids ending old new mid now last.disk refl end.1
     c.end_of.ensures.some c.end_of.ensures.to since))
 
 pub returns-after-is_refused-clause-files : goal.returns-after-is_refused-clause-files
@@ -62,7 +62,7 @@ returns-after-is_refused-clause-files g c =
           ∙ c.in-Ok.ensures.paths
       | else-is_refused w ↦ ap (λ (h : _). h.paths.all) w.host-is ∙ c.in-Ok.ensures.paths
     ] in
-    subst (λ (r : _). ComesToCopy (fault_of r) path end.to before c.if-is_refused.host.paths.all)
+    subst (λ (r : _). ComesToCopy (fault_of r) path end.1 before c.if-is_refused.host.paths.all)
     (sym c.end_of.ensures.made)
-    (comes_kept view geometry ids ending old new mid now last.disk refl path end.to
+    (comes_kept view geometry ids ending old new mid now last.disk refl path end.1
     c.end_of.ensures.some c.end_of.ensures.to since.begun before _ come)

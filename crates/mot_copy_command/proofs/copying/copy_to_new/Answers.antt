@@ -32,11 +32,11 @@ returns-clause-ended g c =
     (Known view geometry ids ending old new mid now) (length_of geometry)
     c.in-Ok.ensures.first (c.in-Ok.ensures.len ∙ c.length.ensures) last.begins copies.keeps copies in
     let end = c.end_of.result in
-    subst (λ (d : _). CopiesView view geometry ids (fault_of end.result) end.to old new mid
+    subst (λ (d : _). CopiesView view geometry ids (fault_of end.0.result) end.1 old new mid
     (file_state d.disk)) (sym c.end_of.ensures.from)
-    (subst (λ (r : _). CopiesView view geometry ids (fault_of r) end.to old new mid now)
+    (subst (λ (r : _). CopiesView view geometry ids (fault_of r) end.1 old new mid now)
     (sym c.end_of.ensures.made)
-    (made_view view geometry ids ending old new mid now last.disk refl end.to c.end_of.ensures.some
+    (made_view view geometry ids ending old new mid now last.disk refl end.1 c.end_of.ensures.some
     c.end_of.ensures.to since))
 
 pub returns-clause-files : goal.returns-clause-files
@@ -57,16 +57,16 @@ returns-clause-files g c =
     let end = c.end_of.result in
     let path = c.args.task.now.new.now in
     let before = c.args.host.now.paths.all in
-    subst (λ (r : _). ComesToCopy (fault_of r) path end.to before c.if-is_refused.host.paths.all)
+    subst (λ (r : _). ComesToCopy (fault_of r) path end.1 before c.if-is_refused.host.paths.all)
     (sym c.end_of.ensures.made) (elim c.if-is_refused.branch [
       | then-is_refused w ↦
           let removed : List (List ℕ × List ℕ) = (codes "removed", path) ∷ [] in
-          comes_removed view geometry ids ending old new mid now last.disk refl path end.to
+          comes_removed view geometry ids ending old new mid now last.disk refl path end.1
           c.end_of.ensures.some c.end_of.ensures.to (c.is_refused.ensures.refused w.if-is_refused.true)
           since.begun before _
           (ap (λ (h : _). h.paths.all) w.host-is ∙ w.take_away.ensures
           ∙ ap (λ l. l ++ removed) c.in-Ok.ensures.paths ∙ append_assoc before _ removed)
-      | else-is_refused w ↦ comes_copied ending path end.to c.end_of.ensures.some
+      | else-is_refused w ↦ comes_copied ending path end.1 c.end_of.ensures.some
           (c.is_refused.ensures.copied w.if-is_refused.false) before _
           (ap (λ (h : _). h.paths.all) w.host-is ∙ c.in-Ok.ensures.paths)
     ])

@@ -1,9 +1,10 @@
 use Rattle.std.proofs.Common.{[], ◌≡◌, ◌⊎◌, Option, refl, subst, sym}
 use Rattle.std.proofs.KnownBytes.{Keeps-refl}
 use Rattle.std.specs.Io.KnownBytes.{Keeps}
-use Rattle.mot_air.specs.Commands.{ExportsFile, InspectsFile, IsUnplayed, IsUnsynced, PlaysTask}
-use Rattle.mot_air.specs.Commands.{SyncsTask}
-use Rattle.mot_air.specs.Trying.{TriesTask}
+use Rattle.mot_air.specs.Commands.{IsUnplayed, PlaysTask}
+use Rattle.mot_commands.specs.Commands.{ExportsFile, InspectsFile}
+use Rattle.mot_sync_command.specs.Commands.{IsUnsynced, SyncsTask}
+use Rattle.mot_sync_command.specs.Trying.{TriesTask}
 use Rattle.mot_cli.specs.declared.task.Task.{Task}
 use Rattle.mot_cli.specs.declared.task.Task.TheVariants.{Memory, Format, Copy, Serve, Check}
 use Rattle.mot_cli.specs.declared.task.Task.TheVariants.{Migrate}
@@ -200,7 +201,7 @@ returns-in-Export-clause-files g c =
     let done = c.whole-in-Export.result in
     subst (λ (t : Task). UsesFor (fault_of done.result) t done.disk old new) (sym c.in-Export.is)
     (subst (λ (w : _). Opens [] c.in-Export.path.now w.disk old new) (sym c.whole-in-Export.ensures)
-    c.export_file.ensures.opens)
+    c.export_file.ensures.files)
 
 pub returns-in-Inspect-clause-files : goal.returns-in-Inspect-clause-files
 returns-in-Inspect-clause-files g c =
@@ -209,7 +210,7 @@ returns-in-Inspect-clause-files g c =
     let done = c.whole-in-Inspect.result in
     subst (λ (t : Task). UsesFor (fault_of done.result) t done.disk old new) (sym c.in-Inspect.is)
     (subst (λ (w : _). Opens [] c.in-Inspect.disk.now w.disk old new) (sym c.whole-in-Inspect.ensures)
-    c.inspect_file.ensures.opens)
+    c.inspect_file.ensures.files)
 
 pub returns-in-Memory-clause-files : goal.returns-in-Memory-clause-files
 returns-in-Memory-clause-files g c =

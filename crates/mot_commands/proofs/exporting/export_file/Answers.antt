@@ -1,0 +1,39 @@
+use Rattle.std.proofs.Common.{[], ◌≡◌, ◌∙◌, inl, inr, refl, subst, sym}
+use Rattle.std.proofs.KnownBytes.{Keeps-refl}
+use Rattle.disk_store.proofs.Laws.{since_opened}
+use Rattle.mot_commands.proofs.exporting.export_file.Goals as goal
+use Rattle.mot_commands.specs.Commands.{ExportsFile}
+use Rattle.mot_numbers.specs.declared.refusal.Refusal.TheVariants.{DeviceFault}
+use Rattle.mot_outcome.proofs.Laws.{none_opened}
+use Rattle.mot_outcome.specs.Outcome.{Finishes, Opens}
+use Rattle.mot_export.specs.Exporting.{Exports}
+use Rattle.mot_playout.specs.Attempts.{fault_of}
+
+pub returns-in-Ok-clause-ended : goal.returns-in-Ok-clause-ended
+returns-in-Ok-clause-ended g c =
+    let ended = c.export_disk-ended.result in
+    let old = g.W.Write.contents c.args.writer.now in
+    let new = g.W.Write.contents c.export_disk-ended.new.writer in
+    let told = c.export_disk-ended.ensures in
+    subst (λ (f : _). Finishes (λ r. r ≡ DeviceFault) (λ ending used. ExportsFile ending used old new)
+    f old new) (sym c.finish.ensures.ended.1)
+    (inr (since_opened c.in-Ok.disk.disk ended.disk.disk (Exports (fault_of ended.result) old new)
+    c.in-Ok.ensures.first ended.disk.begins told.syncs.keeps told))
+
+pub returns-in-Err-clause-ended : goal.returns-in-Err-clause-ended
+returns-in-Err-clause-ended g c =
+    let old = g.W.Write.contents c.args.writer.now in
+    subst (λ (f : _). Finishes (λ r. r ≡ DeviceFault) (λ ending used. ExportsFile ending used old old)
+    f old old) (sym c.unopened.ensures)
+    (inl (refl, record { untouched = tt; silent = Keeps-refl _ }))
+
+pub returns-in-Ok-clause-files : goal.returns-in-Ok-clause-files
+returns-in-Ok-clause-files g c =
+    subst (λ (f : _). Opens [] c.args.path.now f.disk c.args.host.now.paths.all
+    c.finish.new.host.paths.all) (sym c.finish.ensures.ended.1)
+    (c.finish.ensures.paths ∙ c.in-Ok.ensures.paths)
+
+pub returns-in-Err-clause-files : goal.returns-in-Err-clause-files
+returns-in-Err-clause-files g c =
+    subst (λ (f : _). Opens [] c.args.path.now f.disk c.args.host.now.paths.all
+    c.disk.new.self.paths.all) (sym c.unopened.ensures) (none_opened c.in-Err.ensures.paths)

@@ -1,0 +1,35 @@
+//! What `export` does.
+ghost use Rattle.std.specs.Prelude.{◌≡◌, []};
+ghost use Rattle.mot_commands.specs.Commands.{ExportsFile};
+ghost use Rattle.mot_numbers.specs.declared.refusal.Refusal.TheVariants.{DeviceFault};
+ghost use Rattle.mot_outcome.specs.Outcome.{Finishes, Opens};
+
+use crate::finishing::finish;
+use disk_store::Start;
+use mot_endpoints::Host;
+use mot_export::export_disk;
+use mot_outcome::Finished;
+use std::alloc::Global;
+use std::io::Write;
+
+/// Prints the carousel of the disk of the file at the path as lines.
+pub fn export_file<B: Start, W: Write>(
+    host: &mut Host<'_>,
+    alloc: Global,
+    path: &str,
+    start: B,
+    writer: &mut W,
+) -> Finished<B, ()>
+    ensures ended { Finishes (λ r. r ≡ DeviceFault) (λ ending used.
+        ExportsFile ending used (W.contents writer.old) (W.contents writer.new))
+        result (W.contents writer.old) (W.contents writer.new) }
+    ensures files { Opens [] path.now result.disk host.old.paths.all host.new.paths.all }
+{
+    match host.disk(path, start) {
+        Ok(disk) => {
+            let ended = export_disk(alloc, disk, writer);
+            finish(host, ended)
+        }
+        Err(unopened) => Finished::unopened(unopened),
+    }
+}

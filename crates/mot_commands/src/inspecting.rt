@@ -1,0 +1,36 @@
+//! What `inspect` does.
+ghost use Rattle.std.specs.Prelude.{◌≡◌, []};
+ghost use Rattle.mot_commands.specs.Commands.{InspectsFile};
+ghost use Rattle.mot_numbers.specs.declared.refusal.Refusal.TheVariants.{DeviceFault};
+ghost use Rattle.mot_outcome.specs.Outcome.{Finishes, Opens};
+
+use crate::finishing::finish;
+use disk_store::Start;
+use mot_endpoints::Host;
+use mot_export::inspect_disk;
+use mot_outcome::Finished;
+use std::alloc::Global;
+use std::io::Write;
+
+/// Tells the sizes of the disk of the file at the path.
+pub fn inspect_file<B: Start, W: Write>(
+    host: &mut Host<'_>,
+    alloc: Global,
+    path: &str,
+    rate: Option<u32>,
+    start: B,
+    writer: &mut W,
+) -> Finished<B, ()>
+    ensures ended { Finishes (λ r. r ≡ DeviceFault) (λ ending used.
+        InspectsFile rate ending used (W.contents writer.old) (W.contents writer.new))
+        result (W.contents writer.old) (W.contents writer.new) }
+    ensures files { Opens [] path.now result.disk host.old.paths.all host.new.paths.all }
+{
+    match host.disk(path, start) {
+        Ok(disk) => {
+            let ended = inspect_disk(alloc, disk, rate, writer);
+            finish(host, ended)
+        }
+        Err(unopened) => Finished::unopened(unopened),
+    }
+}

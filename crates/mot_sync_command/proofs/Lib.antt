@@ -1,0 +1,2 @@
+pub mod Synced
+pub mod Written

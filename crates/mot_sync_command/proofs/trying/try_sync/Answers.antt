@@ -1,0 +1,52 @@
+use Rattle.std.proofs.Common.{[], ◌∷◌, ◌++◌, ◌≡◌, inl, inr, subst, sym}
+use Rattle.std.proofs.KnownBytes.{Keeps-refl}
+use Rattle.std.specs.Prelude.{codes}
+use Rattle.mot_outcome.proofs.Laws.{concludes_more}
+use Rattle.mot_outcome.proofs.Laws.{begun_first, opened_after}
+use Rattle.mot_sync_command.proofs.trying.try_sync.Goals as goal
+use Rattle.mot_sync_command.specs.Commands.{IsUnsynced}
+use Rattle.mot_outcome.specs.Outcome.{Concludes}
+use Rattle.mot_sync_command.specs.Trying.{TriesTask, TriesTo}
+use Rattle.mot_endpoints.specs.Opened.{named}
+use Rattle.mot_numbers.specs.declared.refusal.Refusal.TheVariants.{DeviceFault}
+use Rattle.mot_outcome.specs.Outcome.{Opens}
+
+pub returns-in-Ok-clause-opens : goal.returns-in-Ok-clause-opens
+returns-in-Ok-clause-opens g c =
+    opened_after (named (codes "types") c.args.types) ((codes "folder", c.args.folder.now) ∷ [])
+    c.args.path.now c.try_file.result.disk c.args.host.now.paths.all
+    c.file_types.new.host.paths.all c.try_file.new.host.paths.all c.in-Ok.ensures.opens
+    c.try_file.ensures.opens
+
+pub returns-in-Err-clause-opens : goal.returns-in-Err-clause-opens
+returns-in-Err-clause-opens g c =
+    let types = named (codes "types") c.args.types in
+    let others = (codes "folder", c.args.folder.now) ∷ [] in
+    let old = c.args.host.now.paths.all in
+    let new = c.file_types.new.host.paths.all in
+    subst (λ (f : _). Opens (types ++ others) c.args.path.now f.disk old new)
+    (sym c.unbegun.ensures)
+    (begun_first types others old new c.in-Err.ensures.opens)
+
+pub returns-in-Ok-clause-ended : goal.returns-in-Ok-clause-ended
+returns-in-Ok-clause-ended g c =
+    let types = c.args.types in
+    let rules = c.args.rules in
+    let path = c.args.folder.now in
+    let used = c.try_file.result.disk in
+    let old = g.W.Write.contents c.args.log.now in
+    let new = g.W.Write.contents c.try_file.new.log in
+    concludes_more (λ r. r ≡ DeviceFault) (IsUnsynced types)
+    (λ all ending. TriesTo c.in-Ok.types rules path all ending old new used)
+    (λ all ending. TriesTask types rules path all ending used old new) used old new
+    c.try_file.result.result (λ r early. inr early)
+    (λ all ending syncs. (c.in-Ok.types, c.in-Ok.ensures.typed, syncs)) c.try_file.ensures.ended
+
+pub returns-in-Err-clause-ended : goal.returns-in-Err-clause-ended
+returns-in-Err-clause-ended g c =
+    let types = c.args.types in
+    let old = g.W.Write.contents c.args.log.now in
+    subst (λ (f : _). Concludes (IsUnsynced types) (λ all ending.
+    TriesTask types c.args.rules c.args.folder.now all ending f.disk old old) f.result f.disk old old)
+    (sym c.unbegun.ensures)
+    (inl (inl c.in-Err.ensures.refused, record { untouched = tt; silent = Keeps-refl _ }))

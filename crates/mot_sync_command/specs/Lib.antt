@@ -1,0 +1,4 @@
+pub mod Commands
+pub mod Inner
+pub mod Syncing
+pub mod Trying

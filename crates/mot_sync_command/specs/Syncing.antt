@@ -1,0 +1,68 @@
+-- What making a disk's carousel equal to a folder does.
+use Rattle.std.specs.Prelude.{◌≡◌, ◌⊎◌, ℕ, Bool, true, List, [], Option, Some, None}
+use Rattle.std.specs.Io.KnownBytes.{Appends, Keeps}
+use Rattle.std.specs.List.{flat_map}
+use Rattle.disk_model.specs.Disk.{State}
+use Rattle.mot_export.specs.Ending.{EndsBy, Leaves}
+use Rattle.mot_events.specs.Text.{met_line}
+use Rattle.mot_events.specs.declared.event.LookEvent.{LookEvent}
+use Rattle.mot_folder.specs.Looked.{IsLook, TellsRightly}
+use Rattle.mot_folder.specs.declared.known.Known.{Known}
+use Rattle.mot_journal.specs.Image.{Standing, half_of}
+use Rattle.mot_journal.specs.Slot.{layout_of}
+use Rattle.mot_numbers.specs.declared.refusal.Refusal.{Refusal}
+use Rattle.mot_numbers.specs.declared.refusal.Refusal.TheVariants.{WriteFault}
+use Rattle.mot_objects.specs.declared.command.Command.{Command}
+use Rattle.mot_repository.specs.Repository.{IsOf}
+use Rattle.mot_shelf.specs.Given.{Given}
+use Rattle.mot_suffixes.specs.Types.{SuffixType}
+use Rattle.mot_update.specs.Laws.{IsUpdated, names_of}
+use Rattle.mot_update.specs.declared.wanted.Wanted.{Wanted}
+
+-- Nothing was refused: an object of each name was read, and now the disk stands for exactly these
+-- objects, of which those that were right before are untouched.
+pub record IsEqual (s : Standing) (names : List (List ℕ)) (wanted : List Wanted)
+    (now : State) : Type 0 where
+  pub every : names_of wanted ≡ names
+  pub last : Standing
+  pub geometry : last.geometry ≡ s.geometry
+  pub updated : IsUpdated s.carousel names wanted last.carousel
+  pub stands : (image : List ℕ) → now.MayLeave image → IsOf last image
+
+-- In these the folder of this path was looked at, by these types, where it was allowed or not that
+-- the carousel gets empty, and gave this.
+module _ (types : List SuffixType) (allows : Bool) (path : List ℕ) (given : Given)
+    (start now : State) where
+  -- What a look made of a disk that stood for s: whether all of it is right, what broke it off, and
+  -- what was told of it.
+  pub record HasSynced (all : Bool) (fault : Option Refusal) (entries : List LookEvent)
+      (s : Standing) : Type 0 where
+    pub commands : List Command
+    pub marks : List Bool
+    pub leaves : Leaves s commands marks fault start now
+    pub names : List (List ℕ)
+    pub wanted : List Wanted
+    -- no file was known before it: so none was passed over
+    pub known : List Known
+    pub look : IsLook types allows path given s.carousel commands marks fault names wanted all
+        entries [] known
+    -- what is told of a command is what comes of it, in the layout of the records of the disk
+    pub right : TellsRightly (layout_of (half_of s.geometry start.bytes)) s commands entries
+    pub equal : all ≡ true → fault ≡ None → IsEqual s names wanted now
+
+  -- A look came to its end, and a line for each thing that is told of it was written to the log. Or
+  -- it broke off, also where a line had no memory; or what is told of it could not be written.
+  pub record SyncsAndTells (all : Bool) (ending : Option Refusal) (old new : Option (List ℕ))
+      (s : Standing) : Type 0 where
+    pub fine : Bool
+    pub fault : Option Refusal
+    pub entries : List LookEvent
+    pub synced : HasSynced fine fault entries s
+    pub why : (fault ≡ ending) ⊎ ((fault ≡ None) × (ending ≡ Some WriteFault))
+    pub told : ending ≡ None → (fine ≡ all) × Appends old new (flat_map met_line entries)
+
+  -- The disk's carousel was made equal to the folder, up to this ending; where it came to its end,
+  -- true if nothing was refused. The log's known bytes were old and are new.
+  abbrev pub Syncs : (all : Bool) → Option Refusal → (old new : Option (List ℕ)) → Type 0
+  Syncs all ending old new =
+      EndsBy ending (Keeps old new) (SyncsAndTells all ending old new) start now

@@ -1,0 +1,198 @@
+//! What `sync` does: it makes the carousel of a disk equal to a folder.
+ghost use Rattle.std.specs.Prelude.{◌≡◌, ◌∷◌, [], IfErr, MatchResult, OnOk, codes, false, flat_map};
+ghost use Rattle.std.specs.Result.{result_unwrap_or};
+ghost use Rattle.std.specs.Io.KnownBytes.{Appends};
+ghost use Rattle.disk_model.specs.Disk.{KeepsLength};
+ghost use Rattle.mot_events.specs.Text.{met_line};
+ghost use Rattle.mot_feed.specs.Feeding.{IsFeedFault};
+ghost use Rattle.mot_journal.specs.Image.{Standing};
+ghost use Rattle.mot_numbers.specs.declared.refusal.Refusal.TheVariants.{DeviceFault, WriteFault};
+ghost use Rattle.mot_outcome.specs.Outcome.{Concludes, Opens};
+ghost use Rattle.mot_playout.specs.Attempts.{fault_of};
+ghost use Rattle.mot_repository.specs.Repository.{Holds};
+ghost use Rattle.mot_shelf.specs.Seen.{given_of};
+ghost use Rattle.mot_sync_command.specs.Commands.{IsUnsynced, SyncsTask, SyncsTo, synced_with};
+ghost use Rattle.mot_sync_command.specs.Inner.Looked.{LooksAndTells};
+ghost use Rattle.mot_sync_command.specs.Syncing.{Syncs};
+ghost use Rattle.mot_update.specs.Faults.{StaysCalm};
+
+use disk_model::Disk;
+use disk_store::Start;
+use mot_cli::LookRules;
+use mot_endpoints::{Cause, Host, file_types};
+use mot_events::{LookEvent, add_met_line};
+use mot_export::Ended;
+use mot_files::System;
+use mot_folder::{FileTypes, Folder, KnownFiles, look_at_folder};
+use mot_numbers::Refusal;
+use mot_outcome::{Beside, Finished};
+use mot_playout::Server;
+use mot_shelf::{Seen, Shelf, SystemShelf};
+use std::alloc::Global;
+use std::io::Write;
+
+/// Makes the carousel of the disk of the file at the path equal to the files of a folder that have
+/// one of the known suffixes, or of those that a file adds.
+pub fn sync<'a, B: Start, W: Write>(
+    host: &mut Host<'a>,
+    alloc: Global,
+    path: &str,
+    folder: &'a str,
+    types: Option<&str>,
+    rules: LookRules,
+    start: B,
+    log: &mut W,
+) -> Finished<B, bool>
+    ensures ended { Concludes (IsUnsynced types.entry) (λ all ending. SyncsTask types.entry rules
+        folder.now all ending result.disk (W.contents log.old) (W.contents log.new))
+        result.result result.disk (W.contents log.old) (W.contents log.new) }
+    ensures opens { Opens (synced_with types.entry folder.now) path.now result.disk
+        host.old.paths.all host.new.paths.all }
+{
+    match file_types(host, alloc, types) {
+        Ok(types) => sync_file(host, alloc, path, folder, &types, rules, start, log),
+        Err(unbegun) => Finished::unbegun(unbegun.refusal, unbegun.cause, start),
+    }
+}
+
+/// Makes the carousel of the disk of the file at the path equal to a folder.
+fn sync_file<'a, B: Start, W: Write>(
+    host: &mut Host<'a>,
+    alloc: Global,
+    path: &str,
+    folder: &'a str,
+    types: &FileTypes,
+    rules: LookRules,
+    start: B,
+    log: &mut W,
+) -> Finished<B, bool>
+    ensures ended { Concludes (λ r. r ≡ DeviceFault) (λ all ending. SyncsTo types.now rules
+        folder.now all ending (W.contents log.old) (W.contents log.new) result.disk)
+        result.result result.disk (W.contents log.old) (W.contents log.new) }
+    ensures opens { Opens ((codes "folder", folder.now) ∷ []) path.now result.disk
+        host.old.paths.all host.new.paths.all }
+{
+    let shelf = host.folder(folder, rules.at_once);
+    match host.disk(path, start) {
+        Ok(disk) => {
+            let (ended, cause, seen) = sync_shelf(
+                alloc,
+                disk,
+                shelf,
+                types,
+                rules.allow_empty,
+                log,
+            );
+            Finished::of_file(ended, Beside::folder(seen), cause)
+        }
+        Err(unopened) => Finished::unopened(unopened),
+    }
+}
+
+/// Makes the carousel of the disk equal to a folder. Why the folder was not opened, and what it
+/// gave, are handed out. (It is a function of its own, for any system of files, since calls at the
+/// program's own take longer to prove.)
+pub(crate) fn sync_shelf<Y: System + Drop, D: Disk, W: Write>(
+    alloc: Global,
+    disk: D,
+    shelf: SystemShelf<'_, Y>,
+    types: &FileTypes,
+    allows_empty: bool,
+    log: &mut W,
+) -> (Ended<D, bool>, Option<Cause>, Seen)
+    ensures { Syncs types.now allows_empty shelf.entry.path.now (given_of result.2)
+        (D.state disk) (D.state result.0.disk) (result_unwrap_or result.0.result false)
+        (fault_of result.0.result) (W.contents log.old) (W.contents log.new) }
+{
+    let mut folder = Folder::new(alloc, shelf, types, allows_empty);
+    let ended = sync_disk(alloc, disk, &mut folder, log);
+    let cause = Cause::of_folder(folder.shelf.fault());
+    (ended, cause, folder.shelf.into_seen())
+}
+
+/// Opens the disk and makes its carousel equal to the folder, of which all files are read; whether
+/// nothing was refused. The lines of the look are written to the log.
+pub fn sync_disk<S: Shelf + Drop, D: Disk, L: Write>(
+    alloc: Global,
+    disk: D,
+    folder: &mut Folder<'_, S>,
+    log: &mut L,
+) -> Ended<D, bool>
+    ensures { Syncs folder.old.types.now folder.old.allows_empty (S.path folder.old.shelf)
+        (S.gave folder.new.shelf) (D.state disk) (D.state result.disk)
+        (result_unwrap_or result.result false) (fault_of result.result)
+        (L.contents log.old) (L.contents log.new) }
+{
+    let mut server = match Server::open(alloc, disk) {
+        Ok(server) => server,
+        Err(refused) => return Ended::unopened(refused),
+    };
+    // Its sizes are in their ranges. (The line is there for the proof.)
+    let _ = server.geometry();
+    // Whatever is known of them, the files are read.
+    folder.files = KnownFiles::new(alloc);
+    let result = look_and_tell(alloc, &mut server, folder, log);
+    Ended {
+        disk: server.into_disk(),
+        result,
+        reason: None,
+    }
+}
+
+/// Looks at the folder once, and writes the lines of the look to the log; whether nothing was
+/// refused.
+fn look_and_tell<S: Shelf + Drop, D: Disk, L: Write>(
+    alloc: Global,
+    server: &mut Server<D>,
+    folder: &mut Folder<'_, S>,
+    log: &mut L,
+) -> Result<bool, Refusal>
+    ensures keeps { KeepsLength (D.state server.old.disk) (D.state server.new.disk) }
+    ensures faults { MatchResult result (λ _. StaysCalm server.old server.new
+        (D.state server.old.disk) (D.state server.new.disk)) (λ r. IsFeedFault server.old
+        (D.state server.old.disk) (D.state server.new.disk) r) }
+    ensures looked { (s : Standing) → Holds server.old.view s (D.state server.old.disk)
+        → (D.state server.new.disk).IsHonest
+        → LooksAndTells server.old server.new (D.state server.old.disk)
+        (D.state server.new.disk) s folder.old.types.now folder.old.allows_empty
+        (S.path folder.old.shelf) (S.gave folder.new.shelf) folder.old.files.known.items
+        (L.contents log.old) (L.contents log.new) result }
+{
+    let looked = look_at_folder(alloc, server, folder);
+    let told = write_events(alloc, log, folder.report.events.as_slice());
+    looked?;
+    told?;
+    Ok(!folder.report.any_refused)
+}
+
+/// Writes a line for each event to the log.
+fn write_events<L: Write>(alloc: Global, log: &mut L, events: &[LookEvent]) -> Result<(), Refusal>
+    ensures written { OnOk result (Appends (L.contents log.old) (L.contents log.new)
+        (flat_map met_line events.now)) }
+    ensures fault { IfErr result (λ r. r ≡ WriteFault) }
+{
+    let mut line = Vec::new(alloc);
+    for event in events {
+        write_event(&mut line, log, event)?;
+    }
+    match log.flush() {
+        Ok(()) => Ok(()),
+        Err(_) => Err(Refusal::WriteFault),
+    }
+}
+
+/// Writes the line of an event to the log.
+fn write_event<L: Write>(line: &mut Vec<u8>, log: &mut L, event: &LookEvent) -> Result<(), Refusal>
+    ensures written { OnOk result (Appends (L.contents log.old) (L.contents log.new)
+        (met_line event.now)) }
+    ensures fault { IfErr result (λ r. r ≡ WriteFault) }
+{
+    line.clear();
+    if add_met_line(line, event).is_err() {
+        return Err(Refusal::WriteFault);
+    }
+    match log.write_all(line.as_slice()) {
+        Ok(()) => Ok(()),
+        Err(_) => Err(Refusal::WriteFault),
+    }
+}
