@@ -18,8 +18,6 @@ ghost use Rattle.mot_player.specs.Staying.{RequestsTakeInOrder};
 ghost use Rattle.mot_player.specs.Repeats.{TurnsReadWithDirectories};
 ghost use Rattle.mot_player.specs.Rounds.{RoundsAreContinuous};
 
-use crate::course::Course;
-use crate::groups::LastGroup;
 use crate::lengths::packets_of_entity;
 use crate::state::State;
 use crate::{Bodies, Played, Spare, Turn};
@@ -89,26 +87,7 @@ impl Player {
         ensures replaced_in_place { OnOk result ReplacedKeepsItsPlace }
         ensures in_order { OnOk result RequestsTakeInOrder }
     {
-        let size = usize::from(segment_size.get());
-        let course = Course::ended(alloc, turn.entity_count());
-        let group = Vec::with_capacity(alloc, size + 11)?;
-        let last_directory = LastGroup::none(alloc, size)?;
-        let last_body = LastGroup::none(alloc, size)?;
-        let buffer = vec![in alloc; 0; size]?;
-        let state = State {
-            address,
-            full_length,
-            segment_size,
-            turn,
-            course,
-            follows: None,
-            group,
-            sent: 0,
-            index: 0,
-            last_directory,
-            last_body,
-            buffer,
-        };
+        let state = State::open(alloc, address, full_length, segment_size, turn)?;
         Ok(Player { state })
     }
 

@@ -1,7 +1,7 @@
 //! The state of a player, and its buffers.
 ghost use Rattle.std.specs.Prelude.{◌≡◌, ℕ, ◌+◌, ◌^◌, ◌<◌, ◌≤◌, List, length, take, drop};
 ghost use Rattle.std.specs.Prelude.{vec_capacity, vec_len, true, false, Some, OnSome, OnOk, OnErr};
-ghost use Rattle.std.specs.Prelude.{is_some};
+ghost use Rattle.std.specs.Prelude.{IfOk, None, is_some};
 
 use crate::course::{Course, Waiting};
 use crate::difference::Difference;
@@ -11,6 +11,7 @@ use crate::reading::read_front;
 use crate::{Bodies, Turn};
 use mot_numbers::{Address, GroupKind, PacketLength, Refusal, SegmentSize};
 use mot_packets::{Packet, cut_packet_into};
+use std::alloc::{AllocError, Global};
 
 /// What comes next of a turn, and the group under way.
 #[derive(Drop)]
@@ -44,21 +45,67 @@ pub struct Played {
 }
 
 impl State {
+    ghost use Rattle.mot_numbers.specs.PacketLength.{room_of};
     ghost use Rattle.mot_packets.specs.Packet.{read_packet};
     ghost use Rattle.mot_packets.specs.Written.{bytes_of_packet};
     ghost use Rattle.mot_player.specs.Bodies.{ReadsBodies};
     ghost use Rattle.mot_player.specs.Place.{packet_sent};
-    ghost use Rattle.mot_player.specs.Inner.Ready.{HasBegun, HasTaken, IsFitted, place_with};
+    ghost use Rattle.mot_player.specs.Inner.Ready.{HasBegun, HasTaken, IsFitted, IsReady};
+    ghost use Rattle.mot_player.specs.Inner.Ready.{place_with};
     ghost use Rattle.mot_player.specs.State.{view_of};
     ghost use Rattle.mot_player.specs.Inner.Next.{IsNext, TakesEarly};
     ghost use Rattle.mot_player.specs.PlayerView.{AreBodiesFor};
     ghost use Rattle.mot_player.specs.Course.{course_of};
-    ghost use Rattle.mot_player.specs.Inner.Course.{passed};
+    ghost use Rattle.mot_player.specs.Inner.Course.{ended_course, passed};
     ghost use Rattle.mot_player.specs.Inner.Entities.{IsOnCourse, entity_bytes, entity_length};
     ghost use Rattle.mot_player.specs.Inner.Difference.{difference_in};
     ghost use Rattle.mot_player.specs.Followable.{IsFollowable};
     ghost use Rattle.mot_player.specs.Place.{change_turn, follow};
     ghost use Rattle.mot_player.specs.PlayerView.{turn_with};
+
+    /// The state of a player of a turn, with nothing begun, and room for the largest group.
+    pub fn open(
+        alloc: Global,
+        address: Address,
+        full_length: PacketLength,
+        segment_size: SegmentSize,
+        turn: Turn,
+    ) -> Result<State, AllocError>
+        ensures ready { IfOk result (λ state. IsReady state) }
+        ensures view { IfOk result (λ state. view_of state ≡ record {
+          address = address;
+          room = room_of full_length;
+          segment_size = segment_size;
+          under_way = None;
+          turn = turn;
+          course = ended_course (length turn.bodies + 1);
+          follows = None;
+          index = 0;
+          last_directory = None;
+          last_body = None;
+        }) }
+    {
+        let size = usize::from(segment_size.get());
+        let course = Course::ended(alloc, turn.entity_count());
+        let group = Vec::with_capacity(alloc, size + 11)?;
+        let last_directory = LastGroup::none(alloc, size)?;
+        let last_body = LastGroup::none(alloc, size)?;
+        let buffer = vec![in alloc; 0; size]?;
+        Ok(State {
+            address,
+            full_length,
+            segment_size,
+            turn,
+            course,
+            follows: None,
+            group,
+            sent: 0,
+            index: 0,
+            last_directory,
+            last_body,
+            buffer,
+        })
+    }
 
     /// Begins the group of the next segment, of which no packet is sent yet. If a read of the
     /// bodies fails, all stays as it was.

@@ -1,8 +1,7 @@
-use Rattle.std.proofs.Common.{ℕ, List, length, ap, ◌∙◌}
+use Rattle.std.proofs.Common.{ℕ, ◌+◌, List, length, ap, refl, ◌∙◌}
 use Rattle.mot_groups.specs.Group.{Segment}
 use Rattle.mot_numbers.specs.PacketLength.{room_of}
-use Rattle.mot_player.specs.Course.{CourseView, entities_of, queued, waiting_of}
-use Rattle.mot_player.specs.PlayerView.{turn_with}
+use Rattle.mot_player.specs.PlayerView.{PlayerView, place_of, turn_with}
 use Rattle.mot_player.specs.Place.{opened_place}
 use Rattle.mot_player.specs.Turn.{Turn}
 use Rattle.mot_player.proofs.Continuous.{steps-are-continuous}
@@ -20,16 +19,19 @@ pub returns-clause-opened : goal.returns-clause-opened
 returns-clause-opened c = λ bodies e.
     let turn : Turn = turn_with c.args.turn bodies in
     let size : ℕ = c.args.segment_size in
-    rw (c.in_ok-last_directory.ensures.none, c.in_ok-last_body.ensures.none)
-    (ap (λ (course : CourseView).
-    record (opened_place c.args.address (room_of c.args.full_length) size turn) {
-      waiting = waiting_of size turn course;
-      early = length (queued size (entities_of turn) course.queue);
-    }) c.ended-course.ensures.course
+    ap (λ (s : PlayerView). place_of s bodies) c.in_ok-state.ensures.view
     ∙ ap (λ (w : List Segment).
     record (opened_place c.args.address (room_of c.args.full_length) size turn) { waiting = w })
-    (segments_from-end c.args.turn bodies size c.entity_count.result e
-    c.entity_count.ensures.count))
+    (segments_from-end c.args.turn bodies size (length c.args.turn.bodies + 1) e refl)
+
+pub returns-clause-turn : goal.returns-clause-turn
+returns-clause-turn c = ap (λ (s : PlayerView). s.turn) c.in_ok-state.ensures.view
+
+pub returns-clause-size : goal.returns-clause-size
+returns-clause-size c = ap (λ (s : PlayerView). s.segment_size) c.in_ok-state.ensures.view
+
+pub invariant_of-result : goal.invariant_of-result
+invariant_of-result c = c.in_ok-state.ensures.ready
 
 pub returns-clause-continuous : goal.returns-clause-continuous
 returns-clause-continuous c = steps-are-continuous

@@ -95,8 +95,8 @@ returns-clause-begun c = λ bodies are e.
           let new = w.begin_group.new in
           let is = w.begin_group.ensures in
           subst P (sym w.self-is) (λ course count. begun-directory old part c.pass.new.self
-          new.group new.self n c.entity_tid-tid.result xs bodies c.requires.sent c.entity_tid-tid.ensures
-          c.requires.next c.requires.early are course count w.if-part-eq0.true x
+          new.group new.self n c.entity_tid-tid.result xs bodies c.requires.sent
+          c.entity_tid-tid.ensures c.requires.next c.requires.early are course count w.if-part-eq0.true x
           (is.written, is.last)) c.pass.ensures.course c.entity_count.ensures.count)
       | else-part-eq0 w ↦ (
           let new = w.begin_group-else-part-eq0.new in
@@ -154,25 +154,25 @@ returns-clause-fitted c =
     → n ≡ length s.turn.bodies + 1 → IsFitted (record s { course = new }) in
     elim c.if-part-eq0.branch [
       | then-part-eq0 w ↦ (subst P (sym w.self-is) (λ course count. record {
-          index = is.index;
-          on_course = on course count;
-          plannable = is.plannable;
-          size = is.size;
-          group = le_trans is.group w.begin_group.ensures.capacity;
-          directory = le_trans is.directory w.begin_group.ensures.last_capacity;
-          body = is.body;
-          buffer = is.buffer;
-        }) c.pass.ensures.course c.entity_count.ensures.count)
+        index = is.index;
+        on_course = on course count;
+        plannable = is.plannable;
+        size = is.size;
+        group = le_trans is.group w.begin_group.ensures.capacity;
+        directory = le_trans is.directory w.begin_group.ensures.last_capacity;
+        body = is.body;
+        buffer = is.buffer;
+      }) c.pass.ensures.course c.entity_count.ensures.count)
       | else-part-eq0 w ↦ (subst P (sym w.self-is) (λ course count. record {
-          index = is.index;
-          on_course = on course count;
-          plannable = is.plannable;
-          size = is.size;
-          group = le_trans is.group w.begin_group-else-part-eq0.ensures.capacity;
-          directory = is.directory;
-          body = le_trans is.body w.begin_group-else-part-eq0.ensures.last_capacity;
-          buffer = is.buffer;
-        }) c.pass.ensures.course c.entity_count.ensures.count)
+        index = is.index;
+        on_course = on course count;
+        plannable = is.plannable;
+        size = is.size;
+        group = le_trans is.group w.begin_group-else-part-eq0.ensures.capacity;
+        directory = is.directory;
+        body = le_trans is.body w.begin_group-else-part-eq0.ensures.last_capacity;
+        buffer = is.buffer;
+      }) c.pass.ensures.course c.entity_count.ensures.count)
     ]
 
 pub begin_group-requires-clause-room : goal.begin_group-requires-clause-room
