@@ -1,16 +1,17 @@
 //! The player of what a repository keeps.
-ghost use Rattle.std.specs.Prelude.{◌≡◌, List, ℕ, IfOk, IfErr};
+ghost use Rattle.std.specs.Prelude.{◌≡◌, ◌<◌, List, ℕ, IfOk, IfErr, is_some, length, true};
 ghost use Rattle.mot_numbers.specs.Geometry.{packet_room};
 ghost use Rattle.mot_numbers.specs.declared.refusal.Refusal.TheVariants.{OutOfMemory};
 ghost use Rattle.mot_objects.specs.Stands.{AreBodiesOf, carousel_of};
 ghost use Rattle.mot_player.specs.Place.{opened_place};
-ghost use Rattle.mot_player.specs.PlayerView.{place_of};
+ghost use Rattle.mot_player.specs.PlayerView.{PlayerView, place_of};
 ghost use Rattle.mot_player.specs.Turn.{turn_of_carousel};
 ghost use Rattle.mot_playout.specs.Inner.Plays.{PlaysCarousel};
 
 use disk_model::Disk;
 use mot_numbers::Refusal;
-use mot_player::{Player, Turn};
+use mot_objects::Carousel;
+use mot_player::{Player, Spare, Turn};
 use mot_repository::Repository;
 use std::alloc::Global;
 
@@ -36,4 +37,23 @@ pub(crate) fn player_of<D: Disk>(
     let address = geometry.address_of_packets();
     let length = geometry.length_of_packets();
     Player::new(alloc, address, length, size, turn)
+}
+
+/// The turn of a carousel that comes next, and the room that the player takes to follow it. The
+/// only refusal is `OutOfMemory`.
+pub(crate) fn turn_to_follow(
+    alloc: Global,
+    player: &Player,
+    next: &Carousel,
+) -> Result<(Turn, Spare), Refusal>
+    ensures plays { IfOk result (λ ready. (view : PlayerView) → view.turn ≡ ready.0
+        → view.segment_size ≡ player.now.segment_size
+        → PlaysCarousel next.now player.now.segment_size view) }
+    ensures room { IfOk result (λ ready. is_some player.now.follows ≡ true
+        → length player.now.course.queue < ready.1) }
+    ensures refused { IfErr result (λ refusal. refusal ≡ OutOfMemory) }
+{
+    let turn = Turn::of(alloc, next, player.segment_size())?;
+    let spare = player.spare(alloc)?;
+    Ok((turn, spare))
 }

@@ -18,13 +18,13 @@ ghost use Rattle.mot_repository.specs.Repository.{IsOf, object_body};
 
 use crate::bodies::DiskBodies;
 use crate::comparing::is_body;
-use crate::playing::player_of;
+use crate::playing::{player_of, turn_to_follow};
 use disk_model::Disk;
 use mot_journal::Layout;
 use mot_numbers::{Geometry, Refusal, SegmentSize};
 use mot_objects::{Carousel, Command, Done};
 use mot_packets::Packet;
-use mot_player::{Played, Player, Turn};
+use mot_player::{Played, Player};
 use mot_repository::{Refused, Repository};
 use std::alloc::Global;
 use std::marker::Model;
@@ -231,8 +231,7 @@ impl<D: Disk> Server<D> {
         ensures stays { OnErr result (self.new.player ≡ self.old.player) }
     {
         let prepared = self.bodies.repository.prepare(alloc, command)?;
-        let turn = Turn::of(alloc, prepared.next(), self.player.segment_size())?;
-        let spare = self.player.spare(alloc)?;
+        let (turn, spare) = turn_to_follow(alloc, &self.player, prepared.next())?;
         let done = self.bodies.repository.commit(prepared)?;
         self.player.follow(turn, spare);
         Ok(done)

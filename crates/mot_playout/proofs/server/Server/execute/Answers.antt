@@ -1,6 +1,12 @@
 use Rattle.std.proofs.Common.{◌≡◌, ℕ, ◌+◌, ◌≤◌, ◌<◌, length, Err, inl, inr, refl, sym, ap, ◌∙◌}
-use Rattle.std.proofs.Common.{arith, subst, Option}
-use Rattle.std.specs.Prelude.{is_some}
+use Rattle.std.proofs.Common.{arith, subst, Option, Result, Ok}
+use Rattle.std.specs.Prelude.{IsFalse, is_some}
+use Rattle.disk_model.specs.Disk.{Costs, Keeps, Throughout}
+use Rattle.mot_journal.specs.Image.{Standing}
+use Rattle.mot_numbers.specs.declared.refusal.Refusal.{Refusal}
+use Rattle.mot_objects.specs.declared.command.Done.{Done}
+use Rattle.mot_repository.specs.Cost.{calls_of_command}
+use Rattle.mot_repository.specs.Outcome.{after_command}
 use Rattle.std.proofs.lemmas.Result.{IfOk-from_err, MatchResult-from_err}
 use Rattle.disk_model.proofs.Laws.{begins, keeps_none}
 use Rattle.disk_model.proofs.Laws.{unchanged_none}
@@ -10,14 +16,26 @@ use Rattle.mot_player.specs.Place.{change_turn, changed}
 use Rattle.mot_player.specs.PlayerView.{PlayerView, TurnPlan, place_of, turn_with}
 use Rattle.mot_player.specs.Turn.{turn_of_carousel}
 use Rattle.mot_repository.proofs.Laws.{accepted_parts}
-use Rattle.mot_repository.specs.Repository.{Agrees, IsBeforeOrAfter, RepositoryView}
-use Rattle.mot_playout.specs.Server.{bodies_of}
-use Rattle.mot_repository.specs.Answers.{IsRefusal, accepted, refused, failed}
+use Rattle.mot_repository.specs.Repository.{Agrees, Holds, IsBeforeOrAfter, RepositoryView}
+use Rattle.mot_playout.specs.Server.{ServerView, bodies_of}
+use Rattle.mot_repository.specs.Answers.{IsAnswered, IsChanged, IsRefusal, accepted, refused}
+use Rattle.mot_repository.specs.Answers.{failed}
 use Rattle.mot_playout.proofs.Going.{OnErr-always}
 use Rattle.mot_playout.proofs.OneChange.{followable}
-use Rattle.mot_playout.proofs.Turns.{begins_after, comes_after, plays_of, plays_same}
+use Rattle.mot_playout.proofs.Turns.{begins_after, comes_after, plays_same}
 use Rattle.mot_playout.proofs.Whole.{sound_carousel}
 use Rattle.mot_playout.proofs.server.Server.execute.Goals as goal
+
+-- what holds of the server inside holds of the server
+on : {D : Type 0} (P : ServerView D → Type 0) (inside old : ServerView D) → inside ≡ old → P inside
+    → P old
+on P inside old is p = subst P is p
+
+player-of : {D : Type 0} (inside old : ServerView D) → inside ≡ old → inside.player ≡ old.player
+player-of {D} inside old is = ap (λ (s : ServerView D). s.player) is
+
+view-of : {D : Type 0} (inside old : ServerView D) → inside ≡ old → inside.view ≡ old.view
+view-of {D} inside old is = ap (λ (s : ServerView D). s.view) is
 
 no_less : (a n : ℕ) → a ≤ a + n
 no_less a n = omega arith
@@ -26,7 +44,8 @@ pub returns-in_err-prepared-clause-answered : goal.returns-in_err-prepared-claus
 returns-in_err-prepared-clause-answered g c =
     let refusal = c.in_err-prepared.field-0.0 in
     refused refusal (same_error c.from_residual.result refusal c.from_residual.ensures.1)
-    (rw (← c.self.view_is) c.in_err-prepared.ensures.refused) refl
+    (on (λ v. IsRefusal v.view c.args.command.now refusal) _ _ c.self.view_is
+    c.in_err-prepared.ensures.refused) refl
     (unchanged_none (g.D.Disk.state c.args.self.now.disk))
 
 pub returns-in_err-turn-clause-answered : goal.returns-in_err-turn-clause-answered
@@ -34,43 +53,52 @@ returns-in_err-turn-clause-answered g c =
     let refusal = c.in_err-turn.field-0.0 in
     refused refusal (same_error c.from_residual-in_err-turn.result refusal
     c.from_residual-in_err-turn.ensures.1)
-    (rw (← c.self.view_is) (IsRefusal.no_memory c.in_ok-prepared.ensures.going
+    (on (λ v. IsRefusal v.view c.args.command.now refusal) _ _ c.self.view_is
+    (IsRefusal.no_memory c.in_ok-prepared.ensures.going
     c.in_ok-prepared.ensures.short c.in_err-turn.ensures.refused))
     refl (unchanged_none (g.D.Disk.state c.args.self.now.disk))
 
 pub returns-in_err-done-clause-any_moment : goal.returns-in_err-done-clause-any_moment
-returns-in_err-done-clause-any_moment g c = rw (← c.self.view_is) (λ s holds.
-    c.commit.ensures.any_moment c.args.command.now c.in_ok-prepared.ensures.prepared s holds)
+returns-in_err-done-clause-any_moment g c =
+    let state = g.D.Disk.state in
+    let new = c.commit.new.self in
+    on (λ v. (s : Standing) → Holds v.view s (state v.disk) → Throughout (state v.disk)
+    (state new.disk) (IsBeforeOrAfter v.view.journal.layout s c.args.command.now)) _ _
+    c.self.view_is
+    (c.commit.ensures.any_moment c.args.command.now c.in_ok-prepared.ensures.prepared)
 
 pub invariant_of-self-2 : goal.invariant_of-self-2
 invariant_of-self-2 g c =
-    let is = c.in_ok-turn.ensures in
     let changed = c.in_ok-done.ensures.changed c.args.command.now
     c.in_ok-prepared.ensures.prepared in
-    let plays = plays_of c.next.result.now c.segment_size.result c.in_ok-turn.turn
-    c.follow.new.self c.follow.ensures.turn
-    (c.follow.ensures.size ∙ sym c.segment_size.ensures.value) is.bodies is.exact is.turn in
-    plays_same c.next.result.now c.commit.new.self.view.carousel c.segment_size.result
+    plays_same c.next.result.now c.commit.new.self.view.carousel c.self.inside.player.segment_size
     c.commit.new.self.view.journal.geometry.segment
     c.follow.new.self (c.next.ensures ∙ sym c.in_ok-done.ensures.kept)
-    (c.segment_size.ensures.value ∙ c.self.invariant.size_is
-    ∙ ap (λ (h : Geometry). h.segment) (sym changed.geometry)) plays
+    (c.self.invariant.size_is ∙ ap (λ (h : Geometry). h.segment) (sym changed.geometry))
+    (c.in_ok-turn.ensures.plays c.follow.new.self c.follow.ensures.turn c.follow.ensures.size)
 
 pub returns-clause-answered : goal.returns-clause-answered
-returns-clause-answered g c = rw (← c.self.view_is) (
-    accepted c.in_ok-done.done refl
+returns-clause-answered g c =
+    let done = c.in_ok-done.done in
+    accepted done refl
+    (on (λ v. IsChanged v.view c.args.command.now done c.commit.new.self.view) _ _ c.self.view_is
     (c.in_ok-done.ensures.changed c.args.command.now c.in_ok-prepared.ensures.prepared))
 
 pub returns-clause-any_moment : goal.returns-clause-any_moment
-returns-clause-any_moment g c = rw (← c.self.view_is) (λ s holds.
-    c.commit.ensures.any_moment c.args.command.now c.in_ok-prepared.ensures.prepared s holds)
+returns-clause-any_moment g c =
+    let state = g.D.Disk.state in
+    let new = c.commit.new.self in
+    on (λ v. (s : Standing) → Holds v.view s (state v.disk) → Throughout (state v.disk)
+    (state new.disk) (IsBeforeOrAfter v.view.journal.layout s c.args.command.now)) _ _
+    c.self.view_is
+    (c.commit.ensures.any_moment c.args.command.now c.in_ok-prepared.ensures.prepared)
 
 pub returns-clause-anew : goal.returns-clause-anew
 returns-clause-anew g c = λ s next not was agrees.
     let new : PlayerView = c.follow.new.self in
     let plan : TurnPlan = c.in_ok-turn.turn in
     let old : PlayerView = c.args.self.now.player in
-    let same : c.self.inside.player ≡ old = rw (← c.self.view_is) refl in
+    let same : c.self.inside.player ≡ old = player-of _ _ c.self.view_is in
     begins_after c.commit.new.self.view s next old new plan agrees c.follow.ensures.turn
     (invariant_of-self-2 g c)
     (λ bodies came. c.follow.ensures.begun bodies came
@@ -84,26 +112,31 @@ returns-clause-place g c = λ s next was agrees done.
     let old : PlayerView = c.self.inside.player in
     let view : RepositoryView = c.self.inside.bodies.repository.view in
     let command = c.args.command.now in
-    let same : old ≡ c.args.self.now.player = rw (← c.self.view_is) refl in
-    let kept : view ≡ c.args.self.now.view = rw (← c.self.view_is) refl in
+    let same : old ≡ c.args.self.now.player = player-of _ _ c.self.view_is in
+    let kept : view ≡ c.args.self.now.view = view-of _ _ c.self.view_is in
     let parts = accepted_parts c.args.self.now.view.journal.layout s command c.in_ok-done.done next
     done in
     let sound = sound_carousel c.args.self.now.view s state
     (g.met.D.Disk.sound c.args.self.now.disk was.journal.honest) was in
     comes_after view c.commit.new.self.view s next old c.follow.new.self c.in_ok-turn.turn
-    (length old.course.queue < c.in_ok-spare.spare)
+    (length old.course.queue < c.in_ok-turn.spare)
     (subst (λ (v : RepositoryView). Agrees v s) (sym kept) was.agrees) c.self.invariant agrees
     c.follow.ensures.turn (invariant_of-self-2 g c)
     (followable s.carousel next.carousel s.geometry.objects s.geometry.segment
     next.geometry.segment command c.in_ok-done.done sound parts.rules)
-    c.in_ok-spare.ensures.room c.follow.ensures.place
+    c.in_ok-turn.ensures.room c.follow.ensures.place
     ∙ ap (λ (p : PlayerView).
     changed (turn_of_carousel next.carousel next.geometry.segment)
     (place_of p (bodies_of s.carousel))) same
 
 pub returns-clause-ok : goal.returns-clause-ok
-returns-clause-ok g c = rw (← c.self.view_is) (λ s holds.
-    c.in_ok-done.ensures.ok c.args.command.now c.in_ok-prepared.ensures.prepared s holds)
+returns-clause-ok g c =
+    let state = g.D.Disk.state in
+    let new = c.commit.new.self in
+    on (λ v. (s : Standing) → Holds v.view s (state v.disk) → (next : Standing)
+    × (after_command v.view.journal.layout s c.args.command.now ≡ Ok (next, c.in_ok-done.done))
+    × Holds new.view next (state new.disk)) _ _ c.self.view_is
+    (c.in_ok-done.ensures.ok c.args.command.now c.in_ok-prepared.ensures.prepared)
 
 pub returns-in_err-prepared-clause-keeps : goal.returns-in_err-prepared-clause-keeps
 returns-in_err-prepared-clause-keeps g c =
@@ -203,69 +236,11 @@ pub returns-in_err-turn-clause-stays : goal.returns-in_err-turn-clause-stays
 returns-in_err-turn-clause-stays g c =
     OnErr-always c.from_residual-in_err-turn.result _ refl
 
-pub returns-in_err-spare-clause-answered : goal.returns-in_err-spare-clause-answered
-returns-in_err-spare-clause-answered g c =
-    let refusal = c.in_err-spare.field-0.0 in
-    refused refusal (same_error c.from_residual-in_err-spare.result refusal
-    c.from_residual-in_err-spare.ensures.1)
-    (rw (← c.self.view_is) (IsRefusal.no_memory c.in_ok-prepared.ensures.going
-    c.in_ok-prepared.ensures.short c.in_err-spare.ensures.refused))
-    refl (unchanged_none (g.D.Disk.state c.args.self.now.disk))
-
-pub returns-in_err-spare-clause-keeps : goal.returns-in_err-spare-clause-keeps
-returns-in_err-spare-clause-keeps g c =
-    record { frame = keeps_none (g.D.Disk.state c.args.self.now.disk); honest = λ is. is }
-
-pub returns-in_err-spare-clause-going : goal.returns-in_err-spare-clause-going
-returns-in_err-spare-clause-going g c =
-    IfOk-from_err c.from_residual-in_err-spare.result _ c.from_residual-in_err-spare.ensures.0
-
-pub returns-in_err-spare-clause-calm : goal.returns-in_err-spare-clause-calm
-returns-in_err-spare-clause-calm g c =
-    IfOk-from_err c.from_residual-in_err-spare.result _ c.from_residual-in_err-spare.ensures.0
-
-pub returns-in_err-spare-clause-cost : goal.returns-in_err-spare-clause-cost
-returns-in_err-spare-clause-cost g c =
-    record {
-      at_most = no_less _ _;
-      exact = IfOk-from_err c.from_residual-in_err-spare.result _ c.from_residual-in_err-spare.ensures.0;
-    }
-
-pub returns-in_err-spare-clause-untouched : goal.returns-in_err-spare-clause-untouched
-returns-in_err-spare-clause-untouched g c =
-    MatchResult-from_err c.from_residual-in_err-spare.result _ _
-    c.from_residual-in_err-spare.ensures.0 (λ refusal. inr refl)
-
-pub returns-in_err-spare-clause-any_moment : goal.returns-in_err-spare-clause-any_moment
-returns-in_err-spare-clause-any_moment g c =
-    λ s holds.
-    let old = c.args.self.now in
-    begins (g.D.Disk.state old.disk)
-    (IsBeforeOrAfter old.view.journal.layout s c.args.command.now)
-    (g.met.D.Disk.sound old.disk holds.journal.honest) (λ image left. inl (holds.each image left))
-
-pub returns-in_err-spare-clause-ok : goal.returns-in_err-spare-clause-ok
-returns-in_err-spare-clause-ok g c =
-    λ s holds. IfOk-from_err c.from_residual-in_err-spare.result _
-    c.from_residual-in_err-spare.ensures.0
-
-pub returns-in_err-spare-clause-place : goal.returns-in_err-spare-clause-place
-returns-in_err-spare-clause-place g c =
-    λ s next was agrees. IfOk-from_err c.from_residual-in_err-spare.result _
-    c.from_residual-in_err-spare.ensures.0
-
-pub returns-in_err-spare-clause-anew : goal.returns-in_err-spare-clause-anew
-returns-in_err-spare-clause-anew g c =
-    λ s next not was agrees. IfOk-from_err c.from_residual-in_err-spare.result _
-    c.from_residual-in_err-spare.ensures.0
-
-pub returns-in_err-spare-clause-stays : goal.returns-in_err-spare-clause-stays
-returns-in_err-spare-clause-stays g c =
-    OnErr-always c.from_residual-in_err-spare.result _ refl
-
 pub returns-in_err-done-clause-keeps : goal.returns-in_err-done-clause-keeps
 returns-in_err-done-clause-keeps g c =
-    rw (← c.self.view_is) c.commit.ensures.keeps
+    let state = g.D.Disk.state in
+    on (λ v. Keeps (state v.disk) (state c.commit.new.self.disk)) _ _ c.self.view_is
+    c.commit.ensures.keeps
 
 pub returns-in_err-done-clause-going : goal.returns-in_err-done-clause-going
 returns-in_err-done-clause-going g c =
@@ -278,7 +253,9 @@ returns-in_err-done-clause-calm g c =
 pub returns-in_err-done-clause-cost : goal.returns-in_err-done-clause-cost
 returns-in_err-done-clause-cost g c =
     let all = c.commit.ensures.cost c.args.command.now c.in_ok-prepared.ensures.prepared in
-    rw (← c.self.view_is) (record {
+    let state = g.D.Disk.state in
+    on (λ v. Costs (calls_of_command v.view.journal c.args.command.now) (state v.disk)
+    (state c.commit.new.self.disk) c.from_residual-in_err-done.result) _ _ c.self.view_is (record {
       at_most = all.at_most;
       exact = IfOk-from_err c.from_residual-in_err-done.result _
           c.from_residual-in_err-done.ensures.0;
@@ -292,7 +269,10 @@ returns-in_err-done-clause-untouched g c =
 
 pub returns-in_err-done-clause-answered : goal.returns-in_err-done-clause-answered
 returns-in_err-done-clause-answered g c =
-    rw (← c.self.view_is) (
+    let state = g.D.Disk.state in
+    let new = c.commit.new.self in
+    on (λ v. IsAnswered v.view new.view (state v.disk) (state new.disk) c.args.command.now
+    c.from_residual-in_err-done.result) _ _ c.self.view_is (
     failed (same_error c.from_residual-in_err-done.result c.in_err-done.field-0.0
     c.from_residual-in_err-done.ensures.1
     ∙ ap Err c.in_err-done.ensures.fault) c.in_ok-prepared.ensures.going
@@ -315,19 +295,24 @@ returns-in_err-done-clause-anew g c =
 
 pub returns-in_err-done-clause-stays : goal.returns-in_err-done-clause-stays
 returns-in_err-done-clause-stays g c =
-    OnErr-always c.from_residual-in_err-done.result _ (rw (← c.self.view_is) refl)
+    OnErr-always c.from_residual-in_err-done.result _ (player-of _ _ c.self.view_is)
 
 pub returns-clause-keeps : goal.returns-clause-keeps
 returns-clause-keeps g c =
-    rw (← c.self.view_is) c.commit.ensures.keeps
+    let state = g.D.Disk.state in
+    on (λ v. Keeps (state v.disk) (state c.commit.new.self.disk)) _ _ c.self.view_is
+    c.commit.ensures.keeps
 
 pub returns-clause-going : goal.returns-clause-going
 returns-clause-going g c =
-    rw (← c.self.view_is) c.in_ok-prepared.ensures.going
+    on (λ v. IsFalse v.view.halted) _ _ c.self.view_is c.in_ok-prepared.ensures.going
 
 pub returns-clause-cost : goal.returns-clause-cost
 returns-clause-cost g c =
-    rw (← c.self.view_is)
+    let state = g.D.Disk.state in
+    let ended : Result Done Refusal = Ok c.in_ok-done.done in
+    on (λ v. Costs (calls_of_command v.view.journal c.args.command.now) (state v.disk)
+    (state c.commit.new.self.disk) ended) _ _ c.self.view_is
     (c.in_ok-done.ensures.cost c.args.command.now c.in_ok-prepared.ensures.prepared)
 
 pub returns-clause-untouched : goal.returns-clause-untouched
