@@ -67,6 +67,15 @@ returns-in_err-done-clause-any_moment g c =
     c.self.view_is
     (c.commit.ensures.any_moment c.args.command.now c.in_ok-prepared.ensures.prepared)
 
+pub invariant_of-self : goal.invariant_of-self
+invariant_of-self g c =
+    let halted = c.in_err-done.ensures.halted in
+    let old : RepositoryView = c.self.inside.bodies.repository.view in
+    let new : RepositoryView = c.commit.new.self.view in
+    plays_same old.carousel new.carousel old.journal.geometry.segment new.journal.geometry.segment
+    c.self.inside.player (sym halted.carousel)
+    (ap (λ (h : Geometry). h.segment) (sym halted.geometry)) c.self.invariant
+
 pub invariant_of-self-2 : goal.invariant_of-self-2
 invariant_of-self-2 g c =
     let changed = c.in_ok-done.ensures.changed c.args.command.now
