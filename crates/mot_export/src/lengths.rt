@@ -69,12 +69,14 @@ fn write_shorter<W: Write>(writer: &mut W, size: usize) -> Result<(), Refusal>
     ensures { OnOk result (Appends (W.contents writer.old) (W.contents writer.new)
         (filled_line (codes "shorter") (filled_below size))) }
 {
-    write_word(writer, "shorter")?;
-    write_size(writer, filled_below(size, 19))?;
-    write_size(writer, filled_below(size, 43))?;
-    write_size(writer, filled_below(size, 67))?;
-    write_size(writer, filled_below(size, 91))?;
-    write_end(writer)
+    write_columns(
+        writer,
+        "shorter",
+        filled_below(size, 19),
+        filled_below(size, 43),
+        filled_below(size, 67),
+        filled_below(size, 91),
+    )
 }
 
 /// Writes the shortest segments longer than this one whose groups fill their packets.
@@ -83,11 +85,34 @@ fn write_longer<W: Write>(writer: &mut W, size: usize) -> Result<(), Refusal>
     ensures { OnOk result (Appends (W.contents writer.old) (W.contents writer.new)
         (filled_line (codes "longer") (filled_above size))) }
 {
-    write_word(writer, "longer")?;
-    write_size(writer, filled_above(size, 19))?;
-    write_size(writer, filled_above(size, 43))?;
-    write_size(writer, filled_above(size, 67))?;
-    write_size(writer, filled_above(size, 91))?;
+    write_columns(
+        writer,
+        "longer",
+        filled_above(size, 19),
+        filled_above(size, 43),
+        filled_above(size, 67),
+        filled_above(size, 91),
+    )
+}
+
+/// Writes a word, and sizes of segments for packets of each length.
+fn write_columns<W: Write>(
+    writer: &mut W,
+    word: &str,
+    in_24: usize,
+    in_48: usize,
+    in_72: usize,
+    in_96: usize,
+) -> Result<(), Refusal>
+    ensures { OnOk result (Appends (W.contents writer.old) (W.contents writer.new)
+        (word.now ++ size_column in_24 ++ size_column in_48 ++ size_column in_72
+        ++ size_column in_96 ++ 10 ∷ [])) }
+{
+    write_word(writer, word)?;
+    write_size(writer, in_24)?;
+    write_size(writer, in_48)?;
+    write_size(writer, in_72)?;
+    write_size(writer, in_96)?;
     write_end(writer)
 }
 

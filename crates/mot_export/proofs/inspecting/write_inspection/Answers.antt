@@ -1,7 +1,9 @@
-use Rattle.std.proofs.Common.{◌≡◌, ◌∙◌, ◌+◌, ◌++◌, ℕ, List, Result, Ok, Err, ap, length, refl, sym}
-use Rattle.std.proofs.Common.{subst}
+use Rattle.std.proofs.Common.{◌≡◌, ◌∙◌, ◌+◌, ◌++◌, ℕ, List, Result, Ok, Err, ap, inl, inr, length}
+use Rattle.std.proofs.Common.{refl, subst, sym}
+use Rattle.std.proofs.KnownBytes.{Keeps-refl}
 use Rattle.std.specs.Prelude.{IfErr}
 use Rattle.mot_numbers.specs.declared.refusal.Refusal.{Refusal}
+use Rattle.mot_numbers.specs.declared.refusal.Refusal.TheVariants.{BadNumber, WriteFault}
 use Rattle.std.specs.Int.{div_ceil}
 use Rattle.std.specs.List.{sum_by}
 use Rattle.mot_numbers.specs.Geometry.{packet_room}
@@ -16,7 +18,7 @@ use Rattle.mot_export.proofs.Inspected.{front_text, told_text, waits_so}
 use Rattle.mot_export.specs.Inspecting.{inspection_text, rates_of, sizes_text, turn_lengths_text}
 use Rattle.mot_export.specs.Inspecting.{turn_text}
 use Rattle.mot_export.specs.Inspecting.{use_text, waits_text}
-use Rattle.mot_export.specs.Inner.Inspected.{HasInspected}
+use Rattle.mot_export.specs.Inner.Inspected.{HasInspected, IsCountingFault, IsInspectingFault}
 use Rattle.mot_carousel.specs.Gap.{IsLongestGap}
 use Rattle.mot_repository.specs.Repository.{Agrees, HasStanding, RepositoryView}
 use Rattle.mot_playout.specs.Server.{place_in}
@@ -30,6 +32,15 @@ if_err : {P Q : Refusal → Type 0} (r : Result Unit Refusal) → ((e : Refusal)
     → IfErr r P → IfErr r Q
 if_err (Ok done) more p = tt
 if_err (Err e) more p = more e p
+
+-- a fault of the writer is none of the count
+not_counted : {A : Type 0} → WriteFault ≡ BadNumber → A
+not_counted is = absurd (cc (is))
+
+not_written : {A : Type 0} (r : Refusal) (old new : ℕ) → IsCountingFault r old new → r ≡ WriteFault
+    → A
+not_written r old new (inl uncounted) is = not_counted (sym is ∙ uncounted.0)
+not_written r old new (inr unread) is = absurd (cc (sym unread.0 ∙ is))
 
 -- what is known of the text that was to be printed is known of what is told of the disk
 inspected : (g : given.Over) (c : After-drop-text-2 g) (is_printed : List ℕ → Type 0)
@@ -101,3 +112,29 @@ pub returns-in_err-packets-clause-uncounted : goal.returns-in_err-packets-clause
 returns-in_err-packets-clause-uncounted g c = λ s holds honest.
     let p = err_from_is_err_and c.from_residual.result c.from_residual.ensures.1 in
     rw p.1 (λ is. c.in_err-packets.ensures.uncounted s holds honest (sym p.2 ∙ is))
+
+pub returns-clause-fault : goal.returns-clause-fault
+returns-clause-fault g c =
+    if_err c.print.result (λ r front. inl (front.0, c.in_ok-packets.ensures.calm))
+    c.print.ensures.front
+
+pub returns-clause-uncounted : goal.returns-clause-uncounted
+returns-clause-uncounted g c = λ s holds honest.
+    if_err c.print.result (λ r front is. not_counted (sym front.0 ∙ is)) c.print.ensures.front
+
+pub returns-in_err-packets-clause-fault : goal.returns-in_err-packets-clause-fault
+returns-in_err-packets-clause-fault g c =
+    let p = err_from_is_err_and c.from_residual.result c.from_residual.ensures.1 in
+    let old = (g.D.Disk.state c.args.server.now.disk).failures in
+    let new = (g.D.Disk.state c.count_turn.new.server.disk).failures in
+    let known = g.W.Write.contents c.args.writer.now in
+    subst (λ r. IfErr r (λ e. IsInspectingFault e old new known known)) (sym p.1)
+    (inr (
+      inl (subst (λ e. IsCountingFault e old new) (sym p.2) c.in_err-packets.ensures.fault),
+      Keeps-refl known,
+    ))
+
+pub returns-in_err-packets-clause-broken : goal.returns-in_err-packets-clause-broken
+returns-in_err-packets-clause-broken g c = λ s holds honest.
+    let p = err_from_is_err_and c.from_residual.result c.from_residual.ensures.1 in
+    rw p.1 (λ is. not_written _ _ _ c.in_err-packets.ensures.fault (sym p.2 ∙ is))

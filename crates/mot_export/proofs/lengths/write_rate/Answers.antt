@@ -1,16 +1,11 @@
-use Rattle.std.proofs.Common.{◌≡◌, ◌∷◌, ◌++◌, ℕ, List, [], codes, subst}
+use Rattle.std.proofs.Common.{◌∷◌, ◌++◌, [], codes, subst}
 use Rattle.std.proofs.KnownBytes.{Appends-trans}
 use Rattle.std.proofs.lemmas.Result.{on_ok_weaker}
 use Rattle.std.specs.Fmt.{decimal}
 use Rattle.std.specs.Io.KnownBytes.{Appends}
 use Rattle.mot_export.specs.Inspecting.{seconds_column}
-use Rattle.mot_export.specs.declared.filling.Frames.{Frames}
+use Rattle.mot_export.proofs.Printed.{same_columns}
 use Rattle.mot_export.proofs.lengths.write_rate.Goals as goal
-
--- a text of four columns, with the same columns
-same : (text : Frames → Frames → Frames → Frames → List ℕ) (p q r s p' q' r' s' : Frames) → p ≡ p'
-    → q ≡ q' → r ≡ r' → s ≡ s' → text p q r s ≡ text p' q' r' s'
-same text p q r s p' q' r' s' ps qs rs ss = cc
 
 pub returns : goal.returns
 returns g c =
@@ -21,7 +16,7 @@ returns g c =
     on_ok_weaker c.write_end.result (λ last.
     subst (Appends (g.W.Write.contents c.args.writer.now)
     (g.W.Write.contents c.write_end.new.writer))
-    (same (λ p q r s. codes "seconds " ++ decimal c.args.rate ++ seconds_column p
+    (same_columns (λ p q r s. codes "seconds " ++ decimal c.args.rate ++ seconds_column p
     ++ seconds_column q ++ seconds_column r ++ seconds_column s ++ 10 ∷ [])
     c.turn_frames-in_24.result c.turn_frames-in_48.result c.turn_frames-in_72.result
     c.turn_frames-in_96.result _ _ _ _ c.turn_frames-in_24.ensures.filled
