@@ -254,7 +254,7 @@ def twenty_unproved_starts_at_once(clone):
 def a_chain_of_runs_where_the_toolchain_has_it(clone):
     status, printed, said = clone.run("serve", "disk", MOTCAR_BUILD="proved", CHAIN="yes", CORES="4")
     expect((0, "proved serve disk\n"), (status, printed))
-    expect_in("which takes about half an hour on four cores\n", said)
+    expect_in("which takes about 25 minutes on four cores\n", said)
     expect("ci", clone.calls("ci")[-1])
     expect_in("ci mot_numbers", clone.calls("ci"))
     expect_in("ci mot_air", clone.calls("ci"))
