@@ -14,7 +14,7 @@ two radios that share no code, welle-cli and gr-dab; what they gather is compare
 both radios have it: welle-cli plays in real time, and misses frames if the machine has other work. It says which of
 these programs are missing.
 
-With --delays ten stations play for twelve minutes, or for so many, as `delays.py` has them: at 32 and at 8 kbit/s, with
+With --delays eleven stations play for twelve minutes, or for so many, as `delays.py` has them: at 32 and at 8 kbit/s, with
 a long pipe and a short one, a new disk, an update of all files. A file of each changes every half minute. It prints
 how long receivers wait for a change, and after tuning in. Without ODR-DabMux readers take the packets as it does.
 
