@@ -55,8 +55,9 @@ pub struct Seen {
     pub block: Option<u64>,
 }
 
-/// What tells a file from every other one, and from itself once it was changed: a file that has the
-/// stamp that it had has the bytes that it had.
+/// What tells a file from every other one, and from itself once it was changed. That a file with the
+/// stamp that it had has the bytes that it had is believed of the system, and not proved:
+/// docs/DISK_MODEL.md says where it is wrong.
 #[derive(Clone, Copy, PartialEq, Eq)]
 pub struct Stamp {
     /// The device that it stands on.
