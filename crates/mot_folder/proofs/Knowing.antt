@@ -18,7 +18,7 @@ use Rattle.mot_folder.specs.declared.known.Known.{Known}
 use Rattle.mot_folder.specs.declared.known.KnownFiles.{KnownFiles}
 use Rattle.mot_folder.specs.declared.known.StampedFile.{StampedFile}
 use Rattle.mot_objects.specs.Carousel as whole
-use Rattle.mot_objects.specs.Stands.{object_of, objects_of}
+use Rattle.mot_objects.specs.Stands.{objects_of}
 use Rattle.mot_objects.specs.declared.object.Object.{Object}
 use Rattle.mot_playout.specs.declared.running.Attempt.{Attempt}
 use Rattle.mot_shelf.specs.Given.{Given, and_kept, and_missed, and_read, and_stamp, and_unchanged}
@@ -63,9 +63,6 @@ module _ {X : Type 0} where
   among_last (y ∷ xs) x = inr (among_last xs x)
 
 -- ---- what a carousel has
-
-is_same : (k : Known) (o : Object) (body : List ℕ) → is_it k (object_of o body) ≡ is_here k o
-is_same k o body = refl
 
 -- with the bodies and without
 pub has_it_there : (k : Known) (os : List Object) (bodies : List (List ℕ))
