@@ -76,8 +76,8 @@ module _ {S : Type 0} {start : Ghosts S} where
   -- end, true if all is done, and a file took its place. What each write took is told, as a list
   -- that begins with the path by which that was opened; and what was given by the folder in each
   -- look, and by each read of lines. Beside packets on standard output nothing is printed to it.
-  abbrev pub PlaysTo : PlayTask → (ℕ → List Given → List (List ℕ) → Bool → Tale) → (all : Bool) → Option Refusal
-      → (old new : Option (List ℕ)) → UsedDisk S start → Type 0
+  abbrev pub PlaysTo : PlayTask → (ℕ → List Given → List (List ℕ) → Bool → Tale) → (all : Bool)
+      → Option Refusal → (old new : Option (List ℕ)) → UsedDisk S start → Type 0
   PlaysTo p tale all ending old new used =
       (target : Target) × IsTarget p.packets.now target × (target ≡ Output → Keeps old new)
       × (target ≡ File → ending ≡ None → OnFile (λ disk beside. beside.taken.is_placed ≡ true) used)

@@ -27,10 +27,8 @@ use Rattle.mot_playout.specs.Runs.{IsAfter, accepted_commands}
 use Rattle.mot_update.specs.Between.{Telling}
 use Rattle.mot_update.specs.declared.moment.Moment.{Moment}
 
--- Changes are followed where the directory is sent again within turns; else a change begins the turn
--- anew.
-
--- where a server that was opened of a disk that stood for s begins to be played so
+-- Where a server that was opened of a disk that stood for s begins to be played so: it follows
+-- changes where the directory is sent again within turns, and else a change begins the turn anew.
 abbrev pub place_at_start : Manner → Standing → Place
 place_at_start how s = place_for how.directory how.early (first_place s)
 

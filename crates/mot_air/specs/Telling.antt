@@ -81,7 +81,8 @@ tells_lines same between w old new moment =
 
 -- of these sources the looks gave that, and something was refused in them, or not; and so much was
 -- told
-pub record HasSeen (end : Sources) (given : List Given) (refused : Bool) (last : TellerView) : Type 0 where
+pub record HasSeen (end : Sources) (given : List Given) (refused : Bool) (last : TellerView) :
+    Type 0 where
   pub looks : end.looks.given ≡ given
   pub any : end.looks.refused ≡ refused
   pub teller : end.teller ≡ last
