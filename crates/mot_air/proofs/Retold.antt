@@ -9,7 +9,7 @@ use Rattle.mot_air.specs.Inner.Beside.{tells_lines_of, tells_reported}
 use Rattle.mot_air.specs.Inner.Fed.{Fed, IsEndOf, disk_of, ending_of}
 use Rattle.mot_air.specs.Telling.{Same, Sources, first_sources, no_looks, tale_told, tale_with}
 use Rattle.mot_air.specs.Telling.{tells_alone, tells_lines}
-use Rattle.mot_events.specs.Log.{Entry, HearsAll}
+use Rattle.mot_events.specs.Told.{Entry, HearsAll}
 use Rattle.mot_events.specs.declared.event.Event as event
 use Rattle.mot_events.proofs.Laws.{hears_as}
 use Rattle.mot_feed_lines.specs.Answering.{TellsBetween, TellsInTurn, TellsOnTime, TellsRead}

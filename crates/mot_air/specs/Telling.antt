@@ -4,7 +4,7 @@ use Rattle.std.specs.Prelude.{◌≡◌, ◌≢◌, ℕ, ◌&&◌, nat_lt, Bool,
 use Rattle.std.specs.Prelude.{Option, Some, None}
 use Rattle.mot_air.specs.Playing.{Tale, look_of_feed}
 use Rattle.mot_air.specs.declared.manner.Manner.{Manner}
-use Rattle.mot_events.specs.Log.{AreOfFiles, Entry, HearsAll}
+use Rattle.mot_events.specs.Told.{AreOfFiles, Entry, HearsAll}
 use Rattle.mot_events.specs.declared.event.LookEvent.{LookEvent}
 use Rattle.mot_feed_lines.specs.Answering.{TellsInTurn}
 use Rattle.mot_feed.specs.Feeding.{AreTold}

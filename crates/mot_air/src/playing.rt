@@ -8,7 +8,7 @@ ghost use Rattle.mot_air.specs.Inner.Beside.{SourcesOf, beside, tells_alone_of, 
 ghost use Rattle.mot_air.specs.Inner.Beside.{tells_reported};
 ghost use Rattle.mot_air.specs.Inner.Fed.{IsEndOf, disk_of, ending_of};
 ghost use Rattle.mot_line_folder.specs.Spooling.{Finishes};
-ghost use Rattle.mot_events.specs.Log.{AreOfFiles, Entry, HearsAll};
+ghost use Rattle.mot_events.specs.Told.{AreOfFiles, Entry, HearsAll};
 ghost use Rattle.mot_folder.specs.Looked.{so_far, watch};
 ghost use Rattle.mot_lines.specs.Hand.{bytes_in_hand};
 ghost use Rattle.mot_numbers.specs.declared.geometry.Geometry.{Geometry};

@@ -1,7 +1,7 @@
 -- What was told, one after the other.
 use Rattle.std.proofs.Common.{◌≡◌, List, [], ◌∷◌, ◌++◌, ap, subst}
-use Rattle.mot_events.specs.Log.{Entry, HearsAll}
-use Rattle.mot_events.specs.Log.Entry.{left_out, of}
+use Rattle.mot_events.specs.Told.{Entry, HearsAll}
+use Rattle.mot_events.specs.Told.Entry.{left_out, of}
 use Rattle.mot_events.specs.declared.event.Event.{Event}
 
 module _ {T : Type 0} (hears : T → Event → T → Type 0) (misses : T → T → Type 0) where

@@ -1,6 +1,6 @@
 //! What happened, as data. An event is made once, where what it says is known.
 ghost use Rattle.std.specs.Prelude.{◌≡◌};
-ghost use Rattle.mot_events.specs.Text.{asked_word, deed_word, skip_word};
+ghost use Rattle.mot_events.specs.Events.{asked_word, deed_word, is_look, skip_word};
 
 use crate::words::Words;
 use mot_numbers::Refusal;
@@ -33,6 +33,16 @@ impl Deed {
             Deed::Withdraw => "withdraw",
             Deed::Read => "read",
             Deed::Look => "look",
+        }
+    }
+
+    /// Whether it is about the whole look.
+    pub fn is_look(self) -> bool
+        ensures { result ≡ is_look self }
+    {
+        match self {
+            Deed::Look => true,
+            _ => false,
         }
     }
 }

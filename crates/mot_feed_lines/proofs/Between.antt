@@ -6,7 +6,7 @@ use Rattle.std.specs.Prelude.{◌≢◌, ◌⊎◌, ⊤, Decides, bytes_eq}
 use Rattle.mot_feed_lines.proofs.Requests.{never}
 use Rattle.disk_model.specs.Disk.{State, IsHonestDisk}
 use Rattle.disk_model.proofs.Laws.{unchanged_none}
-use Rattle.mot_events.specs.Log.{Entry}
+use Rattle.mot_events.specs.Told.{Entry}
 use Rattle.mot_feed_lines.specs.Answering.{IsInHand, TakesMore, TellsBetween, TellsLines}
 use Rattle.mot_feed_lines.specs.Answering.{TellsOnTime, commands_run, late_behind}
 use Rattle.mot_feed_lines.specs.Answering.TellsBetween.{other_alone, then_lines}

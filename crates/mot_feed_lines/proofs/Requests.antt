@@ -4,7 +4,7 @@ use Rattle.std.proofs.Common.{◌∷◌, None, Result, Ok, Err, refl, sym, ap, s
 use Rattle.std.specs.Prelude.{if◌then◌else◌}
 use Rattle.disk_model.specs.Disk.{State, IsHonestDisk}
 use Rattle.disk_model.proofs.Laws.{unchanged_none}
-use Rattle.mot_events.specs.Log.{Entry}
+use Rattle.mot_events.specs.Told.{Entry}
 use Rattle.mot_feed_lines.specs.Answering.{asked_here, is_want_of_memory, run_of}
 use Rattle.mot_feed_lines.specs.Inner.Request.{HasAnswered, done_of}
 use Rattle.mot_feed_lines.specs.Logged.{LogHas}

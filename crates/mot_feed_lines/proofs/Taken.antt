@@ -8,7 +8,7 @@ use Rattle.std.proofs.lemmas.List.{map-append}
 use Rattle.std.proofs.lemmas.List.Concat.{flat_map-cons}
 use Rattle.disk_model.specs.Disk.{State, IsHonestDisk}
 use Rattle.disk_model.proofs.Laws.{unchanged_none}
-use Rattle.mot_events.specs.Log.{Entry, HearsAll}
+use Rattle.mot_events.specs.Told.{Entry, HearsAll}
 use Rattle.mot_events.specs.declared.event.Event.{Event}
 use Rattle.mot_events.proofs.Laws.{hears_on}
 use Rattle.mot_feed_lines.specs.Answering.{AnswersMore, AreLogged, AreReplies, TakesMore}

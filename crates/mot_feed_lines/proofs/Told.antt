@@ -3,8 +3,8 @@ use Rattle.std.proofs.Common.{◌≡◌, ℕ, Bool, true, false, List, [], ◌�
 use Rattle.std.proofs.Common.{append_assoc, subst}
 use Rattle.std.specs.Prelude.{◌&&◌}
 use Rattle.std.proofs.lemmas.List.{map-append}
-use Rattle.mot_events.specs.Log.{Entry, HearsAll, is_complete, is_event}
-use Rattle.mot_events.specs.Log.Entry.{left_out, of}
+use Rattle.mot_events.specs.Told.{Entry, HearsAll, is_complete, is_event}
+use Rattle.mot_events.specs.Told.Entry.{left_out, of}
 use Rattle.mot_events.specs.declared.event.Event.{Event}
 use Rattle.mot_events.proofs.Laws.{hears_on}
 use Rattle.mot_feed_lines.specs.Logged.{Answers, AreAnswers, AreShown, IsShown, LogHas}

@@ -4,7 +4,7 @@ use Rattle.std.specs.Prelude.{List, [], ◌∷◌, ◌++◌}
 use Rattle.std.specs.Prelude.{length, map, Option, None, Result, Ok, zero, suc}
 use Rattle.std.specs.List.{flat_map}
 use Rattle.disk_model.specs.Disk.{State}
-use Rattle.mot_events.specs.Log.{AreOfFiles, Entry}
+use Rattle.mot_events.specs.Told.{AreOfFiles, Entry}
 use Rattle.mot_feed_lines.specs.Logged.{IsLogged}
 use Rattle.mot_journal.specs.Image.{Standing}
 use Rattle.mot_lines.specs.Hand.{bytes_in_hand}

@@ -1,8 +1,8 @@
 -- What is told of lines and the replies to them.
 use Rattle.std.specs.Prelude.{◌≡◌, ℕ, ◌≤◌, Bool, true, false, bytes_eq, nat_eq}
 use Rattle.std.specs.Prelude.{if◌then◌else◌, All, List, [], ◌∷◌, ◌++◌, codes, length, map}
-use Rattle.mot_events.specs.Log.{Entry, is_complete}
-use Rattle.mot_events.specs.Log.Entry.{of}
+use Rattle.mot_events.specs.Told.{Entry, is_complete}
+use Rattle.mot_events.specs.Told.Entry.{of}
 use Rattle.mot_events.specs.declared.event.Asked.{Asked}
 use Rattle.mot_events.specs.declared.event.Asked.TheVariants as asked
 use Rattle.mot_events.specs.declared.event.Event.{Event}

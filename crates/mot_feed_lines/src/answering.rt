@@ -1,7 +1,7 @@
 //! Answering what there is of an inlet.
 ghost use Rattle.std.specs.Prelude.{◌≡◌, ◌++◌, ◌∷◌, ℕ, List, [], Ok, Err, None, IfNone, IfSome, ⊤};
 ghost use Rattle.disk_model.specs.Disk.{KeepsLength};
-ghost use Rattle.mot_events.specs.Log.{HearsAll};
+ghost use Rattle.mot_events.specs.Told.{HearsAll};
 ghost use Rattle.mot_feed_lines.specs.Answering.{AnswersMore, TakesMore, TellsLines, asked_here};
 ghost use Rattle.mot_feed_lines.specs.Inner.Request.{HasAnswered, end_of};
 ghost use Rattle.mot_update.specs.Between.{IsUpdating};

@@ -1,7 +1,7 @@
 //! Lines between the packets of a feed.
 ghost use Rattle.std.specs.Prelude.{◌≡◌, ◌<◌, ◌-◌, ◌↔◌, [], ℕ, IsTrue, List, true, OnOk};
 ghost use Rattle.disk_model.specs.Disk.{KeepsLength};
-ghost use Rattle.mot_events.specs.Log.{HearsAll};
+ghost use Rattle.mot_events.specs.Told.{HearsAll};
 ghost use Rattle.mot_feed_lines.specs.Answering.{TakesBetween, TellsOnTime};
 ghost use Rattle.mot_update.specs.Between.{IsUpdating};
 ghost use Rattle.mot_playout.specs.Attempts.{fault_of};

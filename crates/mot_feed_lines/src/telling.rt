@@ -1,7 +1,7 @@
 //! Telling what lines were answered.
 ghost use Rattle.std.specs.Prelude.{List, map, ℕ};
-ghost use Rattle.mot_events.specs.Log.{HearsAll};
-ghost use Rattle.mot_events.specs.Log.Entry.{of};
+ghost use Rattle.mot_events.specs.Told.{HearsAll};
+ghost use Rattle.mot_events.specs.Told.Entry.{of};
 ghost use Rattle.mot_events.specs.declared.event.Event.{Event};
 ghost use Rattle.mot_feed_lines.specs.Inner.Request.{reply_of};
 ghost use Rattle.mot_feed_lines.specs.Logged.{Answers, AreShown, IsShown, LogHas};

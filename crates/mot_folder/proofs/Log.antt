@@ -4,7 +4,7 @@ use Rattle.std.proofs.Common.{append-nil, cond, map, refl, subst, sym}
 use Rattle.std.specs.Prelude.{filter}
 use Rattle.std.proofs.lemmas.List.{map-append}
 use Rattle.std.proofs.lemmas.List.Elements.{filter-append}
-use Rattle.mot_events.specs.Text.{event_of}
+use Rattle.mot_events.specs.Events.{event_of}
 use Rattle.mot_events.specs.declared.event.LookEvent.{LookEvent}
 use Rattle.mot_events.specs.declared.event.Met.{Met}
 use Rattle.mot_events.specs.declared.event.Met.TheVariants as met

@@ -2,7 +2,7 @@
 use Rattle.std.proofs.Common.{◌≡◌, ◌∙◌, ◌++◌, ℕ, Bool, true, false, not, List, [], ◌∷◌, ap}
 use Rattle.std.proofs.Common.{append-nil, cond, refl, sym}
 use Rattle.std.proofs.lemmas.List.Elements.{filter-append}
-use Rattle.mot_events.specs.Text.{event_of}
+use Rattle.mot_events.specs.Events.{event_of}
 use Rattle.mot_events.specs.declared.event.Met.{Met}
 use Rattle.mot_folder.proofs.Log.{file_beside, file_named, file_no_image, images_same, look-more}
 use Rattle.mot_folder.proofs.Log.{note_beside, note_no_image, note_unnamed, note_unread}

@@ -5,7 +5,8 @@ use Rattle.std.specs.Fmt.{digits}
 use Rattle.std.specs.Str.{chars, is_utf8}
 use lib.Utf8.{encode}
 use Rattle.mot_folder.specs.Listed.{and_in_order, names_in, object_names, with_type}
-use Rattle.mot_events.specs.Text.{event_of, met_line}
+use Rattle.mot_events.specs.Events.{event_of}
+use Rattle.mot_log.specs.Text.{met_line}
 use Rattle.mot_events.specs.declared.event.Deed.TheVariants as deed
 use Rattle.mot_events.specs.declared.event.Met.TheVariants as met
 use Rattle.mot_events.specs.declared.event.Skip.TheVariants as skip

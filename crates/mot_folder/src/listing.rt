@@ -4,7 +4,7 @@ ghost use Rattle.std.specs.Str.{is_utf8};
 ghost use Rattle.std.specs.Prelude.{◌≡◌, ◌↔◌, ◌+◌, ◌<◌, ◌≤◌, ◌∷◌, ◌++◌, [], true, false, length};
 ghost use Rattle.std.specs.Prelude.{if◌then◌else◌, IfErr, IfOk, IfNone, IfSome, IsOk, IsTrue};
 ghost use Rattle.std.specs.Prelude.{◌==◌, ◌≢◌, List, MatchResult, OnErr, OnOk, Some, nat_le, ℕ};
-ghost use Rattle.mot_events.specs.Text.{event_of};
+ghost use Rattle.mot_events.specs.Events.{event_of};
 ghost use Rattle.mot_events.specs.declared.event.Met.TheVariants.{Skipped};
 ghost use Rattle.mot_events.specs.declared.event.Skip.TheVariants.{NotUtf8};
 ghost use Rattle.mot_events.specs.declared.event.Why.{Why};

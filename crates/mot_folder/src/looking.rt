@@ -3,8 +3,8 @@ ghost use Rattle.std.specs.Prelude.{◌≡◌, ◌&&◌, ◌||◌, ◌+◌, ◌/
 ghost use Rattle.std.specs.Prelude.{◌<◌, false, ℕ, List, if◌then◌else◌, length, min};
 ghost use Rattle.disk_model.specs.Disk.{KeepsLength};
 ghost use Rattle.mot_update.specs.Between.{IsUpdating, may_look};
-ghost use Rattle.mot_events.specs.Status.{is_listed};
-ghost use Rattle.mot_events.specs.Text.{event_of};
+ghost use Rattle.mot_events.specs.Events.{is_listed};
+ghost use Rattle.mot_events.specs.Events.{event_of};
 ghost use Rattle.mot_events.specs.declared.event.Met.TheVariants.{Gap, Going, Listed, Waiting};
 ghost use Rattle.mot_folder.specs.Log.{TellsAnswers, TellsOf, TellsOne};
 ghost use Rattle.mot_folder.specs.Inner.Notes.{unknown_objects};

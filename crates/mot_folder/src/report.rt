@@ -1,7 +1,7 @@
 //! What is told of a look at a folder, event by event.
 ghost use Rattle.std.specs.Prelude.{◌≡◌, ◌≢◌, ◌↔◌, ◌||◌, ◌++◌, ◌∷◌, [], true, false, not};
 ghost use Rattle.std.specs.Prelude.{IfErr, IsOk, OnOk, nat_le};
-ghost use Rattle.mot_events.specs.Text.{event_of};
+ghost use Rattle.mot_events.specs.Events.{event_of};
 ghost use Rattle.mot_events.specs.declared.event.Met.TheVariants as met;
 ghost use Rattle.mot_folder.specs.Inner.Reading.{unread_for};
 ghost use Rattle.mot_folder.specs.Inner.Reasons.{TellsNoMore, TellsUnless, is_counted};

@@ -3,8 +3,8 @@ use Rattle.std.proofs.Common.{◌≡◌, ◌∷◌, ◌++◌, ℕ, List, [], app
 use Rattle.mot_line_folder.specs.Inner.Notices.{AreEventsOf, IsEntryOf, IsEventOf, IsReadable, RefusesLines}
 use Rattle.mot_line_folder.specs.declared.notices.Notice.{Notice}
 use Rattle.mot_line_folder.specs.declared.notices.Notice.TheVariants as notice
-use Rattle.mot_events.specs.Log.{AreOfFiles, Entry, IsEntryOfFiles, IsOfFiles}
-use Rattle.mot_events.specs.Log.Entry.{left_out, of}
+use Rattle.mot_events.specs.Told.{AreOfFiles, Entry, IsEntryOfFiles, IsOfFiles}
+use Rattle.mot_events.specs.Told.Entry.{left_out, of}
 use Rattle.mot_events.specs.declared.event.Event.{Event}
 use Rattle.mot_events.specs.declared.event.Event.TheVariants as event
 use Rattle.mot_events.specs.declared.event.Why.{Why}

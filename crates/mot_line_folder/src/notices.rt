@@ -2,7 +2,7 @@
 ghost use Rattle.std.specs.Prelude.{◌≡◌, ◌≢◌, ◌⊎◌, ◌↔◌, IsTrue, List, None, Some, [], vec_capacity};
 ghost use Rattle.mot_line_folder.specs.Inner.Notices.{Adds, AreEventsOf, IsEventOf, IsOfFile};
 ghost use Rattle.mot_line_folder.specs.declared.notices.Notice.TheVariants as notice;
-ghost use Rattle.mot_events.specs.Log.{AreOfFiles, Entry, HearsAll};
+ghost use Rattle.mot_events.specs.Told.{AreOfFiles, Entry, HearsAll};
 ghost use Rattle.mot_events.specs.declared.event.Event.{Event};
 ghost use Rattle.mot_numbers.specs.declared.refusal.Refusal.TheVariants.{ReadFault};
 

@@ -1,7 +1,7 @@
 //! Files of lines in a folder, read one after the other.
 ghost use Rattle.std.specs.Prelude.{◌≡◌, ◌≤◌, ◌⊎◌, ◌∷◌, ◌++◌, [], ℕ, IfOk, IfSome, IsErr, List, None, Option};
 ghost use Rattle.std.specs.Prelude.{Result, false, length, string_bytes, take, true, vec_capacity};
-ghost use Rattle.mot_events.specs.Log.{AreOfFiles, Entry, HearsAll};
+ghost use Rattle.mot_events.specs.Told.{AreOfFiles, Entry, HearsAll};
 ghost use Rattle.mot_line_folder.specs.LineFiles.{Leaves, TakesAway};
 ghost use Rattle.mot_line_folder.specs.Inner.Said.{Remembers};
 ghost use Rattle.mot_line_folder.specs.declared.said.Stamp.{Stamp};

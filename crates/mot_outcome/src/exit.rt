@@ -12,7 +12,7 @@ use crate::used::UsedDisk;
 use clap::Error;
 use clap::error::ErrorKind;
 use disk_store::Start;
-use mot_events::Tally;
+use mot_log::Tally;
 use mot_numbers::Refusal;
 use std::alloc::Global;
 use std::io::Write;

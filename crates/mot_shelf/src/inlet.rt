@@ -1,6 +1,6 @@
 //! What a program has to come to lines by that are given while it works.
 ghost use Rattle.std.specs.Prelude.{◌≡◌, ◌≤◌, ℕ, List, [], ◌∷◌, ◌++◌, length, take};
-ghost use Rattle.mot_events.specs.Log.{AreOfFiles, Entry, HearsAll};
+ghost use Rattle.mot_events.specs.Told.{AreOfFiles, Entry, HearsAll};
 
 use crate::line_count::LineCount;
 use mot_events::Tells;

@@ -3,8 +3,8 @@ use Rattle.std.specs.Prelude.{◌≡◌, ◌++◌, ◌==◌, ℕ, Bool, true, fa
 use Rattle.std.specs.Prelude.{None, Option, option_map, string_bytes, vec_len}
 use Rattle.std.specs.Global.{Global}
 use Rattle.std.specs.Io.KnownBytes.{Appends}
-use Rattle.mot_events.specs.Counters.{none_counted}
-use Rattle.mot_events.specs.Log.{LeavesOut, LogView, Logs, log_view}
+use Rattle.mot_log.specs.Counters.{none_counted}
+use Rattle.mot_log.specs.Log.{LeavesOut, LogView, Logs, log_view}
 use Rattle.mot_events.specs.declared.event.Event.{Event}
 use Rattle.mot_events.specs.declared.event.LookEvent.{LookEvent}
 use Rattle.mot_files.specs.Call.{Call}

@@ -4,15 +4,15 @@ use Rattle.std.specs.Prelude.{MatchOption, None, Option, Result, Some, false, fl
 use Rattle.std.specs.Prelude.{if◌then◌else◌, is_ok, min, nat_le, not, option_map, true, ℕ}
 use Rattle.mot_endpoints.specs.Status.{WritesStatus}
 use Rattle.mot_endpoints.specs.declared.fault.PacketsFault.{PacketsFault}
-use Rattle.mot_events.specs.Counters.{counted}
-use Rattle.mot_events.specs.Look.{counted_look, logged_met, new_events}
-use Rattle.mot_events.specs.Status.{status_text}
-use Rattle.mot_events.specs.Text.{began_text, ended_text, logged_as}
-use Rattle.mot_events.specs.Text.{status_refused_text, status_written_text}
-use Rattle.mot_events.specs.declared.counters.Counters.{Counters}
+use Rattle.mot_log.specs.Counters.{counted}
+use Rattle.mot_log.specs.Look.{counted_look, logged_met, new_events}
+use Rattle.mot_metrics.specs.Status.{status_text}
+use Rattle.mot_log.specs.Text.{began_text, ended_text, logged_as}
+use Rattle.mot_log.specs.Text.{status_refused_text, status_written_text}
+use Rattle.mot_log.specs.declared.counters.Counters.{Counters}
 use Rattle.mot_events.specs.declared.event.LookEvent.{LookEvent}
-use Rattle.mot_events.specs.declared.status.Figures.{Figures}
-use Rattle.mot_events.specs.declared.tally.Tally.TheVariants.{News, Packet, Refusal, Turn}
+use Rattle.mot_metrics.specs.declared.status.Figures.{Figures}
+use Rattle.mot_log.specs.declared.tally.Tally.TheVariants.{News, Packet, Refusal, Turn}
 use Rattle.mot_files.specs.Call.{Call, told_time}
 use Rattle.mot_files.specs.declared.system.Time.{Time}
 use Rattle.mot_numbers.specs.declared.refusal.Refusal.TheVariants.{WriteFault}

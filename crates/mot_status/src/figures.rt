@@ -3,8 +3,8 @@ ghost use Rattle.std.specs.Prelude.{◌≡◌, ◌^◌, ◌-◌, min, sum_by};
 ghost use Rattle.mot_status.specs.Figures.{AreFigures, bytes_of};
 
 use disk_model::Disk;
-use mot_events::Figures;
 use mot_export::TurnSize;
+use mot_metrics::Figures;
 use mot_objects::Object;
 use mot_playout::Server;
 

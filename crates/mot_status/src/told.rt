@@ -2,12 +2,14 @@
 ghost use Rattle.std.specs.Prelude.{◌≡◌, List, false, is_ok, not, option_map};
 ghost use Rattle.std.specs.Prelude.{string_bytes, true, ℕ};
 ghost use Rattle.std.specs.Io.KnownBytes.{Appends};
-ghost use Rattle.mot_events.specs.Status.{status_text};
+ghost use Rattle.mot_metrics.specs.Status.{status_text};
 ghost use Rattle.mot_status.specs.Told.{Tries, place, status_counted, status_line};
 
 use mot_endpoints::{PacketsFault, StatusFile};
-use mot_events::{Counters, Event, EventLog, Figures, LookEvent, Tells, write_status};
+use mot_events::{Event, LookEvent, Tells};
 use mot_files::System;
+use mot_log::{Counters, EventLog};
+use mot_metrics::{Figures, write_status};
 use std::alloc::Global;
 use std::io::Write;
 

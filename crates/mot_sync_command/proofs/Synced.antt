@@ -13,7 +13,7 @@ use Rattle.mot_sync_command.specs.Inner.Looked as looks
 use Rattle.mot_sync_command.specs.Syncing.{HasSynced, IsEqual, Syncs, SyncsAndTells}
 use Rattle.mot_export.proofs.Laws.{ends_off, opened_leaves}
 use Rattle.mot_feed.specs.Feeding.{IsFeedFault}
-use Rattle.mot_events.specs.Text.{met_line}
+use Rattle.mot_log.specs.Text.{met_line}
 use Rattle.mot_events.specs.declared.event.LookEvent.{LookEvent}
 use Rattle.mot_folder.specs.Log.{ReportTells}
 use Rattle.mot_folder.proofs.Laws.{every_named, none_passed}

@@ -2,8 +2,9 @@
 use crate::disks::{Server, new_server};
 use crate::expecting::expect;
 use mot_base::{Geometry, Refusal};
-use mot_events::{LookEvent, add_met_line};
+use mot_events::LookEvent;
 use mot_folder::{FileTypes, Folder, look_at_folder};
+use mot_log::add_met_line;
 use mot_shelf::MemoryShelf;
 use std::alloc::Global;
 

@@ -1,7 +1,7 @@
 -- What stands beside a disk while it is played with any update, and what is told of that.
 use Rattle.std.specs.Prelude.{ℕ, List, []}
 use Rattle.mot_air.specs.Telling.{Same}
-use Rattle.mot_events.specs.Log.{Entry, HearsAll}
+use Rattle.mot_events.specs.Told.{Entry, HearsAll}
 use Rattle.mot_feed_lines.specs.Answering.{TellsInTurn, TellsOnTime}
 use Rattle.mot_feed_lines.specs.declared.lines.Lines.{Lines}
 use Rattle.mot_feed_lines.specs.declared.reported.Reported.{Reported}

@@ -2,7 +2,7 @@
 use Rattle.std.specs.Prelude.{◌≡◌, ℕ, Bool, if◌then◌else◌, List, [], Option, Some}
 use Rattle.std.specs.Prelude.{None, Result, Ok, Err}
 use Rattle.disk_model.specs.Disk.{State}
-use Rattle.mot_events.specs.Log.{Entry}
+use Rattle.mot_events.specs.Told.{Entry}
 use Rattle.mot_feed_lines.specs.Answering.{run_of}
 use Rattle.mot_feed_lines.specs.Logged.{LogHas}
 use Rattle.mot_journal.specs.Image.{Standing}

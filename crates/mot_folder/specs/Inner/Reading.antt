@@ -1,7 +1,7 @@
 -- A folder while its files are read, and what a source of them was told.
 use Rattle.std.specs.Prelude.{◌≡◌, ◌⊎◌, ◌+◌, ◌<◌, ℕ, List, [], ◌∷◌, ◌++◌, length, map, take}
 use Rattle.std.specs.Prelude.{None, Option, Some, Bool, true, false, slice_get}
-use Rattle.mot_events.specs.Text.{event_of}
+use Rattle.mot_events.specs.Events.{event_of}
 use Rattle.mot_events.specs.declared.event.Deed.TheVariants.{Read}
 use Rattle.mot_events.specs.declared.event.LookEvent.{LookEvent}
 use Rattle.mot_events.specs.declared.event.Met.{Met}

@@ -2,8 +2,8 @@
 use Rattle.std.specs.Prelude.{◌≡◌, ◌⊎◌, ◌≤◌, ℕ, List, [], ◌∷◌, ◌++◌, length}
 use Rattle.mot_line_folder.specs.declared.notices.Notice.{Notice}
 use Rattle.mot_line_folder.specs.declared.notices.Notice.TheVariants as notice
-use Rattle.mot_events.specs.Log.{Entry}
-use Rattle.mot_events.specs.Log.Entry.{left_out, of}
+use Rattle.mot_events.specs.Told.{Entry}
+use Rattle.mot_events.specs.Told.Entry.{left_out, of}
 use Rattle.mot_events.specs.declared.event.Event.{Event}
 use Rattle.mot_events.specs.declared.event.Event.TheVariants as event
 use Rattle.mot_events.specs.declared.event.Why.{Why}

@@ -4,7 +4,7 @@ use Rattle.std.specs.Prelude.{Err}
 use Rattle.std.specs.Io.KnownBytes.{Appends}
 use Rattle.std.specs.List.{flat_map}
 use Rattle.disk_model.specs.Disk.{State}
-use Rattle.mot_events.specs.Text.{met_line}
+use Rattle.mot_log.specs.Text.{met_line}
 use Rattle.mot_folder.specs.Looked.{HasLookedAtFolder}
 use Rattle.mot_folder.specs.declared.known.Known.{Known}
 use Rattle.mot_folder.specs.declared.report.Report.{Report}

@@ -1,7 +1,7 @@
 use Rattle.std.proofs.Common.{◌≡◌, ◌++◌, ℕ, List, length, None}
 use Rattle.std.specs.Prelude.{⊤}
 use Rattle.disk_model.specs.Disk.{KeepsLength}
-use Rattle.mot_events.specs.Log.{HearsAll}
+use Rattle.mot_events.specs.Told.{HearsAll}
 use Rattle.mot_feed_lines.specs.Answering.{AnswersMore}
 use Rattle.mot_update.specs.Between.{IsUpdating}
 use Rattle.mot_journal.specs.Image.{Standing}

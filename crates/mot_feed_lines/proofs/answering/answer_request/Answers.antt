@@ -1,5 +1,5 @@
 use Rattle.std.proofs.Common.{subst, sym}
-use Rattle.mot_events.specs.Log.{HearsAll}
+use Rattle.mot_events.specs.Told.{HearsAll}
 use Rattle.mot_feed_lines.specs.Answering.{asked_here}
 use Rattle.mot_feed_lines.specs.Inner.Request.{HasAnswered}
 use Rattle.mot_feed_lines.proofs.Requests.{shown}

@@ -1,6 +1,6 @@
 use Rattle.std.proofs.Common.{◌++◌, List, length, map}
-use Rattle.mot_events.specs.Log.{HearsAll}
-use Rattle.mot_events.specs.Log.Entry.{of}
+use Rattle.mot_events.specs.Told.{HearsAll}
+use Rattle.mot_events.specs.Told.Entry.{of}
 use Rattle.mot_events.specs.declared.event.Event.{Event}
 use Rattle.mot_feed_lines.specs.Logged.{AreShown}
 use Rattle.mot_feed_lines.proofs.telling.show_lines.Given as goal

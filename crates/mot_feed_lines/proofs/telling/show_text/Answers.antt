@@ -1,5 +1,5 @@
 use Rattle.std.proofs.Common.{◌++◌, ◌∙◌, ap, subst}
-use Rattle.mot_events.specs.Log.{HearsAll}
+use Rattle.mot_events.specs.Told.{HearsAll}
 use Rattle.mot_feed_lines.specs.Logged.{LogHas}
 use Rattle.mot_feed_lines.proofs.Told.{left_told, text_told}
 use Rattle.mot_feed_lines.proofs.telling.show_text.Goals as goal

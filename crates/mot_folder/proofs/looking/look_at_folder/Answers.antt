@@ -14,7 +14,7 @@ use Rattle.mot_folder.specs.declared.known.KnownFiles.{KnownFiles}
 use Rattle.mot_folder.proofs.Knowing.{all_on, comes_from, has_it_there, passed_over}
 use Rattle.std.specs.List.{AllByRecursion}
 use Rattle.mot_folder.specs.Listed.{IsListing}
-use Rattle.mot_events.specs.Text.{event_of}
+use Rattle.mot_events.specs.Events.{event_of}
 use Rattle.mot_events.specs.declared.event.LookEvent.{LookEvent}
 use Rattle.mot_events.specs.declared.event.Met.TheVariants.{Kept}
 use Rattle.mot_events.specs.declared.event.Why.TheVariants.{Unsaid}

@@ -1,4 +1,4 @@
-use Rattle.mot_events.specs.Text.{met_line}
+use Rattle.mot_log.specs.Text.{met_line}
 use Rattle.mot_sync_command.proofs.Written.{line_more}
 use Rattle.mot_sync_command.proofs.syncing.write_events.Goals as goal
 

@@ -1,6 +1,6 @@
 use Rattle.std.proofs.Common.{flat_map, take}
 use Rattle.std.specs.Io.KnownBytes.{Appends}
-use Rattle.mot_events.specs.Text.{met_line}
+use Rattle.mot_log.specs.Text.{met_line}
 use Rattle.mot_sync_command.proofs.syncing.write_events.Given as goal
 
 abbrev pub invariant-loop-event : goal.invariant-loop-event

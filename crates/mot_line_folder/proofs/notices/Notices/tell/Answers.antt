@@ -2,7 +2,7 @@ use Rattle.std.proofs.Common.{◌≡◌, ◌++◌, ◌∷◌, List, [], append-n
 use Rattle.mot_line_folder.specs.Inner.Notices.{AreEventsOf}
 use Rattle.mot_line_folder.specs.declared.notices.Notice.{Notice}
 use Rattle.mot_line_folder.proofs.OfFiles.{one_on}
-use Rattle.mot_events.specs.Log.Entry.{of}
+use Rattle.mot_events.specs.Told.Entry.{of}
 use Rattle.mot_events.proofs.Laws.{hears_on}
 use Rattle.mot_line_folder.proofs.notices.Notices.tell.Goals as goal
 

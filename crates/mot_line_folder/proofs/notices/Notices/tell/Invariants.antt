@@ -1,6 +1,6 @@
 use Rattle.std.proofs.Common.{◌++◌, List, length}
 use Rattle.mot_line_folder.specs.Inner.Notices.{AreEventsOf}
-use Rattle.mot_events.specs.Log.{Entry, HearsAll}
+use Rattle.mot_events.specs.Told.{Entry, HearsAll}
 use Rattle.mot_line_folder.proofs.notices.Notices.tell.Given as goal
 
 abbrev pub invariant-loop-notice : goal.invariant-loop-notice

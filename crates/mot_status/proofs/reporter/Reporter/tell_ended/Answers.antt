@@ -1,7 +1,7 @@
 use Rattle.std.proofs.Common.{Bool, [], ap, subst, ℕ}
 use Rattle.std.proofs.KnownBytes.{Appends-trans}
 use Rattle.std.specs.Io.KnownBytes.{Appends}
-use Rattle.mot_events.specs.declared.counters.Counters.{Counters}
+use Rattle.mot_log.specs.declared.counters.Counters.{Counters}
 use Rattle.mot_status.specs.Told.{counted_end, logged_end}
 use Rattle.mot_status.proofs.reporter.Reporter.tell_ended.Goals as goal
 

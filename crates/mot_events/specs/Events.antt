@@ -1,0 +1,56 @@
+-- The words of events, what a look met of a name, and whether it went by the folder's list.
+use Rattle.std.specs.Prelude.{ℕ, Bool, true, false, not, List, [], codes}
+use Rattle.std.specs.List.{list_any}
+use Rattle.mot_events.specs.declared.event.Asked.{Asked}
+use Rattle.mot_events.specs.declared.event.Asked.TheVariants as asked
+use Rattle.mot_events.specs.declared.event.Deed.{Deed}
+use Rattle.mot_events.specs.declared.event.Deed.TheVariants as deed
+use Rattle.mot_events.specs.declared.event.LookEvent.{LookEvent}
+use Rattle.mot_events.specs.declared.event.Met.{Met}
+use Rattle.mot_events.specs.declared.event.Met.TheVariants as met
+use Rattle.mot_events.specs.declared.event.Skip.{Skip}
+use Rattle.mot_events.specs.declared.event.Skip.TheVariants as skip
+
+abbrev pub deed_word : Deed → List ℕ
+deed_word deed.Put = codes "put"
+deed_word deed.Replace = codes "replace"
+deed_word deed.Withdraw = codes "withdraw"
+deed_word deed.Read = codes "read"
+deed_word deed.Look = codes "look"
+
+abbrev pub skip_word : Skip → List ℕ
+skip_word skip.Suffix = codes "suffix"
+skip_word skip.Folder = codes "folder"
+skip_word skip.Link = codes "link"
+skip_word skip.Special = codes "special"
+skip_word skip.NotUtf8 = codes "not UTF-8"
+
+-- the first word of a line, with a space after it
+abbrev pub asked_word : Asked → List ℕ
+asked_word asked.Put = codes "put "
+asked_word asked.Replace = codes "replace "
+asked_word asked.Withdraw = codes "withdraw "
+asked_word asked.Period = codes "period "
+asked_word asked.List = codes "list "
+asked_word asked.Next = codes "next "
+asked_word asked.Turn = codes "turn "
+asked_word asked.Raw = codes "raw "
+asked_word asked.Other = []
+
+-- what a look met of this name
+abbrev pub event_of : List ℕ → Met → LookEvent
+event_of name met = record { name = name; met = met }
+
+-- the whole look went wrong: the folder was not listed, or has no object
+abbrev pub is_look : Deed → Bool
+is_look deed.Look = true
+is_look other = false
+
+abbrev pub is_of_folder : Met → Bool
+is_of_folder (met.Refused deed refusal why) = is_look deed
+is_of_folder met.Kept = true
+is_of_folder other = false
+
+-- the last look went by the folder's list
+abbrev pub is_listed : List LookEvent → Bool
+is_listed events = not (list_any (λ (e : LookEvent). is_of_folder e.met) events)

@@ -1,0 +1,28 @@
+//! Whether a look went by its folder's list.
+ghost use Rattle.std.specs.Prelude.{◌≡◌};
+ghost use Rattle.mot_events.specs.Events.{is_listed, is_of_folder};
+
+use crate::event::{LookEvent, Met};
+
+/// Whether the last look went by the folder's list.
+pub fn is_listed(events: &[LookEvent]) -> bool
+    ensures { result ≡ is_listed events.now }
+{
+    for event in events {
+        if is_of_folder(&event.met) {
+            return false;
+        }
+    }
+    true
+}
+
+/// Whether the whole look went wrong.
+fn is_of_folder(met: &Met) -> bool
+    ensures { result ≡ is_of_folder met.now }
+{
+    match met {
+        Met::Refused(deed, _, _) => deed.is_look(),
+        Met::Kept => true,
+        _ => false,
+    }
+}
