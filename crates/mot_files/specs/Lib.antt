@@ -1,4 +1,5 @@
 pub mod Call
+pub mod Holding
 pub mod Inner
 pub mod Lasting
 pub mod Listing

@@ -28,12 +28,12 @@ impl CallLog {
     }
 
     /// This one too. Its proof is written by hand: it adds to the list, which no memory holds.
-    pub(crate) fn note(&mut self, _what: &Event, _bytes: &[u8], _more: &[u8])
+    pub fn note(&mut self, _what: &Event, _bytes: &[u8], _more: &[u8])
         ensures { self.new.all ≡ self.old.all ++ call _what.now _bytes.now _more.now ∷ [] }
     {}
 
     /// This one too, which gave so many bytes of the room, for these.
-    pub(crate) fn note_given(
+    pub fn note_given(
         &mut self,
         what: &Event,
         room: &[u8],

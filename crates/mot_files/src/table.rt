@@ -1,7 +1,7 @@
 //! What a system has open, by the numbers that it handed out.
 ghost use Rattle.std.specs.Prelude.{◌≡◌, ◌≢◌, ℕ, IfSome, MatchResult, None, Some, slice_get};
 ghost use Rattle.std.specs.Option.{option_copied, option_copied_mut};
-ghost use Rattle.mot_files.specs.Inner.Holding.{held};
+ghost use Rattle.mot_files.specs.Holding.{held};
 
 use crate::system::{Fault, Handle};
 use std::alloc::Global;
@@ -9,21 +9,21 @@ use std::io::{self, ErrorKind};
 
 /// What is open.
 #[derive(Drop)]
-pub(crate) struct Table<T: Drop> {
+pub struct Table<T: Drop> {
     /// By its handle; nothing, once it was closed.
     places: Vec<Option<T>>,
 }
 
 impl<T: Drop> Table<T> {
     /// Nothing is open.
-    pub(crate) fn new(alloc: Global) -> Table<T> {
+    pub fn new(alloc: Global) -> Table<T> {
         Table {
             places: Vec::new(alloc),
         }
     }
 
     /// Gives what was opened a handle that stood for nothing. The other handles stay as they are.
-    pub(crate) fn keep(&mut self, opened: T) -> Result<Handle, Fault>
+    pub fn keep(&mut self, opened: T) -> Result<Handle, Fault>
         ensures { MatchResult result
             (λ handle. (held self.old.places.items handle.slot ≡ None)
             × (held self.new.places.items handle.slot ≡ Some opened)
@@ -54,7 +54,7 @@ impl<T: Drop> Table<T> {
     }
 
     /// What the handle stands for.
-    pub(crate) fn get(&self, handle: Handle) -> Option<&T>
+    pub fn get(&self, handle: Handle) -> Option<&T>
         ensures { option_copied result ≡ held self.now.places.items handle.slot }
     {
         match self.places.get(handle.slot as usize) {
@@ -64,7 +64,7 @@ impl<T: Drop> Table<T> {
     }
 
     /// What the handle stands for.
-    pub(crate) fn get_mut(&mut self, handle: Handle) -> Option<&mut T>
+    pub fn get_mut(&mut self, handle: Handle) -> Option<&mut T>
         ensures { option_copied_mut result ≡ held self.old.places.items handle.slot }
     {
         match self.places.get_mut(handle.slot as usize) {
@@ -74,7 +74,7 @@ impl<T: Drop> Table<T> {
     }
 
     /// The handle stands for nothing.
-    pub(crate) fn close(&mut self, handle: Handle)
+    pub fn close(&mut self, handle: Handle)
         ensures nothing { held self.new.places.items handle.slot ≡ None }
         ensures others { (other : ℕ) → other ≢ handle.slot
             → held self.new.places.items other ≡ held self.old.places.items other }

@@ -3,7 +3,8 @@ use crate::answers::{Told, are_lines, first_word, is_refused, is_reply_in, line_
 use crate::texts::LINES;
 use crate::verdict::Wrong;
 use disk_store::MemoryDisk;
-use mot_files::{Kind, MemorySystem, Removed};
+use mot_files::Kind;
+use mot_memory_files::{MemorySystem, Removed};
 use mot_playout::Server;
 
 /// Whether each object of the carousel has the bytes of a file of its name, or those that a line of

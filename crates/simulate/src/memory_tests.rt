@@ -1,5 +1,6 @@
 //! The folder in memory does what a folder does.
-use mot_files::{Fault, Handle, How, Kind, MemorySystem, Plan, System};
+use mot_files::{Fault, Handle, How, Kind, System};
+use mot_memory_files::{MemorySystem, Plan};
 use std::alloc::{AllocError, Global};
 use std::test::Fail;
 

@@ -1,7 +1,7 @@
 //! A look does not read a file again that was not changed.
 use crate::playing::new_disk;
-use mot_files::MemorySystem;
 use mot_folder::{FileTypes, Folder, look_at_folder};
+use mot_memory_files::MemorySystem;
 use mot_playout::Server;
 use mot_shelf::SystemShelf;
 use std::alloc::Global;

@@ -1,6 +1,7 @@
 //! A file of a folder is read while it is written, exchanged and removed.
 use crate::verdict::{Verdict, Wrong};
-use mot_files::{MemorySystem, Plan, Unread, read_file};
+use mot_files::{Unread, read_file};
+use mot_memory_files::{MemorySystem, Plan};
 use std::alloc::{AllocError, Global};
 
 /// What other programs write: some of it as long as other, and one too long to be read.

@@ -1,6 +1,7 @@
 //! A file is replaced by another that is written beside it, while calls fail.
 use crate::verdict::{Verdict, Wrong};
-use mot_files::{MemorySystem, Plan, replace};
+use mot_files::replace;
+use mot_memory_files::{MemorySystem, Plan};
 use std::alloc::{AllocError, Global};
 
 /// What the file has at first.

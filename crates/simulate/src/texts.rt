@@ -1,5 +1,5 @@
 //! What other programs write into the folders of a disk that is played.
-use mot_files::Plan;
+use mot_memory_files::Plan;
 
 /// The names of the folder of objects.
 pub const OBJECTS: &[&str] = &["a.txt", "b.txt", "c.png", "d.txt", "e.doc"];

@@ -2,10 +2,9 @@
 //! it between any two calls, and calls fail.
 ghost use Rattle.std.specs.Prelude.{◌≡◌, [], IfOk};
 
-use crate::call_log::CallLog;
-use crate::memory_folder::{Removed, Version};
-use crate::memory_state::{Memory, Plan};
-use crate::system::{Event, Fault, Handle, How, Kind, Seen, System, Time};
+use crate::folder::{Removed, Version};
+use crate::state::{Memory, Plan};
+use mot_files::{CallLog, Event, Fault, Handle, How, Kind, Seen, System, Time};
 use std::alloc::{AllocError, Global};
 
 /// The folder, and the calls that were made.

@@ -1,7 +1,7 @@
 //! The files of a folder in memory, their names, and the history of both.
 ghost use Rattle.std.specs.Prelude.{◌≤◌, length};
 
-use crate::system::{Handle, Kind, Seen, Time};
+use mot_files::{Handle, Kind, Seen, Time};
 use std::alloc::{AllocError, Global};
 
 /// A file, a folder, a link or a pipe. It stays when it has lost its name, since it may be open.

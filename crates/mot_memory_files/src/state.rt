@@ -1,8 +1,7 @@
 //! A folder in memory, and what happens there by a seed: changes by other programs just before a
 //! call, and calls that fail.
-use crate::memory_folder::Folder;
-use crate::system::{Fault, Kind};
-use crate::table::Table;
+use crate::folder::Folder;
+use mot_files::{Fault, Kind, Table};
 use std::alloc::{AllocError, Global};
 use std::io::{self, ErrorKind};
 

@@ -1,9 +1,9 @@
 //! What the calls do in a folder in memory if they do not fail by its plan.
 ghost use Rattle.std.specs.Prelude.{◌≤◌, IfOk, length};
 
-use crate::memory_folder::{Node, give};
-use crate::memory_state::{Held, Memory, Open, absent, no_memory, refused};
-use crate::system::{Fault, Handle, How, Kind, Seen, Time};
+use crate::folder::{Node, give};
+use crate::state::{Held, Memory, Open, absent, no_memory, refused};
+use mot_files::{Fault, Handle, How, Kind, Seen, Time};
 use std::io::ErrorKind;
 
 impl Memory {
