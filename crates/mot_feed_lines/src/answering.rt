@@ -19,12 +19,12 @@ use crate::intake::Intake;
 use crate::telling::{show, tell_attempt, tell_refused};
 use disk_model::Disk;
 use mot_events::{Tells, Why};
+use mot_inlet::Inlet;
 use mot_lines::{Line, cut_at_line_end, parse_line};
 use mot_numbers::Refusal;
 use mot_objects::Command;
 use mot_playout::{Attempt, Server};
 use mot_session::READ_SIZE;
-use mot_shelf::Inlet;
 use std::alloc::Global;
 
 /// Answers what there is of an inlet now, in one read of at most 4,096 bytes: each line that ends

@@ -1,6 +1,6 @@
 //! What has come of lines.
+use mot_inlet::LineCount;
 use mot_lines::Hand;
-use mot_shelf::LineCount;
 
 /// What has come of lines: the front of the next one, and of which file they are.
 #[derive(Drop)]

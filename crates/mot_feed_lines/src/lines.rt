@@ -16,10 +16,10 @@ use crate::answering::answer_there;
 use crate::intake::Intake;
 use crate::reported::Reported;
 use disk_model::Disk;
+use mot_inlet::{Inlet, LineCount};
 use mot_lines::Hand;
 use mot_numbers::Refusal;
 use mot_playout::Server;
-use mot_shelf::{Inlet, LineCount};
 use mot_update::{Facts, Moment, Update, Watch};
 use std::alloc::Global;
 

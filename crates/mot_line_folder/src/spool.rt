@@ -14,7 +14,7 @@ use crate::line_file::LineFile;
 use crate::line_notes::LineNotes;
 use mot_events::Tells;
 use mot_files::{Fault, System};
-use mot_shelf::{Inlet, LineCount};
+use mot_inlet::{Inlet, LineCount};
 use std::alloc::Global;
 use std::io;
 

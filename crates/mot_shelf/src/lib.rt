@@ -1,9 +1,6 @@
-//! A folder of files as a program sees it: clauses can say what was listed and read of it, and what
-//! was given of lines.
+//! A folder of files as a program sees it: clauses can say what was listed and read of it.
 #![tactic(auto)]
 
-mod inlet;
-mod line_count;
 mod memory;
 mod pairs;
 mod seen;
@@ -11,8 +8,6 @@ mod shelf;
 mod stamps;
 mod system;
 
-pub use inlet::Inlet;
-pub use line_count::LineCount;
 pub use memory::MemoryShelf;
 pub use pairs::Pairs;
 pub use seen::{LookNotes, Seen};
