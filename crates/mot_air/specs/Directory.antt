@@ -1,8 +1,8 @@
 -- How often the directory is sent, and when a look may come.
 use Rattle.std.specs.Prelude.{◌≡◌, ℕ, ◌*◌, ◌-◌, ◌/◌, ◌^◌, ◌⊎◌, max, min, Option, Some, None, IsSomeAnd}
 use Rattle.disk_model.specs.Disk.{State}
-use Rattle.mot_export.specs.Filling.{frame_size}
-use Rattle.mot_export.specs.Opening.{IsUnopened, OfStanding}
+use Rattle.mot_turn_size.specs.Lengths.{frame_size}
+use Rattle.mot_ending.specs.Opening.{IsUnopened, OfStanding}
 use Rattle.mot_numbers.specs.declared.refusal.Refusal.{Refusal}
 
 -- how many packets of this length a frame of a sub-channel holds, and one at least

@@ -13,7 +13,7 @@ ghost use Rattle.mot_folder.specs.Looked.{so_far, watch};
 ghost use Rattle.mot_lines.specs.Hand.{bytes_in_hand};
 ghost use Rattle.mot_numbers.specs.declared.geometry.Geometry.{Geometry};
 ghost use Rattle.mot_objects.specs.declared.command.Command.{Command};
-ghost use Rattle.mot_export.specs.Opening.{IsUnopened};
+ghost use Rattle.mot_ending.specs.Opening.{IsUnopened};
 ghost use Rattle.mot_playout.specs.Attempts.{fault_of};
 ghost use Rattle.mot_status.specs.Teller.{TellerView, TellsEnd, starts, teller};
 ghost use Rattle.mot_update.specs.Watching.{looks_known};

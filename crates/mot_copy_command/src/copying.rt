@@ -20,8 +20,8 @@ use disk_store::{
 use mot_cli::CopyTask;
 use mot_copying::{NotCopied, copy};
 use mot_devices::use_of;
+use mot_ending::Ended;
 use mot_endpoints::{Cause, Host, NewDiskFault};
-use mot_export::Ended;
 use mot_files::System;
 use mot_journal::Reason;
 use mot_numbers::{Geometry, Refusal, TransportId};

@@ -1,7 +1,8 @@
 -- Frames filled, as they were measured behind a multiplexer.
 use Rattle.std.proofs.Common.{◌≡◌, true, false, [], ◌∷◌, replicate, refl}
 use Rattle.mot_player.specs.Turn.{Turn}
-use Rattle.mot_export.specs.Filling.{frame_size, frames_of, lengths_of_group, lengths_of_turn}
+use Rattle.mot_turn_size.specs.Lengths.{frame_size, lengths_of_group, lengths_of_turn}
+use Rattle.mot_export.specs.Filling.{frames_of}
 use Rattle.mot_export.specs.Filling.{tenths_of}
 use Rattle.mot_export.specs.Inspecting.{filled_above, filled_below}
 
@@ -12,13 +13,6 @@ small = record {
   directory = replicate 693 0;
   bodies = replicate 40 (2, replicate 90 0);
 }
-
--- a group's last packet is the shortest that holds the rest
-cut-96 : lengths_of_group 91 101 ≡ 96 ∷ 24 ∷ []
-cut-96 = refl
-
-cut-72 : lengths_of_group 67 101 ≡ 72 ∷ 48 ∷ []
-cut-72 = refl
 
 -- at 32 kbit/s they were 2.11 seconds in packets of 96 bytes, and 2.18 in those of 72
 frames-96 : (frames_of (frame_size 32) (lengths_of_turn 91 1024 small)).begun ≡ 88

@@ -1,15 +1,12 @@
 -- How a multiplexer fills the frames of a sub-channel with the packets of a turn.
 use Rattle.std.specs.Prelude.{◌≡◌, ℕ, ◌+◌, ◌-◌, ◌*◌, ◌/◌, ◌<◌, ◌≤◌, true, ◌&&◌, nat_le}
-use Rattle.std.specs.Prelude.{if◌then◌else◌, List, length, map, flat_map, replicate}
+use Rattle.std.specs.Prelude.{if◌then◌else◌, List, length, map}
 use Rattle.std.specs.List.{fold}
-use Rattle.mot_groups.specs.Group.{Segment}
-use Rattle.mot_packets.specs.Cut.{pieces_of}
-use Rattle.mot_packets.specs.Packet.{PacketFields}
 use Rattle.mot_player.specs.Laws.{IsAtTurnsBeginning}
 use Rattle.mot_player.specs.Place.{Place}
-use Rattle.mot_player.specs.Turn.{Turn, segments_of_turn}
 use Rattle.mot_export.specs.declared.filling.Frames.{Frames}
 use Rattle.mot_playout.specs.Playing.{HasPlayedTurn}
+use Rattle.mot_turn_size.specs.Lengths.{lengths_of_turn}
 
 -- no frame was begun
 abbrev pub no_frames : Frames
@@ -30,28 +27,9 @@ with_packet size f packet =
 abbrev pub frames_of : (size : ℕ) → List ℕ → Frames
 frames_of size packets = fold (with_packet size) no_frames packets
 
--- the bytes of a logical frame of 24 ms, at so many kbit/s
-abbrev pub frame_size : ℕ → ℕ
-frame_size rate = 3 * rate
-
 -- tenths of a second that so many frames of 24 ms take, rounded up
 abbrev pub tenths_of : ℕ → ℕ
 tenths_of frames = (24 * frames + 99) / 100
-
--- the lengths of the packets that a group of so many bytes is cut into: each has 5 bytes more than
--- its data field
-abbrev pub lengths_of_group : (room : ℕ) → ℕ → List ℕ
-lengths_of_group room n =
-    map (λ (p : PacketFields). p.room + 5) (pieces_of room 0 0 (replicate n 0))
-
--- those of the groups of segments: each has 11 bytes more than its segment
-abbrev pub lengths_of_segments : (room : ℕ) → List Segment → List ℕ
-lengths_of_segments room segments =
-    flat_map (λ (s : Segment). lengths_of_group room (length s.bytes + 11)) segments
-
--- those of a turn
-abbrev pub lengths_of_turn : (room size : ℕ) → Turn → List ℕ
-lengths_of_turn room size turn = lengths_of_segments room (segments_of_turn turn size)
 
 -- The packets of a turn that is played from its beginning have these lengths.
 abbrev pub TurnsHaveTheirLengths : Type 0

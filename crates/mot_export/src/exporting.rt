@@ -13,8 +13,8 @@ ghost use Rattle.mot_repository.specs.Repository.{HasStanding, object_body};
 ghost use Rattle.mot_playout.specs.Attempts.{fault_of};
 ghost use Rattle.mot_session.specs.Output.{Writes};
 
-use crate::Ended;
 use disk_model::Disk;
+use mot_ending::Ended;
 use mot_lines::{period_text, put_text};
 use mot_numbers::Refusal;
 use mot_repository::Repository;

@@ -5,16 +5,14 @@ ghost use Rattle.mot_numbers.specs.PacketLength.{room_of};
 ghost use Rattle.mot_objects.specs.declared.body.TheConstants.{MAX_BODY};
 ghost use Rattle.mot_objects.specs.declared.object.Object.{Object};
 ghost use Rattle.mot_export.specs.Filling.{frames_of, no_frames, with_packet};
-ghost use Rattle.mot_export.specs.Inner.Lengths.{entity_lengths, group_lengths, packet_length};
-ghost use Rattle.mot_export.specs.Inner.Lengths.{turn_lengths};
+ghost use Rattle.mot_turn_size.specs.Entities.{entity_lengths, group_lengths, packet_length};
+ghost use Rattle.mot_turn_size.specs.Entities.{turn_lengths};
 
 use mot_groups::segment_count;
 use mot_numbers::{PacketLength, SegmentSize};
 use mot_objects::Object;
 use mot_packets::packet_count;
-
-/// How many bytes of a group are none of its segment.
-pub(crate) const GROUP_FRAME: usize = 11;
+use mot_turn_size::{GROUP_FRAME, packet_for};
 
 /// Frames that packets fill, each packet whole in one.
 #[derive(Clone, Copy)]
@@ -115,16 +113,5 @@ fn fill_group(frames: &mut Frames, size: usize, full_length: PacketLength, len: 
     for _ in 0..count {
         frames.fill(size, packet_for(rest, full_length));
         rest = rest.saturating_sub(room);
-    }
-}
-
-/// How many bytes the packet has that carries the next of what is left of a group.
-pub(crate) fn packet_for(rest: usize, full_length: PacketLength) -> usize
-    ensures { result ≡ packet_length (room_of full_length) rest }
-{
-    if rest <= full_length.room() {
-        PacketLength::shortest_for(rest).bytes()
-    } else {
-        full_length.bytes()
     }
 }

@@ -26,10 +26,9 @@ ghost use Rattle.mot_playout.specs.Attempts.{fault_of};
 ghost use Rattle.mot_playout.specs.Server.{place_in};
 ghost use Rattle.mot_session.specs.Served.{WritesFront};
 
-use crate::Ended;
-use crate::filling::GROUP_FRAME;
 use crate::lengths::write_lengths;
 use disk_model::Disk;
+use mot_ending::Ended;
 use mot_journal::Layout;
 use mot_numbers::{Geometry, Refusal};
 use mot_objects::Object;
@@ -37,6 +36,7 @@ use mot_packets::packet_count;
 use mot_player::Played;
 use mot_playout::Server;
 use mot_session::write_whole;
+use mot_turn_size::GROUP_FRAME;
 use std::alloc::Global;
 use std::io::Write;
 

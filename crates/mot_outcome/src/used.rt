@@ -8,8 +8,8 @@ ghost use Rattle.mot_outcome.specs.declared.used.UsedDisk.TheVariants.{OfFile, U
 use disk_store::{
     Beginning, BegunFile, FileDiskFrom, OpenFault, RamDisk, SecondDisk, Start, Unopened,
 };
+use mot_ending::Ended;
 use mot_endpoints::{Cause, NewDiskFault, Taken};
-use mot_export::Ended;
 use mot_journal::Reason;
 use mot_line_folder::LineNotes;
 use mot_numbers::Refusal;

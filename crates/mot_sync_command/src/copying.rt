@@ -9,7 +9,7 @@ ghost use Rattle.mot_numbers.specs.declared.refusal.Refusal.TheVariants.{DeviceF
 
 use disk_model::Disk;
 use disk_store::RamDisk;
-use mot_export::Ended;
+use mot_ending::Ended;
 use mot_numbers::Refusal;
 use mot_repository::Repository;
 use std::alloc::Global;

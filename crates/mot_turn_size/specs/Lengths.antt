@@ -1,0 +1,25 @@
+-- The lengths of the packets of a turn.
+use Rattle.std.specs.Prelude.{ℕ, ◌+◌, ◌*◌, List, length, map, flat_map, replicate}
+use Rattle.mot_groups.specs.Group.{Segment}
+use Rattle.mot_packets.specs.Cut.{pieces_of}
+use Rattle.mot_packets.specs.Packet.{PacketFields}
+use Rattle.mot_player.specs.Turn.{Turn, segments_of_turn}
+
+-- the bytes of a logical frame of 24 ms, at so many kbit/s
+abbrev pub frame_size : ℕ → ℕ
+frame_size rate = 3 * rate
+
+-- the lengths of the packets that a group of so many bytes is cut into: each has 5 bytes more than
+-- its data field
+abbrev pub lengths_of_group : (room : ℕ) → ℕ → List ℕ
+lengths_of_group room n =
+    map (λ (p : PacketFields). p.room + 5) (pieces_of room 0 0 (replicate n 0))
+
+-- those of the groups of segments: each has 11 bytes more than its segment
+abbrev pub lengths_of_segments : (room : ℕ) → List Segment → List ℕ
+lengths_of_segments room segments =
+    flat_map (λ (s : Segment). lengths_of_group room (length s.bytes + 11)) segments
+
+-- those of a turn
+abbrev pub lengths_of_turn : (room size : ℕ) → Turn → List ℕ
+lengths_of_turn room size turn = lengths_of_segments room (segments_of_turn turn size)
