@@ -11,7 +11,7 @@ use Rattle.mot_air.specs.declared.manner.Manner.{Manner}
 use Rattle.mot_air.specs.Playing.{tale_of}
 use Rattle.mot_air.specs.Commands.{PlaysInto}
 use Rattle.mot_ending.proofs.Laws.{ends_off, opened_leaves}
-use Rattle.mot_endpoints.specs.declared.packets.Target.{Target}
+use Rattle.mot_destinations.specs.declared.packets.Target.{Target}
 use Rattle.mot_feed.specs.Ends.{NobodyStarves}
 use Rattle.mot_feed.specs.Feeding.{AreOf, AreTold, Event, FedPacketsAreContinuous}
 use Rattle.mot_feed.specs.Feeding.{Feeds, Happen, HasFed, IsFeedFault, RulesAreKept, Stage}

@@ -10,11 +10,11 @@ use Rattle.mot_air.specs.Directory.{IsFrame, directory_of, early_of, look_of}
 use Rattle.mot_air.specs.Playing.{Plays, Tale}
 use Rattle.mot_air.specs.declared.manner.Manner.{Manner}
 use Rattle.mot_air.specs.Telling.{tale_with, watch_in, watched}
-use Rattle.mot_endpoints.specs.declared.packets.Target.{Target}
-use Rattle.mot_endpoints.specs.declared.packets.Target.TheVariants.{File, Output}
+use Rattle.mot_destinations.specs.declared.packets.Target.{Target}
+use Rattle.mot_destinations.specs.declared.packets.Target.TheVariants.{File, Output}
 use Rattle.mot_endpoints.specs.Lines.{IsUnlined}
 use Rattle.mot_endpoints.specs.Opened.{named}
-use Rattle.mot_endpoints.specs.Packets.{IsTarget}
+use Rattle.mot_destinations.specs.Packets.{IsTarget}
 use Rattle.mot_endpoints.specs.Types.{IsTyped, IsUntyped}
 use Rattle.mot_numbers.specs.declared.refusal.Refusal.{Refusal}
 use Rattle.mot_numbers.specs.declared.refusal.Refusal.TheVariants.{DeviceFault, WriteFault}

@@ -11,7 +11,7 @@ ghost use Rattle.mot_air.specs.Commands.{PlaysAsked, PlaysTo, is_all_done, playe
 ghost use Rattle.mot_outcome.specs.Outcome.{Concludes, Opens};
 ghost use Rattle.mot_air.specs.Telling.{EndsAs, tale_told, tale_with, watch_in, watched};
 ghost use Rattle.mot_endpoints.specs.Opened.{BeginsTo};
-ghost use Rattle.mot_endpoints.specs.Packets.{IsTarget, begun_of, target_of};
+ghost use Rattle.mot_destinations.specs.Packets.{IsTarget, begun_of, target_of};
 ghost use Rattle.mot_numbers.specs.declared.refusal.Refusal.TheVariants.{DeviceFault, WriteFault};
 ghost use Rattle.mot_playout.specs.Attempts.{fault_of};
 ghost use Rattle.mot_status.specs.Teller.{TellerView, starts};
@@ -24,7 +24,8 @@ use crate::playing::{Followed, PlayEnd, play_and_answer, play_disk};
 use disk_model::Disk;
 use disk_store::{BegunFile, Start, WasThere};
 use mot_cli::PlayTask;
-use mot_endpoints::{Cause, Host, OpenPackets, StatusFile, Target};
+use mot_destinations::{Cause, OpenPackets, StatusFile, Target};
+use mot_endpoints::Host;
 use mot_events::LookEvent;
 use mot_files::{HostSystem, System};
 use mot_line_folder::LineFolder;

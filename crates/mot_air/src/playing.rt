@@ -21,7 +21,7 @@ ghost use Rattle.mot_update.specs.Watching.{looks_known};
 use crate::Ended;
 use crate::manner::Manner;
 use disk_model::Disk;
-use mot_endpoints::Cause;
+use mot_destinations::Cause;
 use mot_events::LookEvent;
 use mot_feed::feed_every;
 use mot_feed_lines::{Lines, Reported};

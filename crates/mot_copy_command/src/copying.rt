@@ -19,9 +19,10 @@ use disk_store::{
 };
 use mot_cli::CopyTask;
 use mot_copying::{NotCopied, copy};
+use mot_destinations::{Cause, NewDiskFault};
 use mot_devices::use_of;
 use mot_ending::Ended;
-use mot_endpoints::{Cause, Host, NewDiskFault};
+use mot_endpoints::Host;
 use mot_files::System;
 use mot_journal::Reason;
 use mot_numbers::{Geometry, Refusal, TransportId};

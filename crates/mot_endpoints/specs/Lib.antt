@@ -1,9 +1,5 @@
 pub mod Inner
 pub mod LinePlaces
 pub mod Lines
-pub mod Names
 pub mod Opened
-pub mod Packets
-pub mod Placing
-pub mod Status
 pub mod Types

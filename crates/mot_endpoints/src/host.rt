@@ -5,14 +5,14 @@ ghost use Rattle.std.specs.Prelude.{codes, false, length, true};
 ghost use Rattle.disk_store.specs.Beginning.{IsFirst};
 ghost use Rattle.disk_store.specs.File.{file_state};
 ghost use Rattle.mot_endpoints.specs.LinePlaces.{ChecksLines};
-ghost use Rattle.mot_endpoints.specs.Packets.{IsTarget, OpensInto, begun_of, target_of};
+ghost use Rattle.mot_destinations.specs.Packets.{IsTarget, OpensInto, begun_of, target_of};
 
-use crate::fault::{Cause, LinesFault, TypesFault};
 use crate::lines::{Others, check_folder};
-use crate::packets::{OpenPackets, Target, open_packets};
-use crate::status_file::StatusFile;
 use crate::types::read_text;
 use disk_store::{BegunFile, SideFile, Start, Unopened, WasMade, WasThere, make_file, open_file};
+use mot_destinations::{
+    Cause, LinesFault, OpenPackets, StatusFile, Target, TypesFault, open_packets,
+};
 use mot_files::HostSystem;
 use mot_line_folder::LinePlace;
 use mot_shelf::{Pairs, SystemShelf};

@@ -9,10 +9,8 @@ ghost use Rattle.mot_endpoints.specs.Opened.{BeginsTo, named};
 ghost use Rattle.mot_files.specs.declared.system.Kind.TheVariants.{Folder};
 ghost use Rattle.mot_line_folder.specs.declared.folder.LineFolder.{LineFolder};
 
-use crate::beside::{folder_of, leads_to};
-use crate::fault::{Cause, LinesFault, Unbegun};
 use crate::host::Host;
-use crate::packets::OUTPUT;
+use mot_destinations::{Cause, LinesFault, OUTPUT, Unbegun, folder_of, leads_to};
 use mot_files::{Fault, HostSystem, Kind, Seen, System};
 use mot_line_folder::LineFolder;
 use mot_lines::Hand;

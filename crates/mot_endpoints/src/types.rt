@@ -8,8 +8,8 @@ ghost use Rattle.mot_files.specs.Call.{looked_at, read_of};
 ghost use Rattle.mot_files.specs.Reading.{IsSame};
 ghost use Rattle.mot_files.specs.declared.system.Seen.{Seen};
 
-use crate::fault::{Cause, TypesFault, Unbegun};
 use crate::host::Host;
+use mot_destinations::{Cause, TypesFault, Unbegun};
 use mot_files::{Fault, Handle, How, Seen, System, is_regular, is_same};
 use mot_numbers::Refusal;
 use mot_suffixes::{FileTypes, RefusedLine};

@@ -2,8 +2,8 @@
 use Rattle.std.specs.Prelude.{◌≡◌, ◌==◌, ◌-◌, ◌%◌, ◌+◌, ◌||◌, ◌∷◌, [], ◌++◌, Bool, IsErr, List}
 use Rattle.std.specs.Prelude.{MatchOption, None, Option, Result, Some, false, flat_map}
 use Rattle.std.specs.Prelude.{if◌then◌else◌, is_ok, min, nat_le, not, option_map, true, ℕ}
-use Rattle.mot_endpoints.specs.Status.{WritesStatus}
-use Rattle.mot_endpoints.specs.declared.fault.PacketsFault.{PacketsFault}
+use Rattle.mot_destinations.specs.Status.{WritesStatus}
+use Rattle.mot_destinations.specs.declared.fault.PacketsFault.{PacketsFault}
 use Rattle.mot_log.specs.Counters.{counted}
 use Rattle.mot_log.specs.Look.{counted_look, logged_met, new_events}
 use Rattle.mot_metrics.specs.Status.{status_text}

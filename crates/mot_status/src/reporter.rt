@@ -21,7 +21,7 @@ use crate::figures::{VERSION, figures_of};
 use crate::told::{hand, tell_written};
 use crate::turn::{Measured, measure};
 use disk_model::Disk;
-use mot_endpoints::StatusFile;
+use mot_destinations::StatusFile;
 use mot_events::{Event, LookEvent, Tells};
 use mot_files::System;
 use mot_log::EventLog;

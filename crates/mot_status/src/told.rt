@@ -5,7 +5,7 @@ ghost use Rattle.std.specs.Io.KnownBytes.{Appends};
 ghost use Rattle.mot_metrics.specs.Status.{status_text};
 ghost use Rattle.mot_status.specs.Told.{Tries, place, status_counted, status_line};
 
-use mot_endpoints::{PacketsFault, StatusFile};
+use mot_destinations::{PacketsFault, StatusFile};
 use mot_events::{Event, LookEvent, Tells};
 use mot_files::System;
 use mot_log::{Counters, EventLog};

@@ -14,8 +14,8 @@ use Rattle.mot_outcome.specs.Outcome.{Opens}
 use Rattle.mot_air.specs.Playing.{Tale}
 use Rattle.mot_air.specs.Telling.{tale_with, watch_in, watched}
 use Rattle.mot_line_folder.specs.declared.folder.LineFolder.{LineFolder}
-use Rattle.mot_endpoints.specs.Packets.{IsTarget, begun_of, target_of}
-use Rattle.mot_endpoints.specs.declared.packets.Target.{Target}
+use Rattle.mot_destinations.specs.Packets.{IsTarget, begun_of, target_of}
+use Rattle.mot_destinations.specs.declared.packets.Target.{Target}
 use Rattle.mot_numbers.specs.declared.refusal.Refusal.TheVariants.{DeviceFault, WriteFault}
 use Rattle.mot_outcome.specs.Outcome.{OnFile}
 use Rattle.mot_outcome.specs.declared.used.Beside.{Beside}

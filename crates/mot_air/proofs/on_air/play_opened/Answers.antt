@@ -12,10 +12,10 @@ use Rattle.mot_outcome.specs.declared.used.Beside.{Beside}
 use Rattle.mot_air.proofs.Behind.{frame_behind}
 use Rattle.mot_air.proofs.Retold.{plays_as, whoever}
 use Rattle.mot_air.proofs.on_air.play_opened.Goals as goal
-use Rattle.mot_endpoints.specs.Packets.{begun_of, target_of}
-use Rattle.mot_endpoints.specs.declared.packets.Target.{Target}
-use Rattle.mot_endpoints.specs.declared.packets.Target.TheVariants.{File}
-use Rattle.mot_endpoints.specs.declared.taken.Taken.{Taken}
+use Rattle.mot_destinations.specs.Packets.{begun_of, target_of}
+use Rattle.mot_destinations.specs.declared.packets.Target.{Target}
+use Rattle.mot_destinations.specs.declared.packets.Target.TheVariants.{File}
+use Rattle.mot_destinations.specs.declared.taken.Taken.{Taken}
 use Rattle.mot_numbers.specs.declared.refusal.Refusal.{Refusal}
 use Rattle.mot_numbers.specs.declared.refusal.Refusal.TheVariants.{WriteFault}
 use Rattle.mot_playout.specs.Attempts.{fault_of}

@@ -1,5 +1,5 @@
 use Rattle.std.proofs.Common.{◌≡◌, ◌∙◌, Global, List, MatchOption, string_bytes, subst, ℕ}
-use Rattle.mot_endpoints.specs.Status.{WritesStatus}
+use Rattle.mot_destinations.specs.Status.{WritesStatus}
 use Rattle.mot_status.specs.Told.{Tries}
 use Rattle.mot_status.proofs.Places.{through}
 use Rattle.mot_status.proofs.told.hand.Goals as goal

@@ -1,6 +1,6 @@
 use Rattle.std.proofs.Common.{Bool, Result, ap, is_ok, not, subst, sym}
 use Rattle.std.specs.Io.KnownBytes.{Appends}
-use Rattle.mot_endpoints.specs.declared.fault.PacketsFault.{PacketsFault}
+use Rattle.mot_destinations.specs.declared.fault.PacketsFault.{PacketsFault}
 use Rattle.mot_status.specs.Told.{status_line}
 use Rattle.mot_status.proofs.told.tell_written.Goals as goal
 

@@ -1,7 +1,7 @@
 use Rattle.std.proofs.Common.{◌∙◌, Bool, Bor, Global, List, Option, ap, option_map}
 use Rattle.std.proofs.Common.{is_ok, not, string_bytes, subst, sym, ℕ}
 use Rattle.std.specs.Io.KnownBytes.{Appends}
-use Rattle.mot_endpoints.specs.declared.status_file.StatusFile.{StatusFile}
+use Rattle.mot_destinations.specs.declared.status_file.StatusFile.{StatusFile}
 use Rattle.mot_status.specs.Told.{path_of, place, status_line}
 use Rattle.mot_status.proofs.reporter.Reporter.tell_status.Goals as goal
 

@@ -1,0 +1,14 @@
+use Rattle.std.proofs.Common.{MatchOption, string_bytes, subst, sym, ◌≡◌}
+use Rattle.mot_destinations.specs.Status.{WritesStatus}
+use Rattle.mot_destinations.proofs.status_file.StatusFile.write.Goals as goal
+
+pub returns-clause-calls : goal.returns-clause-calls
+returns-clause-calls g c =
+    subst (λ beside. MatchOption beside
+    (g.S.System.calls c.put.new.system ≡ g.S.System.calls c.args.self.now.system)
+    (λ beside. WritesStatus c.args.self.now.path.now (string_bytes beside) c.args.self.now.disk.now
+    c.args.text.now c.put.result (g.S.System.calls c.args.self.now.system)
+    (g.S.System.calls c.put.new.system))) (sym c.in-Some.is)
+    (subst (λ beside. WritesStatus c.args.self.now.path.now beside c.args.self.now.disk.now
+    c.args.text.now c.put.result (g.S.System.calls c.args.self.now.system)
+    (g.S.System.calls c.put.new.system)) c.as_str.ensures.value c.put.ensures)

@@ -1,0 +1,4 @@
+pub mod Names
+pub mod Packets
+pub mod Placing
+pub mod Status

@@ -1,0 +1,411 @@
+//! What the packets of `play` go to.
+ghost use Rattle.std.specs.Prelude.{◌≡◌, ◌≢◌, ◌≤◌, ◌↔◌, ◌∷◌, ◌++◌, ℕ, [], None, Some, IfOk, IsTrue};
+ghost use Rattle.std.specs.Prelude.{MatchResult, OnOk, Ok, Result, length, take, true};
+ghost use Rattle.mot_destinations.specs.Packets.{BeginsBeside, IsAnswer, IsPlace, IsReason};
+ghost use Rattle.mot_destinations.specs.Packets.{IsTakenAway, IsTarget, OpensInto, OpensOutput, OpensStream};
+ghost use Rattle.mot_destinations.specs.Packets.{TakesItsPlace, TakesPlace, TellsWhy, begun_of};
+ghost use Rattle.mot_destinations.specs.Packets.{fault_after, place_of, place_without, target_of};
+ghost use Rattle.mot_destinations.specs.declared.packets.Target.{Target};
+ghost use Rattle.mot_files.specs.Call.{wrote};
+ghost use Rattle.mot_files.specs.declared.system.Fault.{Fault};
+ghost use Rattle.mot_files.specs.declared.system.Kind.TheVariants.{Pipe};
+ghost use Rattle.mot_packets.specs.Outlet.{Grows};
+
+use crate::beside::{SUFFIX, folder_of, is_of_disk, leads_to};
+use crate::fault::{Cause, PacketsFault};
+use crate::new_file::{NewPlace, begin, take_away};
+use crate::taken::Taken;
+use mot_files::{Fault, Handle, How, Kind, Seen, System, take_place};
+use mot_packets::Outlet;
+use std::alloc::{AllocError, Global};
+use std::io;
+use std::mem::replace;
+
+/// The word that names standard output.
+pub const OUTPUT: &str = "-";
+
+/// What takes the packets of `play`.
+#[derive(Clone, Copy, Debug, PartialEq, Eq)]
+pub enum Target {
+    /// Standard output.
+    Output,
+    /// A named pipe or a character device: what is there and is neither a regular file nor a block
+    /// device.
+    Stream,
+    /// A regular file, or nothing yet: it is written whole or not at all, in so many turns.
+    File,
+}
+
+/// What is at a path.
+#[derive(Clone, Copy)]
+enum Place {
+    /// What is neither a regular file nor a block device.
+    Stream,
+    /// A regular file.
+    File,
+    /// Nothing.
+    Nothing,
+}
+
+/// Where packets go.
+#[derive(Drop)]
+pub enum Destination<'a> {
+    /// Standard output.
+    Output,
+    /// A named pipe or a character device.
+    Stream,
+    /// A new file, by its paths.
+    File(NewPlace<'a>),
+}
+
+/// What was opened to take packets.
+#[derive(Drop)]
+pub struct OpenPackets<'a, S: System + Drop> {
+    /// What writes them.
+    pub writer: PacketWriter<S>,
+    /// Where they go.
+    destination: Destination<'a>,
+}
+
+impl<'a, S: System + Drop> OpenPackets<'a, S> {
+    /// What was opened by this path, to which nothing was written.
+    fn of(system: S, handle: Handle, path: &str, destination: Destination<'a>) -> OpenPackets<'a, S>
+        ensures destination { result.destination ≡ destination.entry }
+        ensures begun { begun_of result ≡ path.now ∷ [] }
+        ensures handle { result.writer.handle ≡ handle }
+        ensures system { result.writer.system ≡ system }
+    {
+        OpenPackets {
+            writer: PacketWriter {
+                system,
+                handle,
+                fault: None,
+                taken: Taken::of(path),
+            },
+            destination,
+        }
+    }
+
+    /// What takes the packets.
+    pub fn target(&self) -> Target
+        ensures { result ≡ target_of self.now }
+    {
+        match &self.destination {
+            Destination::Output => Target::Output,
+            Destination::Stream => Target::Stream,
+            Destination::File(_) => Target::File,
+        }
+    }
+
+    /// Makes a new file last, and then its name: at each moment the name is that of the old file,
+    /// or of the new one, whole. It is noted beside what was written. If that fails, the file is
+    /// taken away.
+    pub fn take_place(&mut self) -> Result<(), PacketsFault>
+        ensures same { self.new.writer.taken.notes.all ≡ self.old.writer.taken.notes.all }
+        ensures placed { target_of self.old ≡ Target.File
+            → OnOk result (self.new.writer.taken.is_placed ≡ true) }
+        ensures others { target_of self.old ≢ Target.File → result ≡ Ok tt }
+        ensures calls { TakesItsPlace self.old.destination self.old.writer.handle result
+            (S.calls self.old.writer.system) (S.calls self.new.writer.system) }
+    {
+        let Destination::File(place) = &self.destination else {
+            return Ok(());
+        };
+        let PacketWriter { system, handle, .. } = &mut self.writer;
+        if let Err(fault) = put_in_place(system, *handle, place) {
+            return Err(PacketsFault::from(fault));
+        }
+        self.writer.taken.placed();
+        Ok(())
+    }
+
+    /// Leaves nothing of a new file.
+    pub fn take_away(&mut self)
+        ensures taken { self.new.writer.taken ≡ self.old.writer.taken }
+        ensures calls { IsTakenAway self.old.destination self.old.writer.handle
+            (S.calls self.old.writer.system) (S.calls self.new.writer.system) }
+    {
+        if let Destination::File(place) = &self.destination {
+            take_away(
+                &mut self.writer.system,
+                self.writer.handle,
+                place.beside.as_str(),
+            );
+        }
+    }
+
+    /// Hands out what its writes took.
+    pub fn hand_out(&mut self) -> Taken
+        ensures { result ≡ self.old.writer.taken }
+    {
+        replace(&mut self.writer.taken, Taken::nothing())
+    }
+
+    /// Why packets were not taken, if they were not. If one was cut in a new file, it is what the
+    /// system says of a further write: the file is given up anyway.
+    pub fn reason(&mut self) -> Option<Cause>
+        ensures same { self.new.writer.taken ≡ self.old.writer.taken }
+        ensures handle { self.new.writer.handle ≡ self.old.writer.handle }
+        ensures destination { self.new.destination ≡ self.old.destination }
+        ensures told { IsReason self.old.destination self.old.writer.handle self.old.writer.fault
+            result (S.calls self.old.writer.system) (S.calls self.new.writer.system) }
+    {
+        let fault = match self.writer.fault {
+            Some(fault) => fault,
+            None => return None,
+        };
+        match &self.destination {
+            Destination::File(_) => Some(Cause::NewFile(self.writer.why(fault))),
+            Destination::Output | Destination::Stream => Some(Cause::Packets(fault)),
+        }
+    }
+}
+
+/// Gives a new file its place. If that fails, it is taken away.
+fn put_in_place<S: System>(
+    system: &mut S,
+    handle: Handle,
+    place: &NewPlace<'_>,
+) -> Result<(), Fault>
+    ensures { TakesPlace handle place.now result (S.calls system.old) (S.calls system.new) }
+{
+    let beside = place.beside.as_str();
+    match take_place(system, handle, beside, place.path, folder_of(place.path)) {
+        Ok(()) => Ok(()),
+        Err(fault) => {
+            take_away(system, handle, beside);
+            Err(fault)
+        }
+    }
+}
+
+/// Opens what the path names, to write packets to it. A pipe or a device is opened for reading and
+/// writing: so a pipe's opening waits for no reader, and its reader may go and come back. The pipe
+/// is locked, so that no other program of ours writes to it. A file is written only if some turns
+/// are asked for: so a pipe that is not there is refused. The disk itself is refused, and so are a
+/// terminal and every block device: no multiplexer reads one, and it may hold a file system.
+pub fn open_packets<'a, S: System + Drop>(
+    system: S,
+    alloc: Global,
+    path: &'a str,
+    disk: &str,
+    turns: Option<u32>,
+) -> Result<OpenPackets<'a, S>, Cause>
+    ensures target { IfOk result (λ opened. IsTarget path.now (target_of opened)) }
+    ensures begun { IfOk result (λ opened. begun_of opened ≡ path.now ∷ []) }
+    ensures turns { IfOk result (λ opened. target_of opened ≡ Target.File
+        → (turns ≢ None) × (turns ≢ Some 0)) }
+    ensures calls { IfOk result (λ opened. OpensInto path.now disk.now opened.writer.handle
+        (S.calls system) (S.calls opened.writer.system) opened.destination) }
+{
+    let mut system = system;
+    if path == OUTPUT {
+        let handle = open_output(&mut system, path)?;
+        return Ok(OpenPackets::of(system, handle, path, Destination::Output));
+    }
+    let fault = match (place_at(&mut system, path, disk)?, turns) {
+        (Place::Stream, _) => {
+            let handle = open_stream(&mut system, path)?;
+            return Ok(OpenPackets::of(system, handle, path, Destination::Stream));
+        }
+        (Place::Nothing, None) => PacketsFault::NoPipe,
+        (Place::File, None) => PacketsFault::EndlessFile,
+        (_, Some(0)) => PacketsFault::NoTurns,
+        (_, Some(_)) => {
+            let (handle, place) = new_file(&mut system, alloc, path, disk)?;
+            return Ok(OpenPackets::of(system, handle, path, Destination::File(place)));
+        }
+    };
+    Err(Cause::Packets(fault))
+}
+
+/// A new file for the path.
+fn new_file<'a, S: System>(
+    system: &mut S,
+    alloc: Global,
+    path: &'a str,
+    disk: &str,
+) -> Result<(Handle, NewPlace<'a>), Cause>
+    ensures { IfOk result (λ made. BeginsBeside path.now disk.now made.0 made.1
+        (S.calls system.old) (S.calls system.new)) }
+{
+    let Ok(beside) = format!(in alloc; "{path}{SUFFIX}") else {
+        return Err(Cause::NewFile(PacketsFault::from(AllocError)));
+    };
+    match begin(system, beside.as_str(), disk) {
+        Ok(handle) => Ok((handle, NewPlace { path, beside })),
+        Err(fault) => Err(Cause::NewFile(fault)),
+    }
+}
+
+/// Standard output, if it is no terminal.
+fn open_output<S: System>(system: &mut S, path: &str) -> Result<Handle, PacketsFault>
+    ensures { OpensOutput path.now result (S.calls system.old) (S.calls system.new) }
+{
+    let handle = match system.open(path, How::Output) {
+        Ok(handle) => handle,
+        Err(fault) => return Err(PacketsFault::from(fault)),
+    };
+    if system.is_terminal(handle) {
+        return Err(PacketsFault::Terminal);
+    }
+    Ok(handle)
+}
+
+/// Opens a pipe or a character device for reading and writing. A pipe is locked. What was opened is
+/// looked at before anything is written: another device may have come to the path.
+fn open_stream<S: System>(system: &mut S, path: &str) -> Result<Handle, PacketsFault>
+    ensures { OpensStream path.now result (S.calls system.old) (S.calls system.new) }
+{
+    let handle = match system.open(path, How::Stream) {
+        Ok(handle) => handle,
+        Err(fault) => return Err(PacketsFault::from(fault)),
+    };
+    if system.is_terminal(handle) {
+        return Err(PacketsFault::Terminal);
+    }
+    let found = match system.look_at(handle) {
+        Ok(found) => found,
+        Err(fault) => return Err(PacketsFault::from(fault)),
+    };
+    if found.block.is_some() {
+        return Err(PacketsFault::BlockDevice);
+    }
+    if !is_pipe(&found) {
+        return Ok(handle);
+    }
+    match system.lock(handle) {
+        Ok(()) => Ok(handle),
+        Err(fault) => Err(PacketsFault::from(fault)),
+    }
+}
+
+/// Whether it is a named pipe.
+fn is_pipe(found: &Seen) -> bool
+    ensures { IsTrue result ↔ (found.now.kind ≡ Pipe) }
+{
+    found.kind == Kind::Pipe
+}
+
+/// What is at the path, to which a link may lead. The disk itself is refused, and so are a name of a
+/// file of it, a path without a name, and a block device, which is not opened.
+fn place_at<S: System>(system: &mut S, path: &str, disk: &str) -> Result<Place, PacketsFault>
+    ensures { IsPlace path.now disk.now result (S.calls system.old) (S.calls system.new) }
+{
+    if is_of_disk(system, path, disk) {
+        return Err(PacketsFault::IsOfDisk);
+    }
+    let found = match system.follow(path) {
+        Ok(found) => found,
+        Err(fault) => return place_without(path, fault),
+    };
+    if leads_to(system, disk, &found) {
+        return Err(PacketsFault::IsDisk);
+    }
+    place_of(&found)
+}
+
+/// Nothing is at a path that has a name, if the system says so; any other fault is handed on.
+fn place_without(path: &str, fault: Fault) -> Result<Place, PacketsFault>
+    ensures { result ≡ place_without path.now fault }
+{
+    if path == "" {
+        return Err(PacketsFault::from(fault));
+    }
+    match fault {
+        Fault::Absent(_) => Ok(Place::Nothing),
+        Fault::Busy => Err(PacketsFault::InUse),
+        Fault::System(error) => Err(PacketsFault::System(error)),
+    }
+}
+
+/// What it is, as far as it takes packets: a block device takes none.
+fn place_of(found: &Seen) -> Result<Place, PacketsFault>
+    ensures { result ≡ place_of found.now }
+{
+    match (found.block, found.kind) {
+        (Some(_), _) => Err(PacketsFault::BlockDevice),
+        (None, Kind::File) => Ok(Place::File),
+        (None, _) => Ok(Place::Stream),
+    }
+}
+
+/// A writer of packets, each in one write that is handed on at once. Only `open_packets` makes one,
+/// of what it opened by the path that is noted first. It keeps why one was not written. What each
+/// write took is noted, and nothing else writes to the handle.
+#[derive(Drop)]
+pub struct PacketWriter<S: System + Drop> {
+    system: S,
+    /// What it writes to.
+    handle: Handle,
+    /// Why the last packet was not taken.
+    pub fault: Option<PacketsFault>,
+    /// By which path it was opened, and what each write took.
+    pub taken: Taken,
+}
+
+impl<S: System + Drop> PacketWriter<S> {
+    /// Why a packet was not taken: if it was cut, what the system says of a further write.
+    fn why(&mut self, fault: PacketsFault) -> PacketsFault
+        ensures same { self.new.taken ≡ self.old.taken }
+        ensures handle { self.new.handle ≡ self.old.handle }
+        ensures told { TellsWhy self.old.handle fault result (S.calls self.old.system)
+            (S.calls self.new.system) }
+    {
+        match fault {
+            PacketsFault::Cut => match self.system.write(self.handle, &[0]) {
+                Ok(_) => PacketsFault::Cut,
+                Err(fault) => PacketsFault::from(fault),
+            },
+            other => other,
+        }
+    }
+}
+
+impl<S: System + Drop> Outlet for PacketWriter<S> {
+    ghost writes = { λ outlet. Some outlet.taken.notes.all };
+
+    fn write_once(&mut self, bytes: &[u8]) -> io::Result<usize>
+        ensures bound { IfOk result (λ count. count ≤ length bytes.now) }
+        ensures one { MatchResult result
+            (λ count. Grows (Some self.old.taken.notes.all) (Some self.new.taken.notes.all)
+            (take count bytes.now ∷ []))
+            (λ _. Grows (Some self.old.taken.notes.all) (Some self.new.taken.notes.all) ([] ∷ [])) }
+        ensures handle { self.new.handle ≡ self.old.handle }
+
+        // The packet was offered in one write to what was opened, and nothing else was done.
+        ensures calls { (answer : Result ℕ Fault) × (S.calls self.new.system
+            ≡ S.calls self.old.system ++ wrote self.old.handle bytes.now answer ∷ [])
+            × (self.new.fault ≡ fault_after self.old.fault (length bytes.now) answer)
+            × IsAnswer answer result }
+    {
+        let answer = self.system.write(self.handle, bytes);
+        self.fault = fault_after(self.fault, bytes.len(), answer);
+        self.taken.wrote(bytes, told(answer))
+    }
+}
+
+/// Why a packet of this length was not taken whole, or what was known before.
+fn fault_after(
+    before: Option<PacketsFault>,
+    len: usize,
+    answer: Result<usize, Fault>,
+) -> Option<PacketsFault>
+    ensures { result ≡ fault_after before len answer }
+{
+    match answer {
+        Ok(count) if count < len => Some(PacketsFault::Cut),
+        Ok(_) => before,
+        Err(fault) => Some(PacketsFault::from(fault)),
+    }
+}
+
+/// The answer as that of an outlet.
+fn told(answer: Result<usize, Fault>) -> io::Result<usize>
+    ensures { IsAnswer answer result }
+{
+    match answer {
+        Ok(count) => Ok(count),
+        Err(fault) => Err(fault.error()),
+    }
+}

@@ -1,0 +1,128 @@
+//! The file that monitoring reads.
+ghost use Rattle.std.specs.Prelude.{◌≡◌, ◌++◌, ◌∷◌, [], IfSome, MatchOption, codes, string_bytes};
+ghost use Rattle.mot_files.specs.Call.{told_time};
+ghost use Rattle.mot_destinations.specs.Status.{ChecksPlace, WritesStatus, beside_fault};
+
+use crate::beside::{SUFFIX, is_of_disk};
+use crate::fault::PacketsFault;
+use crate::new_file::{clear, find};
+use mot_files::{System, Time, replace};
+use std::alloc::{AllocError, Global};
+
+/// A file of which a reader always sees a whole text.
+#[derive(Drop)]
+pub struct StatusFile<'a, S: System + Drop> {
+    system: S,
+    /// Its path.
+    pub path: &'a str,
+    disk: &'a str,
+    /// The path beside it; none if there was no memory for it.
+    beside: Option<String>,
+}
+
+impl<'a, S: System + Drop> StatusFile<'a, S> {
+    /// The file at this path. Nothing was written.
+    pub fn new(system: S, alloc: Global, path: &'a str, disk: &'a str) -> StatusFile<'a, S>
+        ensures path { result.path.now ≡ path.now }
+        ensures disk { result.disk.now ≡ disk.now }
+        ensures system { result.system ≡ system }
+        ensures beside { IfSome result.beside (λ beside. string_bytes beside
+            ≡ path.now ++ codes ".new") }
+    {
+        StatusFile {
+            system,
+            path,
+            disk,
+            beside: path_beside(alloc, path),
+        }
+    }
+
+    /// The time of day, if the system knows it.
+    pub fn now(&mut self) -> Option<Time>
+        ensures calls { S.calls self.new.system ≡ S.calls self.old.system ++ told_time result ∷ [] }
+        ensures path { self.new.path ≡ self.old.path }
+        ensures disk { self.new.disk ≡ self.old.disk }
+        ensures beside { self.new.beside ≡ self.old.beside }
+    {
+        self.system.now()
+    }
+
+    /// Writes the text beside the file, and puts it in its place. Neither is synced: after a power
+    /// cut the file may be empty. The disk stays, and so does what is no regular file.
+    pub fn write(&mut self, text: &[u8]) -> Result<(), PacketsFault>
+        ensures calls { MatchOption self.old.beside
+            (S.calls self.new.system ≡ S.calls self.old.system)
+            (λ beside. WritesStatus self.old.path.now (string_bytes beside) self.old.disk.now
+            text.now result (S.calls self.old.system) (S.calls self.new.system)) }
+        ensures path { self.new.path ≡ self.old.path }
+        ensures disk { self.new.disk ≡ self.old.disk }
+        ensures beside { self.new.beside ≡ self.old.beside }
+    {
+        let Some(beside) = &self.beside else {
+            return Err(PacketsFault::from(AllocError));
+        };
+        put(
+            &mut self.system,
+            self.path,
+            beside.as_str(),
+            self.disk,
+            text,
+        )
+    }
+}
+
+/// Whether a text may take the place of what is at the path.
+fn check_place<S: System>(system: &mut S, path: &str, disk: &str) -> Result<(), PacketsFault>
+    ensures { ChecksPlace path.now disk.now result (S.calls system.old) (S.calls system.new) }
+{
+    if is_of_disk(system, path, disk) {
+        return Err(PacketsFault::IsOfDisk);
+    }
+    match find(system, path, disk) {
+        Ok(_) => Ok(()),
+        Err(fault) => Err(fault),
+    }
+}
+
+/// Writes the text beside the path, and puts it in its place.
+fn put<S: System>(
+    system: &mut S,
+    path: &str,
+    beside: &str,
+    disk: &str,
+    text: &[u8],
+) -> Result<(), PacketsFault>
+    ensures { WritesStatus path.now beside.now disk.now text.now result (S.calls system.old)
+        (S.calls system.new) }
+{
+    if let Err(fault) = check_place(system, path, disk) {
+        return Err(fault);
+    }
+    if let Err(fault) = clear(system, beside, disk) {
+        return Err(fault_of_beside(fault));
+    }
+    match replace(system, beside, path, text) {
+        Ok(()) => Ok(()),
+        Err(fault) => Err(PacketsFault::from(fault)),
+    }
+}
+
+/// A fault of the file beside the path, as one of the path.
+fn fault_of_beside(fault: PacketsFault) -> PacketsFault
+    ensures { result ≡ beside_fault fault }
+{
+    match fault {
+        PacketsFault::NoFile => PacketsFault::NoNewFile,
+        _ => fault,
+    }
+}
+
+/// The path of the file that is written; none if there is no memory for it.
+fn path_beside(alloc: Global, path: &str) -> Option<String>
+    ensures { IfSome result (λ beside. string_bytes beside ≡ path.now ++ codes ".new") }
+{
+    match format!(in alloc; "{path}{SUFFIX}") {
+        Ok(beside) => Some(beside),
+        Err(_) => None,
+    }
+}
