@@ -1,5 +1,7 @@
 //! A command for which all memory was taken, and nothing was written.
-ghost use Rattle.std.specs.Prelude.{◌≡◌, ◌≤◌, ◌+◌, true, false, IsTrue, IsFalse, OnOk, IfOk, IfErr};
+ghost use Rattle.std.specs.Prelude.{◌≡◌, ◌≤◌, ◌+◌, true, false, IsTrue, IsFalse, OnOk, IfOk, IfErr, Ok};
+ghost use Rattle.std.specs.Prelude.{if◌then◌else◌, is_ok};
+ghost use Rattle.std.specs.Result.{result_and};
 ghost use Rattle.mot_journal.specs.declared.layout.Layout.TheVariants.{Two};
 ghost use Rattle.mot_numbers.specs.Geometry as Sizes;
 ghost use Rattle.mot_numbers.specs.Geometry.{is_valid};
@@ -24,6 +26,7 @@ use mot_numbers::{Geometry, Refusal};
 use mot_objects::{Carousel, Command, Done};
 use placing::{body_start, extents_after, place_in};
 use std::alloc::{AllocError, Global};
+use std::mem::swap;
 
 /// A change that was worked out, with all memory that doing it takes. Its body stays the command's.
 #[derive(Drop)]
@@ -48,6 +51,31 @@ impl Prepared<'_> {
         ensures { result.now ≡ self.now.inventory.carousel }
     {
         &self.inventory.carousel
+    }
+
+    /// Puts what is kept after the change in place of what was kept, if the change was written.
+    pub(crate) fn take_up(
+        self,
+        written: Result<(), Refusal>,
+        kept: &mut Inventory,
+    ) -> Result<Done, Refusal>
+        ensures answer { result ≡ result_and written (Ok self.entry.done) }
+        ensures kept { kept.new
+            ≡ (if is_ok written then self.entry.inventory else kept.old) }
+    {
+        drop(self.record);
+        let mut next = self.inventory;
+        swap_where(written.is_ok(), kept, &mut next);
+        written.and(Ok(self.done))
+    }
+}
+
+/// Swaps the two inventories, where they are to be swapped.
+fn swap_where(is_to_be: bool, one: &mut Inventory, other: &mut Inventory)
+    ensures { one.new ≡ (if is_to_be then other.old else one.old) }
+{
+    if is_to_be {
+        swap(one, other);
     }
 }
 

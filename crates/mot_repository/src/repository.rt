@@ -281,12 +281,8 @@ impl<D: Disk> Repository<D> {
             prepared.body,
             &prepared.record,
         );
-        if let Err(refusal) = written {
-            self.halted = true;
-            return Err(refusal);
-        }
-        self.inventory = prepared.inventory;
-        Ok(prepared.done)
+        self.halted = written.is_err();
+        prepared.take_up(written, &mut self.inventory)
     }
 
     /// Prepares the command and commits it. At `DeviceFault` the repository is halted, with the
