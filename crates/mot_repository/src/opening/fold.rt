@@ -31,6 +31,7 @@ use mot_journal::{Action, Fault, ListFault, Reason, Record};
 use mot_numbers::{Geometry, TransportId};
 use mot_objects::{Carousel, Name, Object, Period};
 use std::alloc::{AllocError, Global};
+use std::mem::replace;
 
 /// A carousel without its bodies, and for each object where its body begins, and its length.
 #[derive(Drop)]
@@ -287,12 +288,13 @@ fn set_object(
     let extent = (start, object.length.get());
     let id = object.tid.get();
     if let Some(place) = place_of_name(objects, bounds, &object.name) {
-        objects[place] = object;
+        drop(replace(&mut objects[place], object));
         extents[place] = extent;
         return stands_apart(objects, extents, bounds, place, id);
     }
     let place = objects.len();
     if place >= usize::from(limit) {
+        drop(object);
         return Err(ListFault::TooMany { limit });
     }
     objects.push_reserved(object);

@@ -41,9 +41,11 @@ stands_apart-requires-clause-paired c =
     let os : List Object = c.args.objects.now.items in
     let es : List (ℕ × ℕ) = c.args.extents.now.items in
     let i : ℕ = c.in-Some.place in
+    let put : c.deref-in-Some.result.now ≡ set os i c.args.object =
+    c.deref-in-Some.ensures.value ∙ ap (set os i) c.replace.ensures.after in
     same-lengths c.deref-in-Some.result.now (set os i c.args.object) c.deref-in-Some-2.result.now
     (set es i (c.args.start, c.args.object.length))
-    c.deref-in-Some.ensures.value
+    put
     (c.deref-in-Some-2.ensures.value ∙ ap (λ n. set es i (c.args.start, n)) c.get.ensures.value)
     (lengths_set os es i c.args.object c.args.start c.requires.paired)
 
@@ -52,11 +54,13 @@ stands_apart-requires-clause-others c =
     let os : List Object = c.args.objects.now.items in
     let es : List (ℕ × ℕ) = c.args.extents.now.items in
     let i : ℕ = c.in-Some.place in
+    let put : c.deref-in-Some.result.now ≡ set os i c.args.object =
+    c.deref-in-Some.ensures.value ∙ ap (set os i) c.replace.ensures.after in
     let within : i < length c.deref.result.now = c.in-Some.ensures.within in
     let count : length c.deref.result.now ≡ length os = ap length c.deref.ensures.value in
     same-others c.deref-in-Some.result.now (set os i c.args.object) c.deref-in-Some-2.result.now
     (set es i (c.args.start, c.get.result)) i i
-    c.deref-in-Some.ensures.value c.deref-in-Some-2.ensures.value refl
+    put c.deref-in-Some-2.ensures.value refl
     (consistent_but_set os es i c.args.object (c.args.start, c.get.result) c.requires.paired
     (omega (arith, within, count)) c.requires.consistent)
 
@@ -65,26 +69,29 @@ returns-in-Some-clause-done c =
     let os : List Object = c.args.objects.now.items in
     let es : List (ℕ × ℕ) = c.args.extents.now.items in
     let i : ℕ = c.in-Some.place in
+    let put : c.deref-in-Some.result.now ≡ set os i c.args.object =
+    c.deref-in-Some.ensures.value ∙ ap (set os i) c.replace.ensures.after in
     let at : index_of c.args.object.name os ≡ Some i =
     ap (index_of c.args.object.name) (sym c.deref.ensures.value) ∙ sym c.place_of_name.ensures.place
     ∙ c.in-Some.is in
-    done_where (is_ok c.stands_apart.result)
+    rw c.replace.ensures.after (done_where (is_ok c.stands_apart.result)
     (objects_in (set os i c.args.object) (set es i (c.args.start, c.get.result)))
     (c.stands_apart.ensures.consistent ∙ ap are_consistent
     (same-objects c.deref-in-Some.result.now (set os i c.args.object)
     c.deref-in-Some-2.result.now (set es i (c.args.start, c.get.result))
-    c.deref-in-Some.ensures.value c.deref-in-Some-2.ensures.value))
+    put c.deref-in-Some-2.ensures.value))
     ∙ ap if_consistent (ap (λ n.
     Some (objects_in (set os i c.args.object) (set es i (c.args.start, n)))) c.get.ensures.value
-    ∙ set_there os es c.requires.paired c.args.limit c.args.start c.args.object i at)
+    ∙ set_there os es c.requires.paired c.args.limit c.args.start c.args.object i at))
 
 pub returns-in-Some-clause-paired : goal.returns-in-Some-clause-paired
 returns-in-Some-clause-paired c =
     let os : List Object = c.args.objects.now.items in
     let es : List (ℕ × ℕ) = c.args.extents.now.items in
     let i : ℕ = c.in-Some.place in
-    same-lengths (set os i c.args.object) _ (set es i (c.args.start, c.get.result))
-    (set es i (c.args.start, c.args.object.length)) refl
+    same-lengths (set os i c.replace.new.dest) (set os i c.args.object)
+    (set es i (c.args.start, c.get.result))
+    (set es i (c.args.start, c.args.object.length)) (ap (set os i) c.replace.ensures.after)
     (ap (λ n. set es i (c.args.start, n)) c.get.ensures.value)
     (lengths_set os es i c.args.object c.args.start c.requires.paired)
 
@@ -121,10 +128,12 @@ stands_apart-requires-clause-bounded c =
     let os : List Object = c.args.objects.now.items in
     let es : List (ℕ × ℕ) = c.args.extents.now.items in
     let i : ℕ = c.in-Some.place in
+    let put : c.deref-in-Some.result.now ≡ set os i c.args.object =
+    c.deref-in-Some.ensures.value ∙ ap (set os i) c.replace.ensures.after in
     let e : ℕ × ℕ = (c.args.start, c.get.result) in
     same-bounds c.args.bounds.now c.deref-in-Some.result.now (set os i c.args.object)
     c.deref-in-Some-2.result.now (set es i e) i i
-    c.deref-in-Some.ensures.value c.deref-in-Some-2.ensures.value refl
+    put c.deref-in-Some-2.ensures.value refl
     (within_but_set c.args.bounds.now os es i c.args.object e c.requires.bounded)
 
 pub stands_apart-requires-2-clause-bounded : goal.stands_apart-requires-2-clause-bounded
@@ -184,11 +193,13 @@ returns-in-Some-clause-bounded c =
     let os : List Object = c.args.objects.now.items in
     let es : List (ℕ × ℕ) = c.args.extents.now.items in
     let i : ℕ = c.in-Some.place in
-    on_ok_weaker c.stands_apart.result
+    let put : c.deref-in-Some.result.now ≡ set os i c.args.object =
+    c.deref-in-Some.ensures.value ∙ ap (set os i) c.replace.ensures.after in
+    rw c.replace.ensures.after (on_ok_weaker c.stands_apart.result
     (same-within c.stands_apart.new.bounds c.deref-in-Some.result.now (set os i c.args.object)
     c.deref-in-Some-2.result.now (set es i (c.args.start, c.get.result))
-    c.deref-in-Some.ensures.value c.deref-in-Some-2.ensures.value)
-    c.stands_apart.ensures.bounded
+    put c.deref-in-Some-2.ensures.value)
+    c.stands_apart.ensures.bounded)
 
 pub returns-in-Some-clause-fault : goal.returns-in-Some-clause-fault
 returns-in-Some-clause-fault c =
@@ -196,6 +207,8 @@ returns-in-Some-clause-fault c =
     let es : List (ℕ × ℕ) = c.args.extents.now.items in
     let o : Object = c.args.object in
     let i : ℕ = c.in-Some.place in
+    let put : c.deref-in-Some.result.now ≡ set os i c.args.object =
+    c.deref-in-Some.ensures.value ∙ ap (set os i) c.replace.ensures.after in
     let now : List Object = c.deref-in-Some.result.now in
     let beside : List (ℕ × ℕ) = c.deref-in-Some-2.result.now in
     let extent : beside ≡ set es i (c.args.start, o.length) =
@@ -207,11 +220,11 @@ returns-in-Some-clause-fault c =
     (λ f is. clash_is_fault c.args.limit (record { object = o; start = c.args.start })
     (objects_in os es) now beside
     (same-lengths now (set os i o) beside (set es i (c.args.start, o.length))
-    c.deref-in-Some.ensures.value extent (lengths_set os es i o c.args.start c.requires.paired))
+    put extent (lengths_set os es i o c.args.start c.requires.paired))
     c.get-id.result f c.get-id.ensures.value
     (sym (set_there os es c.requires.paired c.args.limit c.args.start o i at)
     ∙ ap Some (same-objects (set os i o) now (set es i (c.args.start, o.length)) beside
-    (sym c.deref-in-Some.ensures.value) (sym extent))) is)
+    (sym put) (sym extent))) is)
     c.stands_apart.ensures.fault
 
 pub returns-then-place-from-clause-fault : goal.returns-then-place-from-clause-fault

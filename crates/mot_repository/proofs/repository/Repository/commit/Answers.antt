@@ -1,7 +1,9 @@
-use Rattle.std.proofs.Common.{◌≡◌, Bool, Result, Ok, Err, true, false, refl, sym, subst}
+use Rattle.std.proofs.Common.{◌≡◌, ℕ, Bool, Result, Ok, Err, true, false, refl, sym, subst}
 use Rattle.std.specs.Prelude.{IfOk, OnOk, if◌then◌else◌, is_err, is_ok}
 use Rattle.std.specs.Result.{result_and}
 use Rattle.disk_model.proofs.Laws.{at_end}
+use Rattle.disk_model.specs.Disk.{State, Costs}
+use Rattle.disk_model.specs.Failures.{HasCause}
 use Rattle.mot_journal.specs.Image.{Standing}
 use Rattle.mot_objects.specs.declared.command.Done.{Done}
 use Rattle.mot_repository.specs.Answers.{IsChanged}
@@ -94,3 +96,27 @@ returns-clause-ok g c = rw (← c.self.view_is) (λ command is s holds.
     (subst (λ l. IsPreparedFor view command p.done p.inventory.carousel is.change.from p.record l)
     (sym c.deref.ensures.value) is.change.prepared) holds)
     (λ found. (found.0, found.1, found.2 new refl refl refl is.change.extents_are)))
+
+-- a failure's cause is also that of what was answered then
+same_cause : {T E A : Type 0} {before now : ℕ} (w : Result T E) (d : A) → HasCause before now w
+    → HasCause before now (result_and w (Ok d))
+same_cause (Ok v) d is =
+    record { later = is.later; fits = is.fits; cause = is.cause; shown = is.shown }
+same_cause (Err e) d is =
+    record { later = is.later; fits = is.fits; cause = is.cause; shown = is.shown }
+
+-- and the cost is the same
+same_cost : {T E A : Type 0} {n : ℕ} {old new : State} (w : Result T E) (d : A)
+    → Costs n old new w → Costs n old new (result_and w (Ok d))
+same_cost (Ok v) d is = record { at_most = is.at_most; exact = is.exact }
+same_cost (Err e) d is = record { at_most = is.at_most; exact = tt }
+
+pub returns-clause-cause : goal.returns-clause-cause
+returns-clause-cause g c = rw (← c.self.view_is) (rw c.take_up.ensures.answer
+    (same_cause c.commit_change-written.result c.args.prepared.done
+    c.commit_change-written.ensures.cause))
+
+pub returns-clause-cost : goal.returns-clause-cost
+returns-clause-cost g c = rw (← c.self.view_is) (λ command is. rw c.take_up.ensures.answer
+    (same_cost c.commit_change-written.result c.args.prepared.done
+    (rw (← is.change.body_is) c.commit_change-written.ensures.cost)))
