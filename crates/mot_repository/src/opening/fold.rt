@@ -386,7 +386,7 @@ fn remove_object(
     let Some(place) = place_of_id(objects, tid) else {
         return Err(ListFault::Missing { id: tid.get() });
     };
-    objects.remove(place);
+    drop(objects.remove(place));
     extents.remove(place);
     Ok(())
 }

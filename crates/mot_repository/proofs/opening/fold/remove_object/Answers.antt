@@ -33,8 +33,8 @@ pub returns-clause-done : goal.returns-clause-done
 returns-clause-done c =
     let os : List Object = c.args.objects.now.items in
     let es : List (ℕ × ℕ) = c.args.extents.now.items in
-    same-lists c.remove.new.self.items (remove os c.in-Some.place) c.remove-4.new.self.items
-    (remove es c.in-Some.place) c.remove.ensures.items c.remove-4.ensures.items
+    same-lists c.remove.new.self.items (remove os c.in-Some.place) c.remove-2.new.self.items
+    (remove es c.in-Some.place) c.remove.ensures.items c.remove-2.ensures.items
     ∙ remove_there os es c.requires.paired c.args.tid c.in-Some.place
     (ap (position (λ (o : Object). nat_eq o.tid c.args.tid)) (sym c.deref.ensures.value)
     ∙ sym c.place_of_id.ensures.place ∙ c.in-Some.is)
@@ -43,16 +43,16 @@ pub returns-clause-paired : goal.returns-clause-paired
 returns-clause-paired c =
     let os : List Object = c.args.objects.now.items in
     let es : List (ℕ × ℕ) = c.args.extents.now.items in
-    same-lengths c.remove.new.self.items (remove os c.in-Some.place) c.remove-4.new.self.items
-    (remove es c.in-Some.place) c.remove.ensures.items c.remove-4.ensures.items
+    same-lengths c.remove.new.self.items (remove os c.in-Some.place) c.remove-2.new.self.items
+    (remove es c.in-Some.place) c.remove.ensures.items c.remove-2.ensures.items
     (lengths_remove os es c.in-Some.place c.requires.paired)
 
 pub returns-clause-bounded : goal.returns-clause-bounded
 returns-clause-bounded c b h =
     let os : List Object = c.args.objects.now.items in
     let es : List (ℕ × ℕ) = c.args.extents.now.items in
-    same-bounds b c.remove.new.self.items (remove os c.in-Some.place) c.remove-4.new.self.items
-    (remove es c.in-Some.place) c.remove.ensures.items c.remove-4.ensures.items
+    same-bounds b c.remove.new.self.items (remove os c.in-Some.place) c.remove-2.new.self.items
+    (remove es c.in-Some.place) c.remove.ensures.items c.remove-2.ensures.items
     (within_without b os es c.in-Some.place h)
 
 pub place_of_id-requires : goal.place_of_id-requires
@@ -98,4 +98,4 @@ pub returns-clause-room : goal.returns-clause-room
 returns-clause-room c = c.remove.ensures.capacity
 
 pub returns-clause-room_of_extents : goal.returns-clause-room_of_extents
-returns-clause-room_of_extents c = c.remove-4.ensures.capacity
+returns-clause-room_of_extents c = c.remove-2.ensures.capacity
