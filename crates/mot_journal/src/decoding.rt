@@ -207,6 +207,7 @@ fn read_texts(
     };
     let rest = &slot[end..];
     let Some(mime) = read_mime(alloc, rest)? else {
+        drop(name);
         let length = number(rest, 0, 1) as u8;
         return Err(SlotFault::Field(FieldFault::Mime { length }));
     };
