@@ -202,11 +202,18 @@ fn read_texts(
         return Err(SlotFault::Field(FieldFault::Name { length }));
     }
     let end = 24 + size;
-    let Some(name) = read_name(alloc, layout, &slot[24..end])? else {
+    let Ok(name) = read_name(alloc, layout, &slot[24..end]) else {
+        return Err(SlotFault::OutOfMemory);
+    };
+    let Some(name) = name else {
         return Err(SlotFault::Field(FieldFault::Name { length }));
     };
     let rest = &slot[end..];
-    let Some(mime) = read_mime(alloc, rest)? else {
+    let Ok(mime) = read_mime(alloc, rest) else {
+        drop(name);
+        return Err(SlotFault::OutOfMemory);
+    };
+    let Some(mime) = mime else {
         drop(name);
         let length = number(rest, 0, 1) as u8;
         return Err(SlotFault::Field(FieldFault::Mime { length }));
