@@ -153,9 +153,9 @@ fn is_name_too_long(layout: Layout, command: &Command) -> bool
     ensures fits { has_long_name Two command.now ≡ false }
 {
     match command {
-        Command::Put { name, .. } => name.as_bytes().len() > layout.longest_name(),
-        Command::Replace { name, .. } => name.as_bytes().len() > layout.longest_name(),
-        Command::Withdraw { name } => name.as_bytes().len() > layout.longest_name(),
+        Command::Put { name, .. } | Command::Replace { name, .. } | Command::Withdraw { name } => {
+            name.as_bytes().len() > layout.longest_name()
+        }
         Command::Period(_) => false,
     }
 }

@@ -56,14 +56,12 @@ fn action_of_change(
     ensures { IfOk result (λ made. made ≡ kept_action old.now next.now command.now start) }
 {
     match command {
-        Command::Put { name, body, .. } => match next.place_of(name) {
-            Some(place) => set_action(&next.objects[place], start, body.length()),
-            None => Ok(Action::Nothing),
-        },
-        Command::Replace { name, body, .. } => match next.place_of(name) {
-            Some(place) => set_action(&next.objects[place], start, body.length()),
-            None => Ok(Action::Nothing),
-        },
+        Command::Put { name, body, .. } | Command::Replace { name, body, .. } => {
+            match next.place_of(name) {
+                Some(place) => set_action(&next.objects[place], start, body.length()),
+                None => Ok(Action::Nothing),
+            }
+        }
         Command::Withdraw { name } => match old.place_of(name) {
             Some(place) => Ok(Action::Remove {
                 tid: old.objects[place].tid,
