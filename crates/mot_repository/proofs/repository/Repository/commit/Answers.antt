@@ -1,12 +1,13 @@
 use Rattle.std.proofs.Common.{◌≡◌, ℕ, Bool, Result, Ok, Err, true, false, refl, sym, subst}
-use Rattle.std.specs.Prelude.{IfOk, OnOk, if◌then◌else◌, is_err, is_ok}
+use Rattle.std.specs.Prelude.{IfOk, IfErr, OnOk, OnErr, if◌then◌else◌, is_err, is_ok}
 use Rattle.std.specs.Result.{result_and}
 use Rattle.disk_model.proofs.Laws.{at_end}
 use Rattle.disk_model.specs.Disk.{State, Costs}
 use Rattle.disk_model.specs.Failures.{HasCause}
 use Rattle.mot_journal.specs.Image.{Standing}
+use Rattle.mot_numbers.specs.declared.refusal.Refusal.TheVariants.{DeviceFault}
 use Rattle.mot_objects.specs.declared.command.Done.{Done}
-use Rattle.mot_repository.specs.Answers.{IsChanged}
+use Rattle.mot_repository.specs.Answers.{IsChanged, IsHalted}
 use Rattle.mot_repository.specs.Inner.InOrder.{view_with}
 use Rattle.mot_repository.specs.Inner.Prepared.{IsPreparedFor}
 use Rattle.mot_repository.specs.Outcome.{after_command}
@@ -120,3 +121,45 @@ pub returns-clause-cost : goal.returns-clause-cost
 returns-clause-cost g c = rw (← c.self.view_is) (λ command is. rw c.take_up.ensures.answer
     (same_cost c.commit_change-written.result c.args.prepared.done
     (rw (← is.change.body_is) c.commit_change-written.ensures.cost)))
+
+-- so is the refusal
+same_refusal : {T E A : Type 0} (w : Result T E) (d : A) (P : E → Type 0) → IfErr w P
+    → IfErr (result_and w (Ok d)) P
+same_refusal (Ok v) d P is = tt
+same_refusal (Err e) d P is = is
+
+-- a fault leaves what was kept, and halts
+where_refused : {T E A B : Type 0} (w : Result T E) (d : A) (old next : B) (P : B → Bool → Type 0)
+    → P old true → OnErr (result_and w (Ok d)) (P (if is_ok w then next else old) (is_err w))
+where_refused (Ok v) d old next P is = tt
+where_refused (Err e) d old next P is = is
+
+pub returns-clause-keeps : goal.returns-clause-keeps
+returns-clause-keeps g c = rw (← c.self.view_is) c.commit_change-written.ensures.keeps
+
+pub returns-clause-fault : goal.returns-clause-fault
+returns-clause-fault g c = rw c.take_up.ensures.answer
+    (same_refusal c.commit_change-written.result c.args.prepared.done
+    (λ refusal. refusal ≡ DeviceFault) c.commit_change-written.ensures.fault)
+
+pub returns-clause-halted : goal.returns-clause-halted
+returns-clause-halted g c =
+    let r = c.self.inside in
+    let w = c.commit_change-written in
+    rw (
+      ← c.self.view_is,
+      c.take_up.ensures.answer,
+      c.take_up.ensures.kept,
+      c.is_err-self-inside.ensures.value,
+    )
+    (where_refused w.result c.args.prepared.done r.inventory c.args.prepared.inventory
+    (λ (k : Inventory) (b : Bool). IsHalted
+    (view_with r.journal r.inventory.carousel r.inventory.extents.items r.halted)
+    (view_with w.new.journal k.carousel k.extents.items b))
+    (record {
+      geometry = w.ensures.geometry;
+      layout = w.ensures.layout;
+      carousel = refl;
+      extents = refl;
+      halted = refl;
+    }))
