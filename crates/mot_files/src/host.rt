@@ -1,6 +1,6 @@
 //! The files of the machine. Each method makes the one call of its name, on what it is given, and
 //! notes it with its answer: no contract can say so, and a reader of this file has to see it.
-ghost use Rattle.std.specs.Prelude.{◌≡◌, []};
+ghost use Rattle.std.specs.Prelude.{◌≡◌, ◌≤◌, [], IfOk, length};
 
 use crate::answers::{closed, locked, real_path, seen, time_of_day, told};
 use crate::call_log::CallLog;
@@ -58,6 +58,39 @@ impl<'a, T: Files<File = File> + Clock> HostSystem<'a, T> {
         Ok(Open::File(options.open(self.rt, path)?))
     }
 
+    /// Reads of what the handle stands for.
+    fn read_from(&mut self, handle: Handle, room: &mut [u8]) -> io::Result<usize>
+        ensures within { IfOk result (λ count. count ≤ length room.new) }
+        ensures calls { self.new.calls ≡ self.old.calls }
+    {
+        match self.open.get_mut(handle) {
+            Some(Open::File(file)) => file.read(room),
+            Some(Open::Folder(names)) => names.read(room),
+            _ => Err(closed()),
+        }
+    }
+
+    /// Writes to what the handle stands for.
+    fn write_to(&mut self, handle: Handle, bytes: &[u8]) -> io::Result<usize>
+        ensures within { IfOk result (λ count. count ≤ length bytes.now) }
+        ensures calls { self.new.calls ≡ self.old.calls }
+    {
+        match self.open.get_mut(handle) {
+            Some(Open::File(file)) => file.write(bytes),
+            Some(Open::Output(output)) => output.write(bytes),
+            _ => Err(closed()),
+        }
+    }
+
+    /// Whether the handle stands for a terminal.
+    fn is_terminal_at(&self, handle: Handle) -> bool {
+        match self.open.get(handle) {
+            Some(Open::File(file)) => file.is_terminal(),
+            Some(Open::Output(output)) => output.is_terminal(),
+            _ => false,
+        }
+    }
+
     /// The file that the handle stands for.
     fn file(&self, handle: Handle) -> Option<&File> {
         match self.open.get(handle) {
@@ -111,22 +144,14 @@ impl<'a, T: Files<File = File> + Clock> System for HostSystem<'a, T> {
     }
 
     fn is_terminal(&mut self, handle: Handle) -> bool {
-        let answer = match self.open.get(handle) {
-            Some(Open::File(file)) => file.is_terminal(),
-            Some(Open::Output(output)) => output.is_terminal(),
-            _ => false,
-        };
+        let answer = self.is_terminal_at(handle);
         self.calls
             .note(&Event::IsTerminal(handle, answer), &[], &[]);
         answer
     }
 
     fn read(&mut self, handle: Handle, room: &mut [u8]) -> Result<usize, Fault> {
-        let answer = told(match self.open.get_mut(handle) {
-            Some(Open::File(file)) => file.read(room),
-            Some(Open::Folder(names)) => names.read(room),
-            _ => Err(closed()),
-        });
+        let answer = told(self.read_from(handle, room));
         self.calls
             .note_given(&Event::Read(handle, answer), room, answer, &[]);
         answer
@@ -144,11 +169,7 @@ impl<'a, T: Files<File = File> + Clock> System for HostSystem<'a, T> {
     }
 
     fn write(&mut self, handle: Handle, bytes: &[u8]) -> Result<usize, Fault> {
-        let answer = told(match self.open.get_mut(handle) {
-            Some(Open::File(file)) => file.write(bytes),
-            Some(Open::Output(output)) => output.write(bytes),
-            _ => Err(closed()),
-        });
+        let answer = told(self.write_to(handle, bytes));
         self.calls.note(&Event::Wrote(handle, answer), bytes, &[]);
         answer
     }
