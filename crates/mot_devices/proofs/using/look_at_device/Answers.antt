@@ -29,3 +29,9 @@ returns-clause-free g c =
     c.refuse_mounted.ensures.looks c.refuse_held.ensures.looks c.refuse_signature.ensures.looks
     c.in_ok-refuse_mounted.ensures.free c.in-Ok.ensures.asks c.in_ok-refuse_held.ensures.held
     c.refuse_signature.result c.refuse_signature.ensures.free
+
+pub returns-in_err-refuse_mounted-clause-looks : goal.returns-in_err-refuse_mounted-clause-looks
+returns-in_err-refuse_mounted-clause-looks g c =
+    looks_on (g.S.System.calls c.args.system.now) (g.S.System.calls c.numbers_of.new.system)
+    (g.S.System.calls c.refuse_mounted.new.system) c.numbers_of.ensures.looks
+    c.refuse_mounted.ensures.looks
