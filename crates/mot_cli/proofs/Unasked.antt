@@ -9,6 +9,7 @@ use Rattle.mot_cli.specs.Options.{AreGiven, GiveDirectory, GiveGeometry, GiveLas
 use Rattle.mot_cli.specs.Options.{geometry_asked, geometry_over}
 use Rattle.mot_cli.specs.Task.{IsTask}
 use Rattle.mot_cli.specs.declared.options.Options.{Options}
+use Rattle.mot_cli.specs.declared.playing.PlayTask.{PlayTask}
 use Rattle.mot_cli.specs.declared.task.Task.{Task}
 use Rattle.mot_cli.specs.declared.task.Task.TheVariants.{Memory, Format, Copy, Serve, Check, Migrate}
 use Rattle.mot_cli.specs.declared.task.Task.TheVariants.{Play, Sync, Export, Inspect, TrySync}
@@ -147,3 +148,36 @@ module _ (rows : List Row) (none : (after : Option ℕ) → GiveLastId rows afte
       clash 0 99 101 (codes "copy") (codes "export") refl refl (omega arith) t.0
   copy_needs_id (Inspect disk rate) t =
       clash 0 99 105 (codes "copy") (codes "inspect") refl refl (omega arith) t.0
+
+module _ (rows : List Row) (none : (p : PlayTask) → IsTask (codes "play") rows (Play p) → ⊥) where
+  -- words that nothing is played for ask for no playing
+  pub play_needs : (task : Task) → IsTask (codes "play") rows task → ⊥
+  play_needs (Play p) t = none p t
+  play_needs (Memory g) t =
+      clash 0 112 109 (codes "play") (codes "memory") refl refl (omega arith) t.0
+  play_needs (Format path g directory) t =
+      clash 0 112 102 (codes "play") (codes "format") refl refl (omega arith) t.0
+  play_needs (Copy copy) t =
+      clash 0 112 99 (codes "play") (codes "copy") refl refl (omega arith) t.0
+  play_needs (Serve path) t =
+      clash 0 112 115 (codes "play") (codes "serve") refl refl (omega arith) t.0
+  play_needs (Check path) t =
+      clash 0 112 99 (codes "play") (codes "check") refl refl (omega arith) t.0
+  play_needs (Migrate path) t =
+      clash 0 112 109 (codes "play") (codes "migrate") refl refl (omega arith) t.0
+  play_needs (Sync disk folder types rules) t =
+      clash 0 112 115 (codes "play") (codes "sync") refl refl (omega arith) t.0
+  play_needs (TrySync disk folder types rules) t =
+      clash 0 112 115 (codes "play") (codes "sync") refl refl (omega arith) t.0
+  play_needs (ListObjects disk) t =
+      clash 0 112 108 (codes "play") (codes "list") refl refl (omega arith) t.0
+  play_needs (PutFiles disk files types) t =
+      clash 1 108 117 (codes "play") (codes "put") refl refl (omega arith) t.0
+  play_needs (WithdrawNames disk names) t =
+      clash 0 112 119 (codes "play") (codes "withdraw") refl refl (omega arith) t.0
+  play_needs (GetBody disk object) t =
+      clash 0 112 103 (codes "play") (codes "get") refl refl (omega arith) t.0
+  play_needs (Export disk) t =
+      clash 0 112 101 (codes "play") (codes "export") refl refl (omega arith) t.0
+  play_needs (Inspect disk rate) t =
+      clash 0 112 105 (codes "play") (codes "inspect") refl refl (omega arith) t.0

@@ -2,7 +2,9 @@
 ghost use Rattle.std.specs.Prelude.{◌≡◌, ℕ, IfNone, IfSome, Option, codes};
 ghost use Rattle.clap.specs.Words.{found_of, rows_of};
 ghost use Rattle.mot_cli.specs.Given.{NameWord};
+ghost use Rattle.mot_cli.specs.Inner.Played.{ArePlayNumbers};
 ghost use Rattle.mot_cli.specs.Task.{AreRules, GiveRate, IsTask, is_rate};
+ghost use Rattle.mot_cli.specs.declared.playing.PlayNumbers.{PlayNumbers};
 ghost use Rattle.mot_cli.specs.declared.task.Task.{Task};
 
 use crate::given::{is_set, number_of, option_of, word_of};
@@ -56,6 +58,21 @@ pub struct PlayTask<'a> {
     pub levels: bool,
 }
 
+/// The numbers that `play` is given, but for the rate.
+#[derive(Clone, Copy)]
+struct PlayNumbers {
+    /// After how many packets lines are read.
+    every: Option<u32>,
+    /// How many whole turns.
+    turns: Option<u32>,
+    /// After how many packets the directory is sent again.
+    directory: Option<u32>,
+    /// After how many packets of a turn the folder is looked at.
+    look: Option<u32>,
+    /// How many changed bodies at most come before the rest of the turn.
+    early: Option<u32>,
+}
+
 /// The task of the command `play` on this disk.
 pub(crate) fn play_of<'m, 'a>(disk: &'a str, words: &'m ArgMatches<'a>) -> Option<Task<'m, 'a>>
     ensures some { IfSome result (λ task.
@@ -68,22 +85,39 @@ pub(crate) fn play_of<'m, 'a>(disk: &'a str, words: &'m ArgMatches<'a>) -> Optio
         return None;
     }
     let rate = rate_of(words)?;
+    let packets = word_of(words, "PACKETS")?;
+    let numbers = numbers_of(words)?;
     Some(Task::Play(PlayTask {
         disk,
-        packets: word_of(words, "PACKETS")?,
+        packets,
         folder: option_of(words, "folder"),
         types: option_of(words, "types"),
         rules: rules_of(words),
         lines: option_of(words, "lines"),
+        every: numbers.every,
+        turns: numbers.turns,
+        directory: numbers.directory,
+        look: numbers.look,
+        early: numbers.early,
+        rate,
+        status: option_of(words, "status"),
+        levels: is_set(words, "levels"),
+    }))
+}
+
+/// The numbers that `play` is given; `None` if a word is not a number.
+fn numbers_of(words: &ArgMatches<'_>) -> Option<PlayNumbers>
+    ensures some { IfSome result (ArePlayNumbers (rows_of (found_of words.now))) }
+    ensures none { IfNone result ((numbers : PlayNumbers)
+        → ArePlayNumbers (rows_of (found_of words.now)) numbers → ⊥) }
+{
+    Some(PlayNumbers {
         every: number_of(words, "every")?,
         turns: number_of(words, "turns")?,
         directory: number_of(words, "directory")?,
         look: number_of(words, "look")?,
         early: number_of(words, "early")?,
-        rate,
-        status: option_of(words, "status"),
-        levels: is_set(words, "levels"),
-    }))
+    })
 }
 
 /// The task of the command `sync` on this disk.
