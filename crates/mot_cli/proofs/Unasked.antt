@@ -181,3 +181,39 @@ module _ (rows : List Row) (none : (p : PlayTask) → IsTask (codes "play") rows
       clash 0 112 101 (codes "play") (codes "export") refl refl (omega arith) t.0
   play_needs (Inspect disk rate) t =
       clash 0 112 105 (codes "play") (codes "inspect") refl refl (omega arith) t.0
+
+-- the name of no command
+pub record IsNoCommand (name : Text) : Type 0 where
+  pub not_memory : name ≢ codes "memory"
+  pub not_format : name ≢ codes "format"
+  pub not_copy : name ≢ codes "copy"
+  pub not_serve : name ≢ codes "serve"
+  pub not_check : name ≢ codes "check"
+  pub not_migrate : name ≢ codes "migrate"
+  pub not_play : name ≢ codes "play"
+  pub not_sync : name ≢ codes "sync"
+  pub not_list : name ≢ codes "list"
+  pub not_put : name ≢ codes "put"
+  pub not_withdraw : name ≢ codes "withdraw"
+  pub not_get : name ≢ codes "get"
+  pub not_export : name ≢ codes "export"
+  pub not_inspect : name ≢ codes "inspect"
+
+-- such a name asks for no task
+pub no_command : (name : Text) (rows : List Row) → IsNoCommand name → (task : Task)
+    → IsTask name rows task → ⊥
+no_command name rows none (Memory g) t = none.not_memory t.0
+no_command name rows none (Format path g directory) t = none.not_format t.0
+no_command name rows none (Copy copy) t = none.not_copy t.0
+no_command name rows none (Serve path) t = none.not_serve t.0
+no_command name rows none (Check path) t = none.not_check t.0
+no_command name rows none (Migrate path) t = none.not_migrate t.0
+no_command name rows none (Play p) t = none.not_play t.0
+no_command name rows none (Sync disk folder types rules) t = none.not_sync t.0
+no_command name rows none (TrySync disk folder types rules) t = none.not_sync t.0
+no_command name rows none (ListObjects disk) t = none.not_list t.0
+no_command name rows none (PutFiles disk files types) t = none.not_put t.0
+no_command name rows none (WithdrawNames disk names) t = none.not_withdraw t.0
+no_command name rows none (GetBody disk object) t = none.not_get t.0
+no_command name rows none (Export disk) t = none.not_export t.0
+no_command name rows none (Inspect disk rate) t = none.not_inspect t.0
