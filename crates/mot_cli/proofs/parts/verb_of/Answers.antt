@@ -1,6 +1,7 @@
 use Rattle.std.proofs.Common.{◌∙◌, ◌||◌, ap, ap₂}
 use Rattle.clap.specs.Words.{new_app, with_rule}
-use Rattle.mot_cli.specs.Inner.Made.{with_argument}
+use Rattle.std.proofs.lemmas.List.{take_all}
+use Rattle.mot_cli.specs.Inner.Made.{with_all, with_argument}
 use Rattle.mot_cli.proofs.InTurn.{one_more}
 use Rattle.mot_cli.proofs.parts.verb_of.Goals as goal
 
@@ -15,3 +16,12 @@ loop-argument-preserved c =
           (added.shape argument.local ∙ ap (with_rule _) argument.rule);
       local = added.globals ∙ ap₂ ◌||◌ at.invariant.local argument.local;
     }
+
+pub returns : goal.returns
+returns c =
+    let at = c.loop-argument in
+    let verb = c.args.verb.now in (
+      at.invariant.made ∙ ap (with_all with_argument (new_app verb.name.now))
+          (take_all at.argument-index verb.arguments.now c.loop-argument-test.false),
+      at.invariant.local,
+    )
