@@ -1,8 +1,9 @@
 use Rattle.std.proofs.Common.{◌≡◌, ◌∙◌, ◌||◌, [], ap, ap₂, get_or}
 use Rattle.clap.specs.Words.{app_of, with_subcommand}
-use Rattle.mot_cli.specs.Inner.Made.{empty_app, verb_app, with_verb}
+use Rattle.mot_cli.specs.Inner.Made.{empty_app, line_app, verb_app, with_verb}
 use Rattle.mot_cli.specs.declared.parts.Verb.{Verb}
 use Rattle.mot_cli.proofs.InTurn.{one_more}
+use Rattle.std.proofs.lemmas.List.{take_all}
 use Rattle.mot_cli.proofs.parts.command_line.Goals as goal
 
 abbrev default : Verb
@@ -24,3 +25,11 @@ loop-verb-preserved c =
           (added.shape below.1 ∙ ap (λ app. with_subcommand (app_of at.command) app.top) is);
       local = added.globals ∙ ap₂ ◌||◌ at.invariant.local below.1;
     }
+
+pub returns : goal.returns
+returns c =
+    let at = c.loop-verb in (
+      at.invariant.made
+          ∙ ap line_app (take_all at.verb-index c.args.verbs.now c.loop-verb-test.false),
+      at.invariant.local,
+    )
