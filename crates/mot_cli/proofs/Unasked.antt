@@ -1,7 +1,7 @@
 -- Words that give no geometry, and ask for no task.
 use Rattle.std.proofs.Common.{◌≡◌, ◌∙◌, ℕ, List, Option, Some, None, arith, ap, refl, sym}
-use Rattle.std.proofs.Common.{◌≢◌, slice_index}
-use Rattle.std.specs.Prelude.{IfNone, codes}
+use Rattle.std.proofs.Common.{◌≢◌, slice_index, subst}
+use Rattle.std.specs.Prelude.{IfNone, IfSome, codes}
 use Rattle.clap.specs.Words.{Row, Text}
 use Rattle.mot_numbers.specs.declared.geometry.Geometry.{Geometry}
 use Rattle.mot_cli.specs.Given.{IsGiven}
@@ -217,3 +217,18 @@ no_command name rows none (WithdrawNames disk names) t = none.not_withdraw t.0
 no_command name rows none (GetBody disk object) t = none.not_get t.0
 no_command name rows none (Export disk) t = none.not_export t.0
 no_command name rows none (Inspect disk rate) t = none.not_inspect t.0
+
+-- what is found, or not, for a word is that for each name that is the same
+pub named_some : (P : Type 0) (rows : List Row) (name word : Text) → name ≡ word
+    → (found : Option Task) → IfSome found (λ task. P → IsTask word rows task)
+    → IfSome found (λ task. P → IsTask name rows task)
+named_some P rows name word is None h = tt
+named_some P rows name word is (Some task) h =
+    λ p. subst (λ (n : Text). IsTask n rows task) (sym is) (h p)
+
+pub named_none : (P : Type 0) (rows : List Row) (name word : Text) → name ≡ word
+    → (found : Option Task) → IfNone found ((task : Task) → IsTask word rows task → ⊥)
+    → IfNone found ((task : Task) → P → IsTask name rows task → ⊥)
+named_none P rows name word is None h =
+    λ task p t. h task (subst (λ (n : Text). IsTask n rows task) is t)
+named_none P rows name word is (Some task) h = tt
