@@ -20,5 +20,12 @@ returns-in_err-packets-clause-none c = IfNone-always c.from_residual-in_err-pack
 pub returns-in_err-numbers-clause-none : goal.returns-in_err-numbers-clause-none
 returns-in_err-numbers-clause-none c = IfNone-always c.from_residual-in_err-numbers.result
     (play_needs (rows_of (found_of c.args.words.now))
-    (λ p t. c.in_err-numbers.ensures.none (record { every = p.every; turns = p.turns; directory = p.directory; look = p.look; early = p.early })
+    (λ p t. c.in_err-numbers.ensures.none
+    (record {
+      every = p.every;
+      turns = p.turns;
+      directory = p.directory;
+      look = p.look;
+      early = p.early;
+    })
     (record { every = t.7; turns = t.8; directory = t.9; look = t.10; early = t.11 })))

@@ -27,13 +27,19 @@ returns-in-Ok-look_at_device-clause-free g c =
     c.in-Ok-look_at_device.ensures.free)
 
 pub returns-in-Err-Absent-clause-looks : goal.returns-in-Err-Absent-clause-looks
-returns-in-Err-Absent-clause-looks g c = looks_one (g.S.System.calls c.args.system.now) (g.S.System.calls c.follow.new.self) _ c.in-Err-Absent.ensures refl
+returns-in-Err-Absent-clause-looks g c =
+    looks_one (g.S.System.calls c.args.system.now) (g.S.System.calls c.follow.new.self) _
+    c.in-Err-Absent.ensures refl
 
 pub returns-in_default-clause-looks : goal.returns-in_default-clause-looks
-returns-in_default-clause-looks g c = looks_one (g.S.System.calls c.args.system.now) (g.S.System.calls c.follow.new.self) _ c.in-Ok.ensures refl
+returns-in_default-clause-looks g c =
+    looks_one (g.S.System.calls c.args.system.now) (g.S.System.calls c.follow.new.self) _
+    c.in-Ok.ensures refl
 
 pub returns-in-Err-clause-looks : goal.returns-in-Err-clause-looks
-returns-in-Err-clause-looks g c = looks_one (g.S.System.calls c.args.system.now) (g.S.System.calls c.follow.new.self) _ c.in-Err.ensures refl
+returns-in-Err-clause-looks g c =
+    looks_one (g.S.System.calls c.args.system.now) (g.S.System.calls c.follow.new.self) _
+    c.in-Err.ensures refl
 
 pub returns-in-Err-look_at_device-clause-looks : goal.returns-in-Err-look_at_device-clause-looks
 returns-in-Err-look_at_device-clause-looks g c =
