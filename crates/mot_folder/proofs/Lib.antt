@@ -6,6 +6,7 @@ pub mod Nameless
 pub mod Order
 pub mod Rows
 pub mod Seen
+pub mod Stages
 pub mod Taken
 pub mod Unlisted
 pub mod Waiting

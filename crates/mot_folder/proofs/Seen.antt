@@ -179,10 +179,6 @@ unread_on g h k a b = record {
   unchanged = b.unchanged ∙ a.unchanged;
 }
 
-pub asked_on : (g h k : Given) → WereAsked g h → WereAsked h k → WereAsked g k
-asked_on g h k a b =
-    record { listed = b.listed ∙ a.listed; unread = unread_on g h k a.unread b.unread }
-
 pub unread_listed : (g h : Given) (bytes : List ℕ) → h ≡ and_listed g bytes → IsUnread g h
 unread_listed g h bytes is =
     subst (λ (n : Given). IsUnread g n) (sym is) (record { read = refl; missed = refl; unchanged = refl })

@@ -8,23 +8,21 @@ ghost use Rattle.mot_events.specs.Events.{event_of};
 ghost use Rattle.mot_events.specs.declared.event.Met.TheVariants.{Skipped};
 ghost use Rattle.mot_events.specs.declared.event.Skip.TheVariants.{NotUtf8};
 ghost use Rattle.mot_events.specs.declared.event.Why.{Why};
-ghost use Rattle.mot_folder.specs.Inner.Listing.{GivesAll, GivesNoMore, GoesOn, IsCallRefusal};
-ghost use Rattle.mot_folder.specs.Inner.Listing.{IsLeftOutFor, IsUnread, Skips, StopsAt, TellsNameless};
-ghost use Rattle.mot_folder.specs.Inner.Listing.{WereAsked};
+ghost use Rattle.mot_folder.specs.Inner.Listing.{AreGoneOver, AreRead, IsCallRefusal, IsLeftOutFor};
+ghost use Rattle.mot_folder.specs.Inner.Listing.{Lists, ListsNot, Skips, TellsNameless, stage};
 ghost use Rattle.mot_folder.specs.Inner.Notes.{unknown_objects};
 ghost use Rattle.mot_folder.specs.Inner.Reading.{unread_for};
 ghost use Rattle.mot_folder.specs.Inner.Reasons.{TellsNoMore, why_nameless};
 ghost use Rattle.mot_objects.specs.Name.{is_name};
 ghost use Rattle.mot_objects.specs.declared.name.TheConstants.{MAX_NAME};
-ghost use Rattle.mot_folder.specs.Listed.{IsListing, and_in_order, and_object, has_type};
+ghost use Rattle.mot_folder.specs.Listed.{and_in_order, and_object, has_type};
 ghost use Rattle.mot_folder.specs.Listed.{names_in};
 ghost use Rattle.mot_folder.specs.Log.{TellsAnswers, TellsOne, unlisted_for};
-ghost use Rattle.mot_folder.specs.Looked.{IsUnlisted};
 ghost use Rattle.mot_numbers.specs.declared.refusal.Refusal.TheVariants.{BadName, OutOfMemory};
 ghost use Rattle.mot_numbers.specs.declared.refusal.Refusal.TheVariants.{TooManyObjects};
 ghost use Rattle.mot_objects.specs.Carousel.{are_names_distinct};
 ghost use Rattle.mot_shelf.specs.Given.{and_failed, and_kept_names, nothing};
-ghost use Rattle.mot_suffixes.specs.Types.{AreShown, is_hidden};
+ghost use Rattle.mot_suffixes.specs.Types.{is_hidden};
 ghost use Rattle.mot_update.specs.Told.{TellsMore};
 ghost use Rattle.mot_update.specs.Updating.{is_known};
 ghost use Rattle.mot_folder.specs.declared.report.TheConstants.{MAX_SKIPPED};
@@ -178,16 +176,11 @@ pub(crate) fn list<S: Shelf + Drop>(
     carousel: &Carousel,
 ) -> Result<FileNames, Unlisted>
     requires { S.gave shelf.old ≡ nothing }
-    ensures same { S.path shelf.new ≡ S.path shelf.old }
-    ensures told { TellsMore (TellsAnswers report.old) (TellsAnswers report.new) [] }
-    ensures further { TellsNameless [] report.old
-        → IfOk result (λ _. TellsNameless (S.gave shelf.new).files report.new) }
-    ensures listed { IfOk result (λ names. IsListing types.now (S.path shelf.old)
-        (S.gave shelf.new) names.names.items) }
-    ensures unread { IsUnread nothing (S.gave shelf.new) }
-    ensures shown { IfOk result (λ names. AreShown names.names.items) }
-    ensures why { IfErr result (λ unlisted. IsUnlisted types.now (S.path shelf.old)
-        (S.gave shelf.new) unlisted.refusal) }
+    ensures lists { MatchResult result
+        (λ names. Lists types.now (stage (S.path shelf.old) nothing report.old 0 [])
+        (stage (S.path shelf.new) (S.gave shelf.new) report.new names.counted names.names.items))
+        (λ unlisted. ListsNot types.now (stage (S.path shelf.old) nothing report.old 0 [])
+        (stage (S.path shelf.new) (S.gave shelf.new) report.new 0 []) unlisted.refusal) }
 
     // Nothing is withdrawn but by names that last.
     ensures gone { IfOk result (λ names.
@@ -234,16 +227,11 @@ fn list_names<S: Shelf + Drop>(
     report: &mut Report,
 ) -> Result<FileNames, Unlisted>
     requires { S.gave shelf.old ≡ nothing }
-    ensures same { S.path shelf.new ≡ S.path shelf.old }
-    ensures told { TellsMore (TellsAnswers report.old) (TellsAnswers report.new) [] }
-    ensures further { TellsNameless [] report.old
-        → IfOk result (λ _. TellsNameless (S.gave shelf.new).files report.new) }
-    ensures listed { IfOk result (λ names. IsListing types.now (S.path shelf.old)
-        (S.gave shelf.new) names.names.items) }
-    ensures unread { IsUnread nothing (S.gave shelf.new) }
-    ensures shown { IfOk result (λ names. AreShown names.names.items) }
-    ensures why { IfErr result (λ unlisted. IsUnlisted types.now (S.path shelf.old)
-        (S.gave shelf.new) unlisted.refusal) }
+    ensures { MatchResult result
+        (λ names. Lists types.now (stage (S.path shelf.old) nothing report.old 0 [])
+        (stage (S.path shelf.new) (S.gave shelf.new) report.new names.counted names.names.items))
+        (λ unlisted. ListsNot types.now (stage (S.path shelf.old) nothing report.old 0 [])
+        (stage (S.path shelf.new) (S.gave shelf.new) report.new 0 []) unlisted.refusal) }
 {
     let mut names = FileNames::new(alloc);
     if let Err(error) = shelf.open(alloc) {
@@ -261,16 +249,10 @@ fn read_names<S: Shelf + Drop>(
     names: &mut FileNames,
     report: &mut Report,
 ) -> Result<(), Unlisted>
-    ensures same { S.path shelf.new ≡ S.path shelf.old }
-    ensures told { TellsMore (TellsAnswers report.old) (TellsAnswers report.new) [] }
-    ensures further { OnOk result (TellsNameless (S.gave shelf.old).files report.old
-        → TellsNameless (S.gave shelf.new).files report.new) }
-    ensures gave { OnOk result (GivesAll types.now (S.gave shelf.old) (S.gave shelf.new)
-        names.old.counted names.new.counted names.old.names.items names.new.names.items) }
-    ensures unread { IsUnread (S.gave shelf.old) (S.gave shelf.new) }
-    ensures shown { AreShown names.old.names.items → AreShown names.new.names.items }
-    ensures why { IfErr result (λ unlisted. GivesNoMore types.now (S.gave shelf.old)
-        (S.gave shelf.new) names.old.counted names.old.names.items unlisted.refusal) }
+    ensures { AreRead types.now (stage (S.path shelf.old) (S.gave shelf.old) report.old names.old.counted
+        names.old.names.items)
+        (stage (S.path shelf.new) (S.gave shelf.new) report.new names.new.counted
+        names.new.names.items) result }
 {
     let mut room = [0; ROOM];
     for _ in 0..u64::MAX {
@@ -292,18 +274,11 @@ fn add_all<S: Shelf + Drop>(
     names: &mut FileNames,
     report: &mut Report,
 ) -> Result<(), Unlisted>
-    ensures same { S.path shelf.new ≡ S.path shelf.old }
-    ensures told { TellsMore (TellsAnswers report.old) (TellsAnswers report.new) [] }
-    ensures further { OnOk result (TellsNameless (S.gave shelf.old).files report.old
-        → TellsNameless (S.gave shelf.new).files report.new) }
-    ensures goes { OnOk result (GoesOn types.now (names_in bytes.now) (S.gave shelf.old)
-        (S.gave shelf.new) names.old.counted names.new.counted
-        names.old.names.items names.new.names.items) }
-    ensures asked { WereAsked (S.gave shelf.old) (S.gave shelf.new) }
-    ensures shown { AreShown names.old.names.items → AreShown names.new.names.items }
-    ensures why { IfErr result (λ unlisted. StopsAt types.now (names_in bytes.now)
-        (S.gave shelf.old) (S.gave shelf.new) names.old.counted names.old.names.items
-        unlisted.refusal) }
+    ensures { AreGoneOver types.now (names_in bytes.now)
+        (stage (S.path shelf.old) (S.gave shelf.old) report.old names.old.counted
+        names.old.names.items)
+        (stage (S.path shelf.new) (S.gave shelf.new) report.new names.new.counted
+        names.new.names.items) result }
 {
     let mut rest = bytes;
     while let Some((name, others)) = cut_name(rest) {
@@ -332,18 +307,11 @@ fn add_one<S: Shelf + Drop>(
     names: &mut FileNames,
     report: &mut Report,
 ) -> Result<(), Unlisted>
-    ensures same { S.path shelf.new ≡ S.path shelf.old }
-    ensures told { TellsMore (TellsAnswers report.old) (TellsAnswers report.new) [] }
-    ensures further { OnOk result (TellsNameless (S.gave shelf.old).files report.old
-        → TellsNameless (S.gave shelf.new).files report.new) }
-    ensures goes { OnOk result (GoesOn types.now (name.now ∷ []) (S.gave shelf.old)
-        (S.gave shelf.new) names.old.counted names.new.counted
-        names.old.names.items names.new.names.items) }
-    ensures asked { WereAsked (S.gave shelf.old) (S.gave shelf.new) }
-    ensures shown { AreShown names.old.names.items → AreShown names.new.names.items }
-    ensures why { IfErr result (λ unlisted. StopsAt types.now (name.now ∷ [])
-        (S.gave shelf.old) (S.gave shelf.new) names.old.counted names.old.names.items
-        unlisted.refusal) }
+    ensures { AreGoneOver types.now (name.now ∷ [])
+        (stage (S.path shelf.old) (S.gave shelf.old) report.old names.old.counted
+        names.old.names.items)
+        (stage (S.path shelf.new) (S.gave shelf.new) report.new names.new.counted
+        names.new.names.items) result }
 {
     if !is_object(types, name) {
         tell_skipped(shelf, alloc, name, false, report);

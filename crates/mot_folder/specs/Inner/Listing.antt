@@ -1,6 +1,6 @@
 -- A folder while its names are listed.
 use Rattle.std.specs.Prelude.{◌≡◌, ◌≢◌, ◌⊎◌, ◌<◌, ◌≤◌, ℕ, Bool, false, List, [], ◌∷◌, ◌++◌}
-use Rattle.std.specs.Prelude.{length}
+use Rattle.std.specs.Prelude.{MatchResult, Result, length}
 use Rattle.std.specs.List.{flat_map, list_any}
 use Rattle.std.specs.Str.{is_utf8}
 use Rattle.mot_events.specs.Events.{event_of}
@@ -8,15 +8,19 @@ use Rattle.mot_events.specs.declared.event.LookEvent.{LookEvent}
 use Rattle.mot_events.specs.declared.event.Met.TheVariants.{Skipped}
 use Rattle.mot_events.specs.declared.event.Skip.{Skip}
 use Rattle.mot_events.specs.declared.event.Skip.TheVariants.{NotUtf8, Suffix}
-use Rattle.mot_folder.specs.Listed.{AreEither, nameless, names_in, object_names, with_type}
-use Rattle.mot_folder.specs.Log.{ReportTells, TellsOne, images_noted, is_read, names_read, of_look}
+use Rattle.mot_folder.specs.Listed.{AreEither, IsListing, nameless, names_in, object_names, with_type}
+use Rattle.mot_folder.specs.Log.{ReportTells, TellsAnswers, TellsOne, images_noted, is_read}
+use Rattle.mot_folder.specs.Log.{names_read, of_look}
+use Rattle.mot_folder.specs.Looked.{IsUnlisted}
 use Rattle.mot_folder.specs.declared.listing.TheConstants.{MAX_NAMES}
+use Rattle.mot_folder.specs.declared.listing.Unlisted.{Unlisted}
 use Rattle.mot_folder.specs.declared.report.Report.{Report}
 use Rattle.mot_numbers.specs.declared.refusal.Refusal.{Refusal}
 use Rattle.mot_numbers.specs.declared.refusal.Refusal.TheVariants.{OutOfMemory, ReadFault}
 use Rattle.mot_numbers.specs.declared.refusal.Refusal.TheVariants.{TooManyObjects}
 use Rattle.mot_shelf.specs.Given.{Given}
-use Rattle.mot_suffixes.specs.Types.{SuffixType}
+use Rattle.mot_suffixes.specs.Types.{AreShown, SuffixType}
+use Rattle.mot_update.specs.Told.{TellsMore}
 
 -- of these names so many have one of the suffixes, each of which was asked for, and these are those
 -- of objects
@@ -97,6 +101,82 @@ pub record TellsNameless (files : List (List ℕ)) (report : Report) : Type 0 wh
   pub any : report.any_refused ≡ list_any is_read entries
   pub read : names_read entries ≡ nameless files
   pub images : images_noted entries ≡ []
+
+-- a folder while it is listed: its path, what it gave, what is told of it, how many names were
+-- counted, and those of objects
+pub record Stage : Type 0 where
+  pub path : List ℕ
+  pub given : Given
+  pub report : Report
+  pub counted : ℕ
+  pub names : List (List ℕ)
+
+abbrev pub stage : List ℕ → Given → Report → (counted : ℕ) → (names : List (List ℕ)) → Stage
+stage path given report counted names =
+    record { path = path; given = given; report = report; counted = counted; names = names }
+
+-- the same folder later: no answer was told, no file read, and no name came that begins with a dot
+pub record IsLater (old new : Stage) : Type 0 where
+  pub same : new.path ≡ old.path
+  pub told : TellsMore (TellsAnswers old.report) (TellsAnswers new.report) []
+  pub unread : IsUnread old.given new.given
+  pub shown : AreShown old.names → AreShown new.names
+
+-- each file without a name of an object was told
+abbrev pub TellsFurther : (old new : Stage) → Type 0
+TellsFurther old new =
+    TellsNameless old.given.files old.report → TellsNameless new.given.files new.report
+
+-- these further names were gone over
+pub record GoesOver (types : List SuffixType) (more : List (List ℕ)) (old new : Stage) : Type 0 where
+  pub later : IsLater old new
+  pub listed : new.given.listed ≡ old.given.listed
+  pub further : TellsFurther old new
+  pub goes : GoesOn types more old.given new.given old.counted new.counted old.names new.names
+
+-- or not all of them
+pub record StopsWithin (types : List SuffixType) (more : List (List ℕ)) (old new : Stage)
+    (refusal : Refusal) : Type 0 where
+  pub later : IsLater old new
+  pub listed : new.given.listed ≡ old.given.listed
+  pub why : StopsAt types more old.given new.given old.counted old.names refusal
+
+abbrev pub AreGoneOver : List SuffixType → (more : List (List ℕ)) → (old new : Stage)
+    → Result Unit Unlisted → Type 0
+AreGoneOver types more old new result = MatchResult result (λ done. GoesOver types more old new)
+    (λ unlisted. StopsWithin types more old new unlisted.refusal)
+
+-- some further names were read, so far
+pub record ReadsSome (types : List SuffixType) (old new : Stage) : Type 0 where
+  pub later : IsLater old new
+  pub further : TellsFurther old new
+  pub gave : GivesSome types old.given new.given old.counted new.counted old.names new.names
+
+-- or all of them
+pub record ReadsAll (types : List SuffixType) (old new : Stage) : Type 0 where
+  pub later : IsLater old new
+  pub further : TellsFurther old new
+  pub gave : GivesAll types old.given new.given old.counted new.counted old.names new.names
+
+-- or no more
+pub record ReadsNoMore (types : List SuffixType) (old new : Stage) (refusal : Refusal) : Type 0 where
+  pub later : IsLater old new
+  pub why : GivesNoMore types old.given new.given old.counted old.names refusal
+
+abbrev pub AreRead : List SuffixType → (old new : Stage) → Result Unit Unlisted → Type 0
+AreRead types old new result = MatchResult result (λ done. ReadsAll types old new)
+    (λ unlisted. ReadsNoMore types old new unlisted.refusal)
+
+-- a folder was listed, of which nothing was given before
+pub record Lists (types : List SuffixType) (old new : Stage) : Type 0 where
+  pub later : IsLater old new
+  pub further : TellsFurther old new
+  pub listing : IsListing types old.path new.given new.names
+
+-- or it was not
+pub record ListsNot (types : List SuffixType) (old new : Stage) (refusal : Refusal) : Type 0 where
+  pub later : IsLater old new
+  pub why : IsUnlisted types old.path new.given refusal
 
 -- a name is left out for what it names; or since it is not UTF-8; or it names a regular file, and
 -- has none of the suffixes

@@ -1,55 +1,55 @@
-use Rattle.std.proofs.Common.{◌∙◌, ◌++◌, ◌∷◌, [], ap, append_assoc, subst, sym}
-use Rattle.mot_folder.specs.Inner.Listing.{StopsAt}
+use Rattle.std.proofs.Common.{◌∙◌, ◌++◌, ◌∷◌, [], ap, append_assoc, append-nil, refl, subst, sym}
+use Rattle.mot_folder.specs.Inner.Listing.{GoesOver, StopsWithin, stage}
 use Rattle.mot_folder.specs.Listed.{names_in}
-use Rattle.mot_folder.specs.Log.{TellsAnswers}
-use Rattle.mot_folder.proofs.Seen.{asked_on, goes_on, stops_behind}
+use Rattle.mot_folder.proofs.Stages.{over_none, over_on, stops_on}
 use Rattle.mot_folder.proofs.Unlisted.{why_same}
-use Rattle.mot_numbers.proofs.Laws.{same_error}
 use Rattle.mot_folder.proofs.listing.add_all.Goals as goal
-use Rattle.mot_update.proofs.Laws.{tells_on}
+
+pub loop-name-init : goal.loop-name-init
+loop-name-init g c = record {
+  done = [];
+  split = refl;
+  over = over_none c.args.types.now (stage (g.S.Shelf.path c.args.shelf.now)
+      (g.S.Shelf.gave c.args.shelf.now) c.args.report.now c.args.names.now.counted
+      c.args.names.now.names.items);
+}
 
 pub loop-name-preserved : goal.loop-name-preserved
 loop-name-preserved g c =
-    let was = c.loop-name.invariant in
-    let one = c.in_ok-add_one.ensures in
+    let done = c.loop-name.invariant.done in
     let name = c.in-Some.name.now in
-    let done = was.goes.0 in
-    let first = g.S.Shelf.gave c.args.shelf.now in
-    let old = g.S.Shelf.gave c.loop-name.shelf in
-    let new = g.S.Shelf.gave c.add_one.new.shelf in
     record {
-      same = one.same ∙ was.same;
-      told = tells_on (TellsAnswers c.args.report.now) (TellsAnswers c.loop-name.report)
-          (TellsAnswers c.add_one.new.report) [] was.told one.told;
-      further = λ listed. one.further (was.further listed);
-      asked = asked_on first old new was.asked one.asked;
-      goes = (
-        done ++ name ∷ [],
-        was.goes.1 ∙ ap (λ l. done ++ l) c.in-Some.ensures.first
-            ∙ sym (append_assoc done (name ∷ []) (names_in c.in-Some.others.now)),
-        goes_on c.args.types.now done (name ∷ []) first old new c.args.names.now.counted
-            c.loop-name.names.counted c.add_one.new.names.counted c.args.names.now.names.items
-            c.loop-name.names.names.items c.add_one.new.names.names.items was.goes.2 one.goes,
-      );
-      shown = λ shown. one.shown (was.shown shown);
+      done = done ++ name ∷ [];
+      split = c.loop-name.invariant.split ∙ ap (λ l. done ++ l) c.in-Some.ensures.first
+          ∙ sym (append_assoc done (name ∷ []) (names_in c.in-Some.others.now));
+      over = over_on c.args.types.now done (name ∷ []) _ _ _ c.loop-name.invariant.over
+          c.in_ok-add_one.ensures;
     }
 
-pub returns-in_err-add_one-clause-why : goal.returns-in_err-add_one-clause-why
-returns-in_err-add_one-clause-why g c =
+pub returns-in_err-add_one : goal.returns-in_err-add_one
+returns-in_err-add_one g c =
     let types = c.args.types.now in
-    let was = c.loop-name.invariant.goes in
-    let first = g.S.Shelf.gave c.args.shelf.now in
-    let mid = g.S.Shelf.gave c.loop-name.shelf in
-    let last = g.S.Shelf.gave c.add_one.new.shelf in
-    let counted = c.args.names.now.counted in
-    let names = c.args.names.now.names.items in
-    let name = c.in-Some.name.now in
-    let stop = c.in_err-add_one in
-    why_same c.from_residual.result stop.field-0.0
-    (StopsAt types (names_in c.args.bytes.now) first last counted names)
-    (same_error c.from_residual.result stop.field-0.0 c.from_residual.ensures.1)
-    (subst (λ l. StopsAt types l first last counted names stop.field-0.0.refusal)
-    (sym (was.1 ∙ ap (λ l. was.0 ++ l) c.in-Some.ensures.first))
-    (stops_behind types was.0 (name ∷ []) (names_in c.in-Some.others.now) first mid last counted
-    c.loop-name.names.counted names c.loop-name.names.names.items stop.field-0.0.refusal was.2
-    stop.ensures.why))
+    let was = c.loop-name.invariant in
+    let old = stage (g.S.Shelf.path c.args.shelf.now) (g.S.Shelf.gave c.args.shelf.now)
+    c.args.report.now c.args.names.now.counted c.args.names.now.names.items in
+    let new = stage (g.S.Shelf.path c.add_one.new.shelf) (g.S.Shelf.gave c.add_one.new.shelf)
+    c.add_one.new.report c.add_one.new.names.counted c.add_one.new.names.names.items in
+    let refusal = c.in_err-add_one.field-0.0.refusal in
+    why_same c.from_residual.result (λ done. GoesOver types (names_in c.args.bytes.now) old new)
+    (StopsWithin types (names_in c.args.bytes.now) old new) c.in_err-add_one.field-0.0
+    c.from_residual.ensures.1
+    (subst (λ l. StopsWithin types l old new refusal)
+    (sym (was.split ∙ ap (λ l. was.done ++ l) c.in-Some.ensures.first))
+    (stops_on types was.done (c.in-Some.name.now ∷ []) (names_in c.in-Some.others.now) old _ new
+    refusal was.over c.in_err-add_one.ensures))
+
+pub returns : goal.returns
+returns g c =
+    let was = c.loop-name.invariant in
+    subst (λ l. GoesOver c.args.types.now l
+    (stage (g.S.Shelf.path c.args.shelf.now) (g.S.Shelf.gave c.args.shelf.now) c.args.report.now
+    c.args.names.now.counted c.args.names.now.names.items)
+    (stage (g.S.Shelf.path c.loop-name.shelf) (g.S.Shelf.gave c.loop-name.shelf)
+    c.loop-name.report c.loop-name.names.counted c.loop-name.names.names.items))
+    (sym (was.split ∙ ap (λ l. was.done ++ l) c.in_default.ensures.none ∙ append-nil was.done))
+    was.over

@@ -316,13 +316,13 @@ returns-in_err-look-clause-path g c = λ s holds honest.
     (g.S.Shelf.path source.shelf) (g.S.Shelf.gave c.list.new.shelf) (g.S.Shelf.gave source.shelf)
     c.in-Ok.names.names.items source.names.names.items source.place c.note_most.new.report
     source.report looks.0.runs.answers looks.0.wanted
-    (c.in-Ok.ensures.same ∙ c.begin.ensures.same)
+    (c.in-Ok.ensures.lists.later.same ∙ c.begin.ensures.same)
     (subst (λ p. IsListing c.args.folder.now.types.now p (g.S.Shelf.gave c.list.new.shelf)
-    c.in-Ok.names.names.items) c.begin.ensures.same c.in-Ok.ensures.listed)
-    c.in-Ok.ensures.unread
+    c.in-Ok.names.names.items) c.begin.ensures.same c.in-Ok.ensures.lists.listing)
+    c.in-Ok.ensures.lists.later.unread
     (c.note_most.ensures.further (g.S.Shelf.gave c.list.new.shelf).files
     (c.note_listed.ensures.further (g.S.Shelf.gave c.list.new.shelf).files
-    (c.in-Ok.ensures.further
+    (c.in-Ok.ensures.lists.further
     (nameless_none c.begin-2.new.self c.begin-2.ensures.fine c.begin-2.ensures.told))))
     c.start.ensures.none.0 looks.1
 
@@ -335,13 +335,13 @@ returns-clause-path g c = λ s holds honest.
     (g.S.Shelf.path source.shelf) (g.S.Shelf.gave c.list.new.shelf) (g.S.Shelf.gave source.shelf)
     c.in-Ok.names.names.items source.names.names.items source.place c.note_most.new.report
     source.report looks.0.runs.answers looks.0.wanted
-    (c.in-Ok.ensures.same ∙ c.begin.ensures.same)
+    (c.in-Ok.ensures.lists.later.same ∙ c.begin.ensures.same)
     (subst (λ p. IsListing c.args.folder.now.types.now p (g.S.Shelf.gave c.list.new.shelf)
-    c.in-Ok.names.names.items) c.begin.ensures.same c.in-Ok.ensures.listed)
-    c.in-Ok.ensures.unread
+    c.in-Ok.names.names.items) c.begin.ensures.same c.in-Ok.ensures.lists.listing)
+    c.in-Ok.ensures.lists.later.unread
     (c.note_most.ensures.further (g.S.Shelf.gave c.list.new.shelf).files
     (c.note_listed.ensures.further (g.S.Shelf.gave c.list.new.shelf).files
-    (c.in-Ok.ensures.further
+    (c.in-Ok.ensures.lists.further
     (nameless_none c.begin-2.new.self c.begin-2.ensures.fine c.begin-2.ensures.told))))
     c.start.ensures.none.0 looks.1
 
@@ -349,7 +349,7 @@ pub returns-in-Err-clause-looked : goal.returns-in-Err-clause-looked
 returns-in-Err-clause-looked g c = λ s holds honest.
     let old = c.args.server.now in
     let state = g.D.Disk.state old.disk in
-    let told = c.list.ensures.told [] (tells_none c.begin-2.new.self c.begin-2.ensures.told) in
+    let told = c.in-Err.ensures.lists.later.told [] (tells_none c.begin-2.new.self c.begin-2.ensures.told) in
     let refusal = c.in-Err.unlisted.refusal in
     let path = c.as_bytes-path.result.now in
     let bare = unlisted_for path refusal Unsaid in
@@ -359,14 +359,14 @@ returns-in-Err-clause-looked g c = λ s holds honest.
     (has_read old old state state s fault
     (g.met.D.Disk.sound old.disk honest) refl refl honest (unchanged_none state) holds).0
     (unlisted refusal (subst (λ p. IsUnlisted c.args.folder.now.types.now p
-    (g.S.Shelf.gave c.list.new.shelf) refusal) c.begin.ensures.same c.in-Err.ensures.why)
+    (g.S.Shelf.gave c.list.new.shelf) refusal) c.begin.ensures.same c.in-Err.ensures.lists.why)
     (ap not c.tell_unlisted.ensures.any)
     (ended_unlisted c.end.result refusal c.tell_unlisted.new.report.any_left_out
     c.tell_unlisted.new.report.any_without_memory c.end.ensures.fault c.end.ensures.ends.0
     c.tell_unlisted.ensures.memory) refl
     (look-more told.entries (last ∷ []) ∙ ap (λ l. l ++ bare ∷ []) told.are
     ∙ ap (λ n. unlisted_for n refusal Unsaid ∷ [])
-    (c.as_bytes-path.ensures.value ∙ c.shown.ensures ∙ c.in-Err.ensures.same
+    (c.as_bytes-path.ensures.value ∙ c.shown.ensures ∙ c.in-Err.ensures.lists.later.same
     ∙ c.begin.ensures.same))
     (images_same told.entries last refl ∙ told.images) refl)
     (c.tell_unlisted.ensures.told.1 told.entries told.told)
@@ -380,8 +380,8 @@ returns-then-is_kept-clause-looked g c = λ s holds honest.
     let given = g.S.Shelf.gave c.list.new.shelf in
     let path = c.as_bytes-path-then-is_kept.result.now in
     let names = c.in-Ok.names.names.items in
-    let told = c.list.ensures.told [] (tells_none c.begin-2.new.self c.begin-2.ensures.told) in
-    let same = c.as_bytes-path-then-is_kept.ensures.value ∙ c.shown-then-is_kept.ensures ∙ c.in-Ok.ensures.same
+    let told = c.in-Ok.ensures.lists.later.told [] (tells_none c.begin-2.new.self c.begin-2.ensures.told) in
+    let same = c.as_bytes-path-then-is_kept.ensures.value ∙ c.shown-then-is_kept.ensures ∙ c.in-Ok.ensures.lists.later.same
     ∙ c.begin.ensures.same in
     let is : is_kept allows names (length s.carousel.objects) ≡ true =
     kept_as_counted allows names old.view s holds.agrees
@@ -395,7 +395,7 @@ returns-then-is_kept-clause-looked g c = λ s holds honest.
     (g.met.D.Disk.sound old.disk honest) refl refl honest (unchanged_none state) holds).0
     (kept
     (subst (λ n. IsListing types (g.S.Shelf.path c.args.folder.now.shelf) given n) none
-    (subst (λ p. IsListing types p given names) c.begin.ensures.same c.in-Ok.ensures.listed))
+    (subst (λ p. IsListing types p given names) c.begin.ensures.same c.in-Ok.ensures.lists.listing))
     (subst (λ n. is_kept allows n (length s.carousel.objects) ≡ true) none is)
     (ap not c.kept.ensures.any)
     (ended c.end-then-is_kept.result c.end-then-is_kept.ensures.fault) refl
@@ -427,12 +427,12 @@ returns-in_err-look-clause-looked g c = λ s holds honest.
     let is = behind types source.types.now c.start.new.self source.files path (g.S.Shelf.path c.list.new.shelf)
     (g.S.Shelf.path source.shelf) (g.S.Shelf.gave c.list.new.shelf) given names
     source.names.names.items source.place c.note_most.new.report source.report looks.0.runs.answers
-    looks.0.wanted (c.in-Ok.ensures.same ∙ c.begin.ensures.same) c.in_err-look.ensures.same
+    looks.0.wanted (c.in-Ok.ensures.lists.later.same ∙ c.begin.ensures.same) c.in_err-look.ensures.same
     (subst (λ p. IsListing types p (g.S.Shelf.gave c.list.new.shelf) names) c.begin.ensures.same
-    c.in-Ok.ensures.listed) c.in-Ok.ensures.unread
+    c.in-Ok.ensures.lists.listing) c.in-Ok.ensures.lists.later.unread
     (c.note_most.ensures.further (g.S.Shelf.gave c.list.new.shelf).files
     (c.note_listed.ensures.further (g.S.Shelf.gave c.list.new.shelf).files
-    (c.in-Ok.ensures.further
+    (c.in-Ok.ensures.lists.further
     (nameless_none c.begin-2.new.self c.begin-2.ensures.fine c.begin-2.ensures.told))))
     c.start.ensures.none.0 looks.1 in
     let known = c.args.folder.now.files.known.items in
@@ -443,7 +443,7 @@ returns-in_err-look-clause-looked g c = λ s holds honest.
     s types allows path given source.report (fault_of r) known source.files.known.items)
     (sym (same_error c.from_residual.result c.in_err-look.field-0.0 c.from_residual.ensures.1))
     (of_names old new (state old.disk) (state new.disk) s types allows path given source.report names
-    fault known source.files.known.items c.in-Ok.ensures.shown is.0.listing updates looks.0 seen
+    fault known source.files.known.items (c.in-Ok.ensures.lists.later.shown tt) is.0.listing updates looks.0 seen
     (λ none. absurd (cc (none))) (λ without none. cc (none)) is.0.tells
     (all_on (passed_over known source.files.known.items s.carousel
     (subst (λ l. AllByRecursion (λ k. Among known k × (has_it s.carousel k ≡ true)) l)
@@ -472,12 +472,12 @@ returns-clause-looked g c = λ s holds honest.
     let is = behind types source.types.now c.start.new.self source.files path (g.S.Shelf.path c.list.new.shelf)
     (g.S.Shelf.path source.shelf) (g.S.Shelf.gave c.list.new.shelf) given names
     source.names.names.items source.place c.note_most.new.report source.report looks.0.runs.answers
-    looks.0.wanted (c.in-Ok.ensures.same ∙ c.begin.ensures.same) c.in_ok-look.ensures.same
+    looks.0.wanted (c.in-Ok.ensures.lists.later.same ∙ c.begin.ensures.same) c.in_ok-look.ensures.same
     (subst (λ p. IsListing types p (g.S.Shelf.gave c.list.new.shelf) names) c.begin.ensures.same
-    c.in-Ok.ensures.listed) c.in-Ok.ensures.unread
+    c.in-Ok.ensures.lists.listing) c.in-Ok.ensures.lists.later.unread
     (c.note_most.ensures.further (g.S.Shelf.gave c.list.new.shelf).files
     (c.note_listed.ensures.further (g.S.Shelf.gave c.list.new.shelf).files
-    (c.in-Ok.ensures.further
+    (c.in-Ok.ensures.lists.further
     (nameless_none c.begin-2.new.self c.begin-2.ensures.fine c.begin-2.ensures.told))))
     c.start.ensures.none.0 looks.1 in
     let seen : take source.place names ≡ names =
@@ -500,7 +500,7 @@ returns-clause-looked g c = λ s holds honest.
     subst (λ l. AllByRecursion (λ k. Among known k × (has_it s.carousel k ≡ true)) l)
     (sym is.0.files) started_so in
     listed_whole old new (state old.disk) (state new.disk) s types allows path given report
-    names known c.finish.new.self.known.items c.in-Ok.ensures.shown is.0.listing updates looks.0 told
+    names known c.finish.new.self.known.items (c.in-Ok.ensures.lists.later.shown tt) is.0.listing updates looks.0 told
     (all_on (passed_over known source.files.known.items s.carousel were) given.unchanged is.1.passed)
     (all_on (comes_from known given source.files looks.0.runs.answers last.carousel
     new.view.carousel.objects.items
