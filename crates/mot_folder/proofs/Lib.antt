@@ -1,4 +1,5 @@
 pub mod Cut
+pub mod Kept
 pub mod Knowing
 pub mod Laws
 pub mod Log

@@ -2,7 +2,7 @@
 use Rattle.std.proofs.Common.{◌≡◌, ◌∙◌, ◌+◌, ◌≤◌, ◌++◌, ◌∷◌, List, [], ℕ, ap, arith, length}
 use Rattle.std.proofs.Common.{length-append, refl, subst, sym}
 use Rattle.mot_folder.specs.Inner.Listing.{GivesAll, GivesNoMore, GoesOver, IsCallRefusal, IsLater}
-use Rattle.mot_folder.specs.Inner.Listing.{IsUnread, Lists, ListsNot, ReadsAll, ReadsNoMore}
+use Rattle.mot_folder.specs.Inner.Listing.{IsListed, IsUnread, Lists, ListsNot, ReadsAll, ReadsNoMore}
 use Rattle.mot_folder.specs.Inner.Listing.{ReadsSome, Stage, StopsWithin, TellsFurther, TellsNameless}
 use Rattle.mot_folder.specs.Inner.Listing.{stage}
 use Rattle.mot_folder.specs.Listed.{IsListing, names_in}
@@ -218,3 +218,13 @@ module _ (types : List SuffixType) where
           are = lists.listing.are;
         });
       }
+
+  -- a folder that was listed in a look that begins
+  pub is_listed : (path : List ℕ) (report : Report) (t : Stage) → TellsNameless [] report
+      → Lists types (stage path nothing report 0 []) t → IsListed types t
+  is_listed path report t told lists = record {
+    listing = subst (λ p. IsListing types p t.given t.names) (sym lists.later.same) lists.listing;
+    unread = lists.later.unread;
+    nameless = lists.further told;
+    shown = lists.later.shown tt;
+  }

@@ -1,14 +1,16 @@
 //! A look at a folder, and looks between the packets of a feed.
 ghost use Rattle.std.specs.Prelude.{◌≡◌, ◌&&◌, ◌||◌, ◌+◌, ◌/◌, ◌≤◌, ◌∷◌, ◌++◌, [], OnOk, true};
+ghost use Rattle.std.specs.Prelude.{◌≢◌, ◌⊎◌, IfErr, None, Some};
 ghost use Rattle.std.specs.Prelude.{◌<◌, false, ℕ, List, if◌then◌else◌, length, min};
 ghost use Rattle.disk_model.specs.Disk.{KeepsLength};
 ghost use Rattle.mot_update.specs.Between.{IsUpdating, may_look};
 ghost use Rattle.mot_events.specs.Events.{is_listed};
 ghost use Rattle.mot_events.specs.Events.{event_of};
-ghost use Rattle.mot_events.specs.declared.event.Met.TheVariants.{Gap, Going, Listed, Waiting};
-ghost use Rattle.mot_folder.specs.Log.{TellsAnswers, TellsOf, TellsOne};
+ghost use Rattle.mot_events.specs.declared.event.Met.TheVariants.{Gap, Going, Kept, Listed, Waiting};
+ghost use Rattle.mot_events.specs.declared.event.Why.{Why};
+ghost use Rattle.mot_folder.specs.Log.{TellsAnswers, TellsOf, TellsOne, unlisted_for};
 ghost use Rattle.mot_folder.specs.Inner.Notes.{unknown_objects};
-ghost use Rattle.mot_folder.specs.Inner.Listing.{TellsNameless};
+ghost use Rattle.mot_folder.specs.Inner.Listing.{IsListed, TellsNameless, stage};
 ghost use Rattle.mot_folder.specs.Looked.{HasLookedAtFolder, TellsWatch, is_kept, is_look_due};
 ghost use Rattle.mot_folder.specs.Looked.{packets_left, packets_left_behind, so_far, watch};
 ghost use Rattle.mot_journal.specs.Image.{Standing};
@@ -19,10 +21,11 @@ ghost use Rattle.mot_suffixes.specs.Types.{SuffixType};
 ghost use Rattle.mot_update.specs.Told.{Answer, TellsMore};
 ghost use Rattle.mot_update.specs.Watching.{looks_known};
 ghost use Rattle.mot_update.specs.declared.wanted.Wanted.{Wanted};
+ghost use Rattle.mot_numbers.specs.declared.refusal.Refusal.TheVariants.{OutOfMemory};
 ghost use Rattle.mot_playout.specs.Attempts.{fault_of};
 
 use crate::folder::Folder;
-use crate::listing::{FileNames, count_unknown, list, tell_unlisted};
+use crate::listing::{FileNames, Unlisted, count_unknown, list, tell_unlisted};
 use crate::report::{Report, Sizes};
 use disk_model::Disk;
 use mot_events::{LookEvent, is_listed};
@@ -78,17 +81,67 @@ pub fn look_at_folder<S: Shelf + Drop, D: Disk>(
         server.carousel(),
     ) {
         Ok(names) => folder.names = names,
-        Err(unlisted) => {
-            let path = folder.shelf.shown().as_bytes();
-            tell_unlisted(&mut folder.report, path, unlisted);
-            return folder.report.end();
-        }
+        Err(unlisted) => return end_unlisted(&folder.shelf, &mut folder.report, unlisted),
     }
     if is_kept(folder.allows_empty, &folder.names, server.carousel()) {
-        let path = folder.shelf.shown().as_bytes();
-        folder.report.kept(path);
-        return folder.report.end();
+        return end_kept(&folder.shelf, &mut folder.report);
     }
+    look_at_names(alloc, server, folder)
+}
+
+/// Ends a look at a folder that is not listed.
+fn end_unlisted<S: Shelf + Drop>(
+    shelf: &S,
+    report: &mut Report,
+    unlisted: Unlisted,
+) -> Result<(), Refusal>
+    ensures any { report.new.any_refused ≡ true }
+    ensures told { (why : Why) × TellsOne report.old report.new
+        (unlisted_for (S.path shelf.now) unlisted.refusal why) }
+    ensures fault { ((fault_of result ≡ None) × (unlisted.refusal ≢ OutOfMemory))
+        ⊎ (fault_of result ≡ Some OutOfMemory) }
+    ensures whole { OnOk result (report.new.any_left_out ≡ false) }
+{
+    tell_unlisted(report, shelf.shown().as_bytes(), unlisted);
+    report.end()
+}
+
+/// Ends a look at a folder that has no object, and takes none off the air.
+fn end_kept<S: Shelf + Drop>(shelf: &S, report: &mut Report) -> Result<(), Refusal>
+    ensures any { report.new.any_refused ≡ true }
+    ensures told { TellsOne report.old report.new (event_of (S.path shelf.now) Kept) }
+    ensures fault { (fault_of result ≡ None) ⊎ (fault_of result ≡ Some OutOfMemory) }
+    ensures whole { OnOk result (report.new.any_left_out ≡ false) }
+{
+    report.kept(shelf.shown().as_bytes());
+    report.end()
+}
+
+/// Makes the carousel equal to the files of these names, of a folder that was listed.
+fn look_at_names<S: Shelf + Drop, D: Disk>(
+    alloc: Global,
+    server: &mut Server<D>,
+    folder: &mut Folder<'_, S>,
+) -> Result<(), Refusal>
+    requires listed { IsListed folder.old.types.now (stage (S.path folder.old.shelf)
+        (S.gave folder.old.shelf) folder.old.report folder.old.names.counted
+        folder.old.names.names.items) }
+    requires updates { is_kept folder.old.allows_empty folder.old.names.names.items
+        (length server.old.view.carousel.objects.items) ≡ false }
+    ensures keeps { KeepsLength (D.state server.old.disk) (D.state server.new.disk) }
+    ensures faults { TellsFaults server.old server.new
+        (D.state server.old.disk) (D.state server.new.disk) result }
+    ensures looked { (s : Standing) → Holds server.old.view s (D.state server.old.disk)
+        → (D.state server.new.disk).IsHonest
+        → HasLookedAtFolder server.old server.new (D.state server.old.disk)
+        (D.state server.new.disk) s folder.old.types.now folder.old.allows_empty
+        (S.path folder.old.shelf) (S.gave folder.new.shelf) folder.new.report (fault_of result)
+        folder.old.files.known.items folder.new.files.known.items }
+    ensures path { (s : Standing) → Holds server.old.view s (D.state server.old.disk)
+        → (D.state server.new.disk).IsHonest
+        → S.path folder.new.shelf ≡ S.path folder.old.shelf }
+    ensures whole { OnOk result (folder.new.report.any_left_out ≡ false) }
+{
     note_listed(&mut folder.report, folder.shelf.shown(), folder.was_listed);
     note_most(
         &mut folder.report,
@@ -105,13 +158,32 @@ pub fn look_at_folder<S: Shelf + Drop, D: Disk>(
     folder.files.start(alloc, server.carousel());
     look(server, alloc, folder)?;
     folder.files.finish(alloc, server.carousel());
-    note_waiting(&mut folder.report, folder.shelf.shown(), folder.sizes);
-    note_gap(
+    end_listed(
+        &folder.shelf,
         &mut folder.report,
-        folder.shelf.shown(),
+        folder.sizes,
         server.longest_gap(),
-    );
-    folder.report.end()
+    )
+}
+
+/// Ends a look that went over all names.
+fn end_listed<S: Shelf + Drop>(
+    shelf: &S,
+    report: &mut Report,
+    sizes: Sizes,
+    gap: u32,
+) -> Result<(), Refusal>
+    ensures told { (types : List SuffixType) (given : Given) (waiting : ℕ) (names : List (List ℕ))
+        (answers : List Answer) (wanted : List Wanted)
+        → TellsOf types given report.old waiting names answers wanted
+        → TellsOf types given report.new waiting names answers wanted }
+    ensures whole { OnOk result ((report.new.any_left_out ≡ false)
+        × (report.new.any_without_memory ≡ false)) }
+    ensures fault { IfErr result (λ refusal. refusal ≡ OutOfMemory) }
+{
+    note_waiting(report, shelf.shown(), sizes);
+    note_gap(report, shelf.shown(), gap);
+    report.end()
 }
 
 /// Whether the objects of the carousel stay, since the folder has none.

@@ -18,7 +18,7 @@ use Rattle.mot_folder.specs.declared.report.Report.{Report}
 use Rattle.mot_numbers.specs.declared.refusal.Refusal.{Refusal}
 use Rattle.mot_numbers.specs.declared.refusal.Refusal.TheVariants.{OutOfMemory, ReadFault}
 use Rattle.mot_numbers.specs.declared.refusal.Refusal.TheVariants.{TooManyObjects}
-use Rattle.mot_shelf.specs.Given.{Given}
+use Rattle.mot_shelf.specs.Given.{Given, nothing}
 use Rattle.mot_suffixes.specs.Types.{AreShown, SuffixType}
 use Rattle.mot_update.specs.Told.{TellsMore}
 
@@ -177,6 +177,13 @@ pub record Lists (types : List SuffixType) (old new : Stage) : Type 0 where
 pub record ListsNot (types : List SuffixType) (old new : Stage) (refusal : Refusal) : Type 0 where
   pub later : IsLater old new
   pub why : IsUnlisted types old.path new.given refusal
+
+-- these are the names of a listed folder, of which no file was read
+pub record IsListed (types : List SuffixType) (now : Stage) : Type 0 where
+  pub listing : IsListing types now.path now.given now.names
+  pub unread : IsUnread nothing now.given
+  pub nameless : TellsNameless now.given.files now.report
+  pub shown : AreShown now.names
 
 -- a name is left out for what it names; or since it is not UTF-8; or it names a regular file, and
 -- has none of the suffixes

@@ -1,89 +1,33 @@
-use Rattle.std.proofs.Common.{◌≡◌, ◌∙◌, ◌++◌, ℕ, None, [], ◌∷◌, ap, not, refl, subst, sym}
-use Rattle.std.proofs.Common.{◌≤◌, Bool, true, false, suc, arith, nat_eq, nat_lt, Err, IfErr, List, Ok, Option, Result, Some}
-use Rattle.std.proofs.Common.{inl, inr, length, map, take}
-use Rattle.std.proofs.lemmas.Bool.{and_parts, eqb-true}
-use Rattle.std.proofs.lemmas.List.{take_all}
+use Rattle.std.proofs.Common.{◌≡◌, ◌∙◌, ◌++◌, ℕ, [], ◌∷◌, ap, not, refl, subst, sym}
+use Rattle.std.proofs.Common.{Bool, true, List, Option}
+use Rattle.std.proofs.Common.{inl, length}
 use Rattle.disk_model.proofs.Laws.{unchanged_none}
-use Rattle.mot_folder.specs.Inner.Listing.{IsUnread, TellsNameless}
-use Rattle.mot_folder.specs.Inner.Knowing.{IsKept, IsKnownWith, KnowsFiles, WasStamped, is_there}
-use Rattle.mot_folder.specs.Inner.Reading.{TellsLook, front, heading}
-use Rattle.mot_folder.specs.Known.{Among, ComesFrom, IsPassedOver, has_it}
-use Rattle.mot_folder.specs.Known.ComesFrom.{was_known}
 use Rattle.mot_folder.specs.declared.known.Known.{Known}
-use Rattle.mot_folder.specs.declared.known.KnownFiles.{KnownFiles}
-use Rattle.mot_folder.proofs.Knowing.{all_on, comes_from, has_it_there, passed_over}
-use Rattle.std.specs.List.{AllByRecursion}
 use Rattle.mot_folder.specs.Listed.{IsListing}
 use Rattle.mot_events.specs.Events.{event_of}
 use Rattle.mot_events.specs.declared.event.LookEvent.{LookEvent}
 use Rattle.mot_events.specs.declared.event.Met.TheVariants.{Kept}
 use Rattle.mot_events.specs.declared.event.Why.TheVariants.{Unsaid}
-use Rattle.mot_folder.specs.Log.{ReportTells, TellsOf, unlisted_for}
+use Rattle.mot_folder.specs.Log.{ReportTells, unlisted_for}
 use Rattle.mot_folder.specs.declared.report.Report.{Report}
 use Rattle.mot_folder.specs.Looked.{HasLookedAtFolder, IsUnlisted, is_kept, kept, listed}
 use Rattle.mot_folder.specs.Looked.{unlisted}
 use Rattle.mot_folder.specs.Looked as look
-use Rattle.mot_objects.specs.Stands.{objects_of}
-use Rattle.mot_objects.specs.Carousel.{Carousel}
 use Rattle.mot_objects.specs.declared.carousel.Carousel as memory
-use Rattle.mot_objects.specs.declared.object.Object.{Object}
-use Rattle.mot_repository.specs.Repository.{Agrees, RepositoryView}
+use Rattle.mot_folder.proofs.Kept.{kept_as_counted, none_named}
 use Rattle.mot_folder.proofs.Nameless.{nameless_none}
-use Rattle.mot_folder.proofs.Taken.{IsLook, fine_is, look_begins, look_is, same_path, taken_so}
+use Rattle.mot_folder.proofs.Stages.{is_listed}
 use Rattle.mot_folder.proofs.Log.{images_same, look-more, tells_none}
 use Rattle.mot_folder.proofs.looking.look_at_folder.Goals as goal
 use Rattle.mot_numbers.specs.declared.refusal.Refusal.{Refusal}
-use Rattle.mot_numbers.specs.declared.refusal.Refusal.TheVariants.{OutOfMemory}
-use Rattle.mot_numbers.proofs.Laws.{same_error}
-use Rattle.mot_objects.specs.declared.command.Command.{Command}
 use Rattle.mot_journal.specs.Image.{Standing}
 use Rattle.disk_model.specs.Disk.{State}
 use Rattle.mot_playout.specs.Server.{ServerView}
-use Rattle.mot_shelf.specs.Given.{Given, nothing}
+use Rattle.mot_shelf.specs.Given.{Given}
 use Rattle.mot_update.specs.HasRun.{HasRun}
-use Rattle.mot_update.specs.Told.{Answer, TellsBoth}
-use Rattle.mot_update.specs.declared.wanted.Wanted.{Wanted}
-use Rattle.std.specs.Prelude.{◌≢◌, ◌⊎◌, IsOk}
 use Rattle.mot_playout.specs.Attempts.{fault_of}
-use Rattle.mot_suffixes.specs.Types.{AreShown, SuffixType}
-use Rattle.mot_update.specs.Looking.{HasLooked}
+use Rattle.mot_suffixes.specs.Types.{SuffixType}
 use Rattle.mot_update.proofs.Laws.{has_read}
-
--- a look that no fault ended ends well, or by want of memory
-ended : (r : Result Unit Refusal) → IfErr r (λ e. e ≡ OutOfMemory)
-    → (fault_of r ≡ None) ⊎ (fault_of r ≡ Some OutOfMemory)
-ended (Ok x) is = inl refl
-ended (Err e) is = inr (ap Some is)
-
--- and one that was not listed, for another reason or by want of memory
-ended_unlisted : (r : Result Unit Refusal) (refusal : Refusal) (left_out without : Bool)
-    → IfErr r (λ e. e ≡ OutOfMemory) → (IsOk r → (left_out ≡ false) × (without ≡ false))
-    → (refusal ≡ OutOfMemory → without ≡ true)
-    → ((fault_of r ≡ None) × (refusal ≢ OutOfMemory)) ⊎ (fault_of r ≡ Some OutOfMemory)
-ended_unlisted (Ok x) refusal left_out without is fine memory =
-    inl (refl, λ e. absurd (let no : true ≡ false = sym (memory e) ∙ (fine refl).1 in cc))
-ended_unlisted (Err e) refusal left_out without is fine memory = inr (ap Some is)
-
--- commands that were all run, as those up to want of memory
-run_without_memory : {D : Type 0} (old new : ServerView D) (start now : State) (s : Standing)
-    (commands : List Command) (marks : List Bool)
-    → HasRun old new start now s commands marks None
-    → HasRun old new start now s commands marks (Some OutOfMemory)
-run_without_memory old new start now s commands marks run = record {
-  leaves = record {
-    last = run.leaves.last;
-    after = run.leaves.after;
-    marked = run.leaves.marked;
-    rules = run.leaves.rules;
-    agrees = run.leaves.agrees;
-    going = λ e. run.leaves.going refl;
-    any_moment = run.leaves.any_moment;
-    at_end = run.leaves.at_end;
-  };
-  whole = λ e. absurd (cc (e));
-  layout = run.layout;
-  place = run.place;
-}
 
 -- a look of no command
 of_nothing : {D : Type 0} (old new : ServerView D) (start now : State) (s : Standing)
@@ -106,244 +50,16 @@ of_nothing old new start now s types allows path given report fault known entrie
   told = told;
 }
 
--- a look of these names
-of_names : {D : Type 0} {waiting : ℕ} {fine : Bool} (old new : ServerView D) (start now : State) (s : Standing)
-    (types : List SuffixType) (allows : Bool) (path : List ℕ) (given : Given) (report : Report)
-    (names : List (List ℕ)) (fault : Option Refusal) (known after : List Known) → AreShown names
-    → IsListing types path given names
-    → is_kept allows names (length s.carousel.objects) ≡ false
-    → (looked : HasLooked old new start now s names 0 None None fine fault)
-    → (seen : List (List ℕ)) → (fault ≡ None → seen ≡ names)
-    → (report.any_without_memory ≡ true → fault ≢ None)
-    → TellsOf types given report waiting seen looked.runs.answers looked.wanted
-    → AllByRecursion (IsPassedOver known s.carousel) given.unchanged
-    → AllByRecursion (ComesFrom known given looked.runs.answers looked.runs.run.leaves.last.carousel)
-    after
-    → HasLookedAtFolder old new start now s types allows path given report fault known after
-of_names old new start now s types allows path given report names fault known after shown listing
-    updates looked seen all without told passed comes = record {
-      commands = looked.runs.commands;
-      marks = looked.runs.marks;
-      run = looked.runs.run;
-      names = names;
-      wanted = looked.wanted;
-      entries = told.entries;
-      look = listed shown listing updates looked.is_update looked.runs.others looked.runs.split
-          looked.runs.whole
-          (fine_is told.entries looked.runs.answers looked.runs.commands looked.runs.marks
-          report.any_refused looked.runs.told told.any)
-          looked.runs.answers looked.runs.told told.are told.lasting seen all (record {
-            missed = told.missed;
-            read = told.read;
-            taken = taken_so types without told.taken;
-            images = told.images;
-          })
-          passed s.geometry.objects looked.runs.run.leaves.last.carousel
-          looked.runs.run.leaves.after.carousel comes;
-      right = inr (looked.runs.answers, told.are, looked.runs.right);
-      told = told.told;
-    }
-
--- a look that came to its end, as one up to want of memory
-without_memory : {D : Type 0} (old new : ServerView D) (start now : State) (s : Standing)
-    (names : List (List ℕ)) (fine : Bool)
-    → HasLooked old new start now s names 0 None None fine None
-    → HasLooked old new start now s names 0 None None fine (Some OutOfMemory)
-without_memory old new start now s names fine looked = record {
-  wanted = looked.wanted;
-  gives = looked.gives;
-  is_update = looked.is_update;
-  every = λ all e. absurd (cc (e));
-  runs = record {
-    commands = looked.runs.commands;
-    others = looked.runs.others;
-    split = looked.runs.split;
-    whole = λ e. absurd (cc (e));
-    marks = looked.runs.marks;
-    run = run_without_memory old new start now s looked.runs.commands looked.runs.marks
-        looked.runs.run;
-    accepted = λ all e. absurd (cc (e));
-    answers = looked.runs.answers;
-    told = looked.runs.told;
-    right = looked.runs.right;
-  };
+pub look_at_names-requires : goal.look_at_names-requires
+look_at_names-requires g c = record {
+  listed = is_listed c.args.folder.now.types.now (g.S.Shelf.path c.begin.new.self)
+      c.begin-2.new.self _
+      (nameless_none c.begin-2.new.self c.begin-2.ensures.fine c.begin-2.ensures.told)
+      c.in-Ok.ensures.lists;
+  updates = ap (λ (k : memory.Carousel). is_kept c.args.folder.now.allows_empty
+      c.in-Ok.names.names.items (length k.objects.items)) (sym c.carousel-2.ensures.value)
+      ∙ sym c.if-is_kept.ensures;
 }
-
--- names that were gone over to the last, where memory may have been wanting for a line
-listed_whole : {D : Type 0} {waiting : ℕ} {fine : Bool} (old new : ServerView D) (start now : State) (s : Standing)
-    (types : List SuffixType) (allows : Bool) (path : List ℕ) (given : Given) (report : Report)
-    (names : List (List ℕ)) (known after : List Known) → AreShown names
-    → IsListing types path given names
-    → is_kept allows names (length s.carousel.objects) ≡ false
-    → (looked : HasLooked old new start now s names 0 None None fine None)
-    → TellsOf types given report waiting names looked.runs.answers looked.wanted
-    → AllByRecursion (IsPassedOver known s.carousel) given.unchanged
-    → AllByRecursion (ComesFrom known given looked.runs.answers looked.runs.run.leaves.last.carousel)
-    after
-    → (r : Result Unit Refusal) → IfErr r (λ e. e ≡ OutOfMemory)
-    → (IsOk r → report.any_without_memory ≡ false)
-    → HasLookedAtFolder old new start now s types allows path given report (fault_of r) known after
-unfolding without_memory run_without_memory
-listed_whole old new start now s types allows path given report names known after shown listing
-    updates looked told passed comes (Ok x) is memory =
-    of_names old new start now s types allows path given report names None known after shown listing
-    updates looked names (λ e. refl)
-    (λ without. absurd (let no : true ≡ false = sym without ∙ memory refl in cc)) told passed comes
-listed_whole {fine = fine} old new start now s types allows path given report names known after shown
-    listing updates looked told passed comes (Err e) is memory =
-    subst (λ f. HasLookedAtFolder old new start now s types allows path given report (Some f) known
-    after) (sym is)
-    (of_names old new start now s types allows path given report names (Some OutOfMemory) known after
-    shown listing updates (without_memory old new start now s names fine looked) names
-    (λ none. absurd (cc (none))) (λ without none. cc (none)) told passed comes)
-
--- a carousel has as many objects as are kept of it
-objects_counted : (os : List Object) (bodies : List (List ℕ))
-    → map length bodies ≡ map (λ (o : Object). o.length) os
-    → length (objects_of os bodies) ≡ length os
-objects_counted [] bodies e = refl
-objects_counted (o ∷ os) [] e = cc
-objects_counted (o ∷ os) (b ∷ bodies) e =
-    let tail : map length bodies ≡ map (λ (x : Object). x.length) os = cc in
-    ap suc (objects_counted os bodies tail)
-
-kept_as_counted : (allows : Bool) (names : List (List ℕ)) (view : RepositoryView) (s : Standing)
-    → Agrees view s → is_kept allows names (length s.carousel.objects)
-    ≡ is_kept allows names (length view.carousel.objects.items)
-kept_as_counted allows names view s agrees =
-    ap (λ (c : Carousel). is_kept allows names (length c.objects)) agrees.carousel
-    ∙ ap (is_kept allows names) (objects_counted view.carousel.objects.items agrees.bodies
-    agrees.are_bodies)
-
--- where it stays there is no name
-none_named : (allows : Bool) (names : List (List ℕ)) (objects : ℕ)
-    → is_kept allows names objects ≡ true → names ≡ []
-none_named true names objects e = absurd (cc (e))
-none_named false [] objects e = refl
-none_named false (name ∷ names) objects e =
-    let parts = and_parts (nat_eq (length (name ∷ names)) 0) (nat_lt 0 objects) e in
-    let none : length (name ∷ names) ≡ 0 = eqb-true _ 0 parts.0 in
-    absurd (omega (arith, none))
-
--- what is known of files when a look begins
-knows_begins : (first : Given) (files : KnownFiles) (head : List ℕ) (types : List SuffixType)
-    → IsUnread nothing first → files.read.items ≡ []
-    → KnowsFiles first files (heading head types files.known.items ∷ [])
-knows_begins first files head types unread none = record {
-  passed = subst (λ l. AllByRecursion (IsKnownWith files.known.items) l) (sym unread.unchanged) tt;
-  read = subst (λ l. AllByRecursion (WasStamped first) l) (sym none) tt;
-  refused = (tt, tt);
-}
-
--- what is known behind a look, of one that began so
-behind : {waiting : ℕ} (types others : List SuffixType) (begins ends : KnownFiles)
-    (path begun other : List ℕ) (first last : Given)
-    (names after : List (List ℕ)) (place : ℕ) (start report : Report) (answers : List Answer)
-    (wanted : List Wanted) → begun ≡ path → after ≡ names
-    → IsListing types path first names → IsUnread nothing first
-    → TellsNameless first.files start → begins.read.items ≡ []
-    → TellsBoth (λ told given. TellsLook types begins.known.items begun first names 0 start 0 told
-    given × KnowsFiles first begins told)
-    (λ told given. TellsLook others ends.known.items other last after place report waiting told given
-    × KnowsFiles last ends told) answers wanted
-    → IsLook types begins.known.items ends.known.items path last names place report waiting answers
-    wanted × KnowsFiles last ends answers
-behind {waiting} types others begins ends path begun other first last names after place start report
-    answers wanted same stays listing unread told none looks =
-    let known = begins.known.items in
-    let now = ends.known.items in
-    let all = looks (front types known ++ []) (heading begun types known ∷ []) (
-      look_begins types known begun first names start
-          (subst (λ p. IsListing types p first names) (sym same) listing) unread.read unread.missed
-          unread.unchanged told,
-      knows_begins first begins begun types unread none,
-    ) in (
-      subst (λ n. IsLook types known now path last n place report waiting answers wanted) stays
-          (subst (λ p. IsLook types known now p last after place report waiting answers wanted) same
-          (look_is types others known now begun other last after place report waiting answers wanted
-          all.0)),
-      record { passed = all.1.passed; read = all.1.read; refused = all.1.refused.1 },
-    )
-
--- it is of the path that it began with
-path_stays : {waiting : ℕ} (types others : List SuffixType) (begins ends : KnownFiles)
-    (path begun other : List ℕ) (first last : Given)
-    (names after : List (List ℕ)) (place : ℕ) (start report : Report) (answers : List Answer)
-    (wanted : List Wanted) → begun ≡ path
-    → IsListing types path first names → IsUnread nothing first
-    → TellsNameless first.files start → begins.read.items ≡ []
-    → TellsBoth (λ told given. TellsLook types begins.known.items begun first names 0 start 0 told
-    given × KnowsFiles first begins told)
-    (λ told given. TellsLook others ends.known.items other last after place report waiting told given
-    × KnowsFiles last ends told) answers wanted
-    → other ≡ path
-path_stays {waiting} types others begins ends path begun other first last names after place start
-    report answers wanted same listing unread told none looks =
-    let known = begins.known.items in
-    same_path types others known ends.known.items begun other last after place report waiting answers
-    ((front types known ++ []) ++ wanted)
-    (looks (front types known ++ []) (heading begun types known ∷ []) (
-      look_begins types known begun first names start
-          (subst (λ p. IsListing types p first names) (sym same) listing) unread.read unread.missed
-          unread.unchanged told,
-      knows_begins first begins begun types unread none,
-    )).0 ∙ same
-
--- the carousel that a server has, with its bodies, has what it has without
-has_now : (view : RepositoryView) (s : Standing) → Agrees view s → (k : Known)
-    → is_there view.carousel.objects.items k ≡ true → has_it s.carousel k ≡ true
-has_now view s agrees k is =
-    ap (λ (c : Carousel). has_it c k) agrees.carousel
-    ∙ has_it_there k view.carousel.objects.items agrees.bodies agrees.are_bodies ∙ is
-
--- what was known when a look began, with its objects
-started : (known : List Known) (files : KnownFiles) (objects : List Object)
-    (view : RepositoryView) (s : Standing) → Agrees view s → view.carousel.objects.items ≡ objects
-    → AllByRecursion (λ k. Among known k × (is_there objects k ≡ true)) files.known.items
-    → AllByRecursion (λ k. Among known k × (has_it s.carousel k ≡ true)) files.known.items
-started known files objects view s agrees same all =
-    all_on (λ k is. (
-      is.0,
-      has_now view s agrees k (ap (λ l. is_there l k) same ∙ is.1),
-    )) files.known.items all
-
-pub returns-in_err-look-clause-path : goal.returns-in_err-look-clause-path
-returns-in_err-look-clause-path g c = λ s holds honest.
-    let source = c.look.new.source in
-    let looks = c.in_err-look.ensures.looked s holds honest in
-    path_stays c.args.folder.now.types.now source.types.now c.start.new.self source.files
-    (g.S.Shelf.path c.args.folder.now.shelf) (g.S.Shelf.path c.list.new.shelf)
-    (g.S.Shelf.path source.shelf) (g.S.Shelf.gave c.list.new.shelf) (g.S.Shelf.gave source.shelf)
-    c.in-Ok.names.names.items source.names.names.items source.place c.note_most.new.report
-    source.report looks.0.runs.answers looks.0.wanted
-    (c.in-Ok.ensures.lists.later.same ∙ c.begin.ensures.same)
-    (subst (λ p. IsListing c.args.folder.now.types.now p (g.S.Shelf.gave c.list.new.shelf)
-    c.in-Ok.names.names.items) c.begin.ensures.same c.in-Ok.ensures.lists.listing)
-    c.in-Ok.ensures.lists.later.unread
-    (c.note_most.ensures.further (g.S.Shelf.gave c.list.new.shelf).files
-    (c.note_listed.ensures.further (g.S.Shelf.gave c.list.new.shelf).files
-    (c.in-Ok.ensures.lists.further
-    (nameless_none c.begin-2.new.self c.begin-2.ensures.fine c.begin-2.ensures.told))))
-    c.start.ensures.none.0 looks.1
-
-pub returns-clause-path : goal.returns-clause-path
-returns-clause-path g c = λ s holds honest.
-    let source = c.look.new.source in
-    let looks = c.in_ok-look.ensures.looked s holds honest in
-    path_stays c.args.folder.now.types.now source.types.now c.start.new.self source.files
-    (g.S.Shelf.path c.args.folder.now.shelf) (g.S.Shelf.path c.list.new.shelf)
-    (g.S.Shelf.path source.shelf) (g.S.Shelf.gave c.list.new.shelf) (g.S.Shelf.gave source.shelf)
-    c.in-Ok.names.names.items source.names.names.items source.place c.note_most.new.report
-    source.report looks.0.runs.answers looks.0.wanted
-    (c.in-Ok.ensures.lists.later.same ∙ c.begin.ensures.same)
-    (subst (λ p. IsListing c.args.folder.now.types.now p (g.S.Shelf.gave c.list.new.shelf)
-    c.in-Ok.names.names.items) c.begin.ensures.same c.in-Ok.ensures.lists.listing)
-    c.in-Ok.ensures.lists.later.unread
-    (c.note_most.ensures.further (g.S.Shelf.gave c.list.new.shelf).files
-    (c.note_listed.ensures.further (g.S.Shelf.gave c.list.new.shelf).files
-    (c.in-Ok.ensures.lists.further
-    (nameless_none c.begin-2.new.self c.begin-2.ensures.fine c.begin-2.ensures.told))))
-    c.start.ensures.none.0 looks.1
 
 pub returns-in-Err-clause-looked : goal.returns-in-Err-clause-looked
 returns-in-Err-clause-looked g c = λ s holds honest.
@@ -351,25 +67,21 @@ returns-in-Err-clause-looked g c = λ s holds honest.
     let state = g.D.Disk.state old.disk in
     let told = c.in-Err.ensures.lists.later.told [] (tells_none c.begin-2.new.self c.begin-2.ensures.told) in
     let refusal = c.in-Err.unlisted.refusal in
-    let path = c.as_bytes-path.result.now in
+    let path = g.S.Shelf.path c.list.new.shelf in
     let bare = unlisted_for path refusal Unsaid in
-    let last = unlisted_for path refusal c.tell_unlisted.ensures.told.0 in
-    let fault = fault_of c.end.result in
+    let last = unlisted_for path refusal c.end_unlisted.ensures.told.0 in
+    let fault = fault_of c.end_unlisted.result in
     of_nothing old old state state s _ _ _ _ _ fault _ (told.entries ++ last ∷ [])
     (has_read old old state state s fault
     (g.met.D.Disk.sound old.disk honest) refl refl honest (unchanged_none state) holds).0
     (unlisted refusal (subst (λ p. IsUnlisted c.args.folder.now.types.now p
     (g.S.Shelf.gave c.list.new.shelf) refusal) c.begin.ensures.same c.in-Err.ensures.lists.why)
-    (ap not c.tell_unlisted.ensures.any)
-    (ended_unlisted c.end.result refusal c.tell_unlisted.new.report.any_left_out
-    c.tell_unlisted.new.report.any_without_memory c.end.ensures.fault c.end.ensures.ends.0
-    c.tell_unlisted.ensures.memory) refl
+    (ap not c.end_unlisted.ensures.any) c.end_unlisted.ensures.fault refl
     (look-more told.entries (last ∷ []) ∙ ap (λ l. l ++ bare ∷ []) told.are
     ∙ ap (λ n. unlisted_for n refusal Unsaid ∷ [])
-    (c.as_bytes-path.ensures.value ∙ c.shown.ensures ∙ c.in-Err.ensures.lists.later.same
-    ∙ c.begin.ensures.same))
+    (c.in-Err.ensures.lists.later.same ∙ c.begin.ensures.same))
     (images_same told.entries last refl ∙ told.images) refl)
-    (c.tell_unlisted.ensures.told.1 told.entries told.told)
+    (c.end_unlisted.ensures.told.1 told.entries told.told)
 
 pub returns-then-is_kept-clause-looked : goal.returns-then-is_kept-clause-looked
 returns-then-is_kept-clause-looked g c = λ s holds honest.
@@ -378,18 +90,17 @@ returns-then-is_kept-clause-looked g c = λ s holds honest.
     let allows = c.args.folder.now.allows_empty in
     let types = c.args.folder.now.types.now in
     let given = g.S.Shelf.gave c.list.new.shelf in
-    let path = c.as_bytes-path-then-is_kept.result.now in
+    let path = g.S.Shelf.path c.list.new.shelf in
     let names = c.in-Ok.names.names.items in
     let told = c.in-Ok.ensures.lists.later.told [] (tells_none c.begin-2.new.self c.begin-2.ensures.told) in
-    let same = c.as_bytes-path-then-is_kept.ensures.value ∙ c.shown-then-is_kept.ensures ∙ c.in-Ok.ensures.lists.later.same
-    ∙ c.begin.ensures.same in
+    let same = c.in-Ok.ensures.lists.later.same ∙ c.begin.ensures.same in
     let is : is_kept allows names (length s.carousel.objects) ≡ true =
     kept_as_counted allows names old.view s holds.agrees
     ∙ ap (λ (k : memory.Carousel). is_kept allows names (length k.objects.items))
     (sym c.carousel-2.ensures.value)
     ∙ sym c.if-is_kept.ensures in
     let none = none_named allows names (length s.carousel.objects) is in
-    let fault = fault_of c.end-then-is_kept.result in
+    let fault = fault_of c.end_kept.result in
     of_nothing old old state state s _ _ _ _ _ fault _ (told.entries ++ event_of path Kept ∷ [])
     (has_read old old state state s fault
     (g.met.D.Disk.sound old.disk honest) refl refl honest (unchanged_none state) holds).0
@@ -397,115 +108,35 @@ returns-then-is_kept-clause-looked g c = λ s holds honest.
     (subst (λ n. IsListing types (g.S.Shelf.path c.args.folder.now.shelf) given n) none
     (subst (λ p. IsListing types p given names) c.begin.ensures.same c.in-Ok.ensures.lists.listing))
     (subst (λ n. is_kept allows n (length s.carousel.objects) ≡ true) none is)
-    (ap not c.kept.ensures.any)
-    (ended c.end-then-is_kept.result c.end-then-is_kept.ensures.fault) refl
+    (ap not c.end_kept.ensures.any) c.end_kept.ensures.fault refl
     (look-more told.entries (event_of path Kept ∷ [])
     ∙ ap (λ l. l ++ event_of path Kept ∷ []) told.are
     ∙ ap (λ n. event_of n Kept ∷ []) same)
     (images_same told.entries (event_of path Kept) refl ∙ told.images) refl)
-    (c.kept.ensures.told told.entries told.told)
-
-pub returns-in_err-look-clause-looked : goal.returns-in_err-look-clause-looked
-returns-in_err-look-clause-looked g c = λ s holds honest.
-    let state = g.D.Disk.state in
-    let old = c.args.server.now in
-    let new = c.look.new.server in
-    let types = c.args.folder.now.types.now in
-    let path = g.S.Shelf.path c.args.folder.now.shelf in
-    let names = c.in-Ok.names.names.items in
-    let allows = c.args.folder.now.allows_empty in
-    let updates : is_kept allows names (length s.carousel.objects) ≡ false =
-    kept_as_counted allows names old.view s holds.agrees
-    ∙ ap (λ (k : memory.Carousel). is_kept allows names (length k.objects.items))
-    (sym c.carousel-2.ensures.value)
-    ∙ sym c.if-is_kept.ensures in
-    let source = c.look.new.source in
-    let given = g.S.Shelf.gave source.shelf in
-    let seen = take source.place names in
-    let looks = c.in_err-look.ensures.looked s holds honest in
-    let fault = Some c.in_err-look.field-0.0 in
-    let is = behind types source.types.now c.start.new.self source.files path (g.S.Shelf.path c.list.new.shelf)
-    (g.S.Shelf.path source.shelf) (g.S.Shelf.gave c.list.new.shelf) given names
-    source.names.names.items source.place c.note_most.new.report source.report looks.0.runs.answers
-    looks.0.wanted (c.in-Ok.ensures.lists.later.same ∙ c.begin.ensures.same) c.in_err-look.ensures.same
-    (subst (λ p. IsListing types p (g.S.Shelf.gave c.list.new.shelf) names) c.begin.ensures.same
-    c.in-Ok.ensures.lists.listing) c.in-Ok.ensures.lists.later.unread
-    (c.note_most.ensures.further (g.S.Shelf.gave c.list.new.shelf).files
-    (c.note_listed.ensures.further (g.S.Shelf.gave c.list.new.shelf).files
-    (c.in-Ok.ensures.lists.further
-    (nameless_none c.begin-2.new.self c.begin-2.ensures.fine c.begin-2.ensures.told))))
-    c.start.ensures.none.0 looks.1 in
-    let known = c.args.folder.now.files.known.items in
-    let started_so = started known c.start.new.self _ old.view s holds.agrees
-    (ap (λ (k : memory.Carousel). k.objects.items) (sym c.carousel-4.ensures.value))
-    c.start.ensures.known in
-    subst (λ (r : Result Unit Refusal). HasLookedAtFolder old new (state old.disk) (state new.disk)
-    s types allows path given source.report (fault_of r) known source.files.known.items)
-    (sym (same_error c.from_residual.result c.in_err-look.field-0.0 c.from_residual.ensures.1))
-    (of_names old new (state old.disk) (state new.disk) s types allows path given source.report names
-    fault known source.files.known.items (c.in-Ok.ensures.lists.later.shown tt) is.0.listing updates looks.0 seen
-    (λ none. absurd (cc (none))) (λ without none. cc (none)) is.0.tells
-    (all_on (passed_over known source.files.known.items s.carousel
-    (subst (λ l. AllByRecursion (λ k. Among known k × (has_it s.carousel k ≡ true)) l)
-    (sym is.0.files) started_so)) given.unchanged is.1.passed)
-    (all_on (λ k at. was_known at) source.files.known.items
-    (subst (λ l. AllByRecursion (Among known) l) (sym is.0.files)
-    (all_on (λ k at. at.0) c.start.new.self.known.items started_so))))
+    (c.end_kept.ensures.told told.entries told.told)
 
 pub returns-clause-looked : goal.returns-clause-looked
 returns-clause-looked g c = λ s holds honest.
     let state = g.D.Disk.state in
     let old = c.args.server.now in
-    let new = c.look.new.server in
-    let types = c.args.folder.now.types.now in
-    let path = g.S.Shelf.path c.args.folder.now.shelf in
-    let names = c.in-Ok.names.names.items in
-    let allows = c.args.folder.now.allows_empty in
-    let updates : is_kept allows names (length s.carousel.objects) ≡ false =
-    kept_as_counted allows names old.view s holds.agrees
-    ∙ ap (λ (k : memory.Carousel). is_kept allows names (length k.objects.items))
-    (sym c.carousel-2.ensures.value)
-    ∙ sym c.if-is_kept.ensures in
-    let source = c.look.new.source in
-    let given = g.S.Shelf.gave source.shelf in
-    let looks = c.in_ok-look.ensures.looked s holds honest in
-    let is = behind types source.types.now c.start.new.self source.files path (g.S.Shelf.path c.list.new.shelf)
-    (g.S.Shelf.path source.shelf) (g.S.Shelf.gave c.list.new.shelf) given names
-    source.names.names.items source.place c.note_most.new.report source.report looks.0.runs.answers
-    looks.0.wanted (c.in-Ok.ensures.lists.later.same ∙ c.begin.ensures.same) c.in_ok-look.ensures.same
-    (subst (λ p. IsListing types p (g.S.Shelf.gave c.list.new.shelf) names) c.begin.ensures.same
-    c.in-Ok.ensures.lists.listing) c.in-Ok.ensures.lists.later.unread
-    (c.note_most.ensures.further (g.S.Shelf.gave c.list.new.shelf).files
-    (c.note_listed.ensures.further (g.S.Shelf.gave c.list.new.shelf).files
-    (c.in-Ok.ensures.lists.further
-    (nameless_none c.begin-2.new.self c.begin-2.ensures.fine c.begin-2.ensures.told))))
-    c.start.ensures.none.0 looks.1 in
-    let seen : take source.place names ≡ names =
-    take_all source.place names (subst (λ (n : List (List ℕ)). length n ≤ source.place)
-    c.in_ok-look.ensures.same c.in_ok-look.ensures.ended) in
-    let report = c.note_gap.new.report in
-    let waiting = source.sizes.waiting in
-    let told : TellsOf types given report waiting names looks.0.runs.answers looks.0.wanted =
-    c.note_gap.ensures.told types given waiting names looks.0.runs.answers looks.0.wanted
-    (c.note_waiting.ensures.told types given waiting names looks.0.runs.answers looks.0.wanted
-    (subst (λ l. TellsOf types given source.report waiting l looks.0.runs.answers
-    looks.0.wanted) seen is.0.tells)) in
-    let known = c.args.folder.now.files.known.items in
-    let last = looks.0.runs.run.leaves.last in
-    let started_so = started known c.start.new.self _ old.view s holds.agrees
-    (ap (λ (k : memory.Carousel). k.objects.items) (sym c.carousel-4.ensures.value))
-    c.start.ensures.known in
-    let were : AllByRecursion (λ k. Among known k × (has_it s.carousel k ≡ true))
-    source.files.known.items =
-    subst (λ l. AllByRecursion (λ k. Among known k × (has_it s.carousel k ≡ true)) l)
-    (sym is.0.files) started_so in
-    listed_whole old new (state old.disk) (state new.disk) s types allows path given report
-    names known c.finish.new.self.known.items (c.in-Ok.ensures.lists.later.shown tt) is.0.listing updates looks.0 told
-    (all_on (passed_over known source.files.known.items s.carousel were) given.unchanged is.1.passed)
-    (all_on (comes_from known given source.files looks.0.runs.answers last.carousel
-    new.view.carousel.objects.items
-    (all_on (λ k at. at.0) source.files.known.items were)
-    (has_now new.view last looks.0.runs.run.leaves.agrees) is.1) c.finish.new.self.known.items
-    (subst (λ (k : memory.Carousel). AllByRecursion (IsKept source.files k.objects.items)
-    c.finish.new.self.known.items) c.carousel-5.ensures.value c.finish.ensures))
-    c.end-2.result c.end-2.ensures.fault (λ ok. (c.end-2.ensures.ends.0 ok).1)
+    let new = c.look_at_names.new.server in
+    let first = c.args.folder.now in
+    let last = c.look_at_names.new.folder in
+    subst (λ p. HasLookedAtFolder old new (state old.disk) (state new.disk) s first.types.now
+    first.allows_empty p (g.S.Shelf.gave last.shelf) last.report (fault_of c.look_at_names.result)
+    first.files.known.items last.files.known.items)
+    (c.in-Ok.ensures.lists.later.same ∙ c.begin.ensures.same)
+    (c.look_at_names.ensures.looked s holds honest)
+
+pub returns-clause-path : goal.returns-clause-path
+returns-clause-path g c = λ s holds honest.
+    c.look_at_names.ensures.path s holds honest ∙ c.in-Ok.ensures.lists.later.same
+    ∙ c.begin.ensures.same
+
+pub returns-then-is_kept-clause-path : goal.returns-then-is_kept-clause-path
+returns-then-is_kept-clause-path g c = λ s holds honest.
+    c.in-Ok.ensures.lists.later.same ∙ c.begin.ensures.same
+
+pub returns-in-Err-clause-path : goal.returns-in-Err-clause-path
+returns-in-Err-clause-path g c = λ s holds honest.
+    c.in-Err.ensures.lists.later.same ∙ c.begin.ensures.same
