@@ -3,7 +3,7 @@ use Rattle.std.proofs.Common.{◌≡◌, ◌∙◌, ◌+◌, ◌≤◌, ◌++◌
 use Rattle.std.proofs.Common.{length-append, refl, subst, sym}
 use Rattle.mot_folder.specs.Inner.Listing.{GivesAll, GivesNoMore, GoesOver, IsCallRefusal, IsLater}
 use Rattle.mot_folder.specs.Inner.Listing.{IsListed, IsUnread, Lists, ListsNot, ReadsAll, ReadsNoMore}
-use Rattle.mot_folder.specs.Inner.Listing.{ReadsSome, Stage, StopsWithin, TellsFurther, TellsNameless}
+use Rattle.mot_folder.specs.Inner.Listing.{ReadsSome, Stage, StopsAt, StopsWithin, TellsFurther, TellsNameless}
 use Rattle.mot_folder.specs.Inner.Listing.{stage}
 use Rattle.mot_folder.specs.Listed.{IsListing, names_in}
 use Rattle.mot_folder.specs.Log.{TellsAnswers}
@@ -67,15 +67,20 @@ module _ (types : List SuffixType) where
         t.names u.names a.goes b.goes;
   }
 
+  pub over_all : (more all : List (List ℕ)) (s t : Stage) → all ≡ more → GoesOver types more s t
+      → GoesOver types all s t
+  over_all more all s t same over = subst (λ l. GoesOver types l s t) (sym same) over
+
   -- or not all of those
-  pub stops_on : (front last rest : List (List ℕ)) (s t u : Stage) (refusal : Refusal)
-      → GoesOver types front s t → StopsWithin types last t u refusal
-      → StopsWithin types (front ++ (last ++ rest)) s u refusal
-  stops_on front last rest s t u refusal a b = record {
+  pub stops_on : (front last rest all : List (List ℕ)) (s t u : Stage) (refusal : Refusal)
+      → all ≡ front ++ (last ++ rest) → GoesOver types front s t
+      → StopsWithin types last t u refusal → StopsWithin types all s u refusal
+  stops_on front last rest all s t u refusal same a b = record {
     later = later_on s t u a.later b.later;
     listed = b.listed ∙ a.listed;
-    why = stops_behind types front last rest s.given t.given u.given s.counted t.counted s.names
-        t.names refusal a.goes b.why;
+    why = subst (λ l. StopsAt types l s.given u.given s.counted s.names refusal) (sym same)
+        (stops_behind types front last rest s.given t.given u.given s.counted t.counted s.names
+        t.names refusal a.goes b.why);
   }
 
   pub reads_none : (s : Stage) → ReadsSome types s s

@@ -1,30 +1,36 @@
 -- Why a folder is not listed, handed on.
-use Rattle.std.proofs.Common.{◌≡◌, Err, Ok, Result, subst, sym}
+use Rattle.std.proofs.Common.{◌≡◌, ℕ, Err, List, Ok, Result, ap, subst, sym}
 use Rattle.std.specs.Prelude.{IfOk, IsErr, IsErrAnd, MatchResult}
+use Rattle.mot_folder.specs.Inner.Listing.{AreGoneOver, AreRead, GoesOver, ReadsAll, ReadsNoMore}
+use Rattle.mot_folder.specs.Inner.Listing.{Stage, StopsWithin}
 use Rattle.mot_folder.specs.declared.listing.Unlisted.{Unlisted}
 use Rattle.mot_numbers.specs.declared.refusal.Refusal.{Refusal}
+use Rattle.mot_suffixes.specs.Types.{SuffixType}
 
-module _ {T : Type 0} (r : Result T Unlisted) (Q : T → Type 0) (P : Refusal → Type 0) where
-  -- an error that is handed on has its reason
-  pub why_same : (u : Unlisted) → IsErrAnd r (λ x. x ≡ u) → P u.refusal
-      → MatchResult r Q (λ v. P v.refusal)
-  why_same u is why = handed r is
-    where
-      handed : (x : Result T Unlisted) → IsErrAnd x (λ v. v ≡ u) → MatchResult x Q (λ v. P v.refusal)
-      handed (Ok a) e = absurd e
-      handed (Err v) e = subst (λ (n : Unlisted). P n.refusal) (sym e) why
+-- an error that is handed on has its reason
+pub why_same : {T : Type 0} (r : Result T Unlisted) (u : Unlisted) → IsErrAnd r (λ x. x ≡ u)
+    → IsErrAnd r (λ x. x.refusal ≡ u.refusal)
+why_same (Ok a) u is = absurd is
+why_same (Err v) u is = ap (λ (x : Unlisted). x.refusal) is
 
-  -- and one of this refusal
-  pub why_of : (refusal : Refusal) → IsErrAnd r (λ u. u.refusal ≡ refusal) → P refusal
-      → MatchResult r Q (λ v. P v.refusal)
-  why_of refusal is why = handed r is
-    where
-      handed : (x : Result T Unlisted) → IsErrAnd x (λ v. v.refusal ≡ refusal)
-          → MatchResult x Q (λ v. P v.refusal)
-      handed (Ok a) e = absurd e
-      handed (Err v) e = subst P (sym e) why
+-- what holds of its reason holds of it
+pub why_of : {T : Type 0} (r : Result T Unlisted) (Q : T → Type 0) (P : Refusal → Type 0)
+    (refusal : Refusal) → IsErrAnd r (λ u. u.refusal ≡ refusal) → P refusal
+    → MatchResult r Q (λ u. P u.refusal)
+why_of (Ok a) Q P refusal is why = absurd is
+why_of (Err u) Q P refusal is why = subst P (sym is) why
 
 -- nothing holds of what is not there
 pub none_ok : {T : Type 0} (r : Result T Unlisted) (Q : T → Type 0) → IsErr r → IfOk r Q
 none_ok (Ok x) Q is = absurd (cc (is))
 none_ok (Err u) Q is = tt
+
+module _ (types : List SuffixType) (old new : Stage) (r : Result Unit Unlisted) (refusal : Refusal)
+    (is : IsErrAnd r (λ u. u.refusal ≡ refusal)) where
+  pub stops_so : (more : List (List ℕ)) → StopsWithin types more old new refusal
+      → AreGoneOver types more old new r
+  stops_so more why =
+      why_of r (λ done. GoesOver types more old new) (StopsWithin types more old new) refusal is why
+
+  pub reads_so : ReadsNoMore types old new refusal → AreRead types old new r
+  reads_so why = why_of r (λ done. ReadsAll types old new) (ReadsNoMore types old new) refusal is why

@@ -1,8 +1,8 @@
-use Rattle.std.proofs.Common.{◌∙◌, ◌++◌, ◌∷◌, [], ap, append_assoc, append-nil, refl, subst, sym}
-use Rattle.mot_folder.specs.Inner.Listing.{GoesOver, StopsWithin, stage}
+use Rattle.std.proofs.Common.{◌∙◌, ◌++◌, ◌∷◌, [], ap, append_assoc, append-nil, refl, sym}
+use Rattle.mot_folder.specs.Inner.Listing.{stage}
 use Rattle.mot_folder.specs.Listed.{names_in}
-use Rattle.mot_folder.proofs.Stages.{over_none, over_on, stops_on}
-use Rattle.mot_folder.proofs.Unlisted.{why_same}
+use Rattle.mot_folder.proofs.Stages.{over_all, over_none, over_on, stops_on}
+use Rattle.mot_folder.proofs.Unlisted.{stops_so, why_same}
 use Rattle.mot_folder.proofs.listing.add_all.Goals as goal
 
 pub loop-name-init : goal.loop-name-init
@@ -30,26 +30,16 @@ pub returns-in_err-add_one : goal.returns-in_err-add_one
 returns-in_err-add_one g c =
     let types = c.args.types.now in
     let was = c.loop-name.invariant in
-    let old = stage (g.S.Shelf.path c.args.shelf.now) (g.S.Shelf.gave c.args.shelf.now)
-    c.args.report.now c.args.names.now.counted c.args.names.now.names.items in
-    let new = stage (g.S.Shelf.path c.add_one.new.shelf) (g.S.Shelf.gave c.add_one.new.shelf)
-    c.add_one.new.report c.add_one.new.names.counted c.add_one.new.names.names.items in
-    let refusal = c.in_err-add_one.field-0.0.refusal in
-    why_same c.from_residual.result (λ done. GoesOver types (names_in c.args.bytes.now) old new)
-    (StopsWithin types (names_in c.args.bytes.now) old new) c.in_err-add_one.field-0.0
-    c.from_residual.ensures.1
-    (subst (λ l. StopsWithin types l old new refusal)
-    (sym (was.split ∙ ap (λ l. was.done ++ l) c.in-Some.ensures.first))
-    (stops_on types was.done (c.in-Some.name.now ∷ []) (names_in c.in-Some.others.now) old _ new
-    refusal was.over c.in_err-add_one.ensures))
+    let stop = c.in_err-add_one in
+    stops_so types _ _ c.from_residual.result stop.field-0.0.refusal
+    (why_same c.from_residual.result stop.field-0.0 c.from_residual.ensures.1)
+    (names_in c.args.bytes.now)
+    (stops_on types was.done (c.in-Some.name.now ∷ []) (names_in c.in-Some.others.now) _ _ _ _
+    stop.field-0.0.refusal (was.split ∙ ap (λ l. was.done ++ l) c.in-Some.ensures.first) was.over
+    stop.ensures)
 
 pub returns : goal.returns
 returns g c =
     let was = c.loop-name.invariant in
-    subst (λ l. GoesOver c.args.types.now l
-    (stage (g.S.Shelf.path c.args.shelf.now) (g.S.Shelf.gave c.args.shelf.now) c.args.report.now
-    c.args.names.now.counted c.args.names.now.names.items)
-    (stage (g.S.Shelf.path c.loop-name.shelf) (g.S.Shelf.gave c.loop-name.shelf)
-    c.loop-name.report c.loop-name.names.counted c.loop-name.names.names.items))
-    (sym (was.split ∙ ap (λ l. was.done ++ l) c.in_default.ensures.none ∙ append-nil was.done))
-    was.over
+    over_all c.args.types.now was.done _ _ _
+    (was.split ∙ ap (λ l. was.done ++ l) c.in_default.ensures.none ∙ append-nil was.done) was.over

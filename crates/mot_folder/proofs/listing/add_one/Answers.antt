@@ -1,6 +1,6 @@
-use Rattle.std.proofs.Common.{◌≡◌, ◌&&◌, ◌∙◌, ◌++◌, ◌<◌, ◌∷◌, ◌≤◌, [], ap, arith, false, not, refl}
+use Rattle.std.proofs.Common.{◌≡◌, ◌&&◌, ◌∙◌, ◌++◌, ◌<◌, ◌∷◌, [], ap, arith, false, not, refl}
 use Rattle.std.proofs.Common.{subst, sym, true}
-use Rattle.mot_folder.specs.Inner.Listing.{GoesOn, GoesOver, StopsWithin, TellsNameless, WereAsked}
+use Rattle.mot_folder.specs.Inner.Listing.{GoesOn, TellsNameless, WereAsked}
 use Rattle.mot_folder.specs.Inner.Listing.{stage}
 use Rattle.mot_folder.specs.Inner.Listing.IsWhyNot.{no_memory}
 use Rattle.mot_folder.specs.Listed.{and_object}
@@ -10,7 +10,7 @@ use Rattle.mot_folder.proofs.Order.{shown_where}
 use Rattle.mot_folder.proofs.Seen.{asked_failed, asked_nothing, asked_one, call_failed, of_file}
 use Rattle.mot_folder.proofs.Seen.{of_other, too_many, without_type}
 use Rattle.mot_folder.proofs.Stages.{later_beside}
-use Rattle.mot_folder.proofs.Unlisted.{why_of}
+use Rattle.mot_folder.proofs.Unlisted.{stops_so}
 use Rattle.mot_folder.proofs.listing.add_one.Goals as goal
 use Rattle.mot_numbers.specs.declared.refusal.Refusal.TheVariants.{OutOfMemory}
 use Rattle.mot_objects.specs.Name.{is_name}
@@ -73,20 +73,13 @@ returns-in_ok-add_file-in-Ok-true g c =
 
 pub returns-in_err-add_file-in-Ok-true : goal.returns-in_err-add_file-in-Ok-true
 returns-in_err-add_file-in-Ok-true g c =
-    let more = c.args.name.now ∷ [] in
+    let name = c.args.name.now in
     let given = g.S.Shelf.gave c.args.shelf.now in
-    let last = g.S.Shelf.gave c.is_file.new.self in
-    let old = stage (g.S.Shelf.path c.args.shelf.now) given c.args.report.now
-    c.args.names.now.counted c.args.names.now.names.items in
-    let new = stage (g.S.Shelf.path c.is_file.new.self) last c.add_file.new.report
-    c.add_file.new.names.counted c.add_file.new.names.names.items in
-    let asked = asked_one given last c.args.name.now true
-    (c.in-Ok-true.ensures.gave ∙ ap (λ t. and_asked given c.args.name.now t)
-    c.in-Ok-true.field-0-test) in
-    why_of c.from_residual-in_err-add_file-in-Ok-true.result
-    (λ done. GoesOver c.args.types.now more old new) (StopsWithin c.args.types.now more old new)
-    OutOfMemory c.from_residual-in_err-add_file-in-Ok-true.ensures.1 (record {
-      later = later_beside old new c.in-Ok-true.ensures.same
+    let asked = asked_one given (g.S.Shelf.gave c.is_file.new.self) name true
+    (c.in-Ok-true.ensures.gave ∙ ap (λ t. and_asked given name t) c.in-Ok-true.field-0-test) in
+    stops_so c.args.types.now _ _ c.from_residual-in_err-add_file-in-Ok-true.result
+    OutOfMemory c.from_residual-in_err-add_file-in-Ok-true.ensures.1 (name ∷ []) (record {
+      later = later_beside _ _ c.in-Ok-true.ensures.same
           c.in_err-add_file-in-Ok-true.ensures.told asked.unread
           (c.in_err-add_file-in-Ok-true.ensures.kept
           ∙ ap (λ (v : _). v.items) c.in_ok-count.ensures.same);
@@ -136,22 +129,16 @@ pub returns-in_err-count : goal.returns-in_err-count
 returns-in_err-count g c =
     let name = c.args.name.now in
     let given = g.S.Shelf.gave c.args.shelf.now in
-    let path = g.S.Shelf.path c.args.shelf.now in
-    let old = stage path given c.args.report.now c.args.names.now.counted
-    c.args.names.now.names.items in
-    let new = stage path given c.args.report.now c.count.new.self.counted
-    c.count.new.self.names.items in
     let asked = asked_nothing given in
     let few : c.args.names.now.counted < MAX_NAMES → ⊥ =
     λ less. let no : false ≡ true = c.in_err-count.ensures.counts.1 less in cc in
-    let full : MAX_NAMES ≤ c.args.names.now.counted = omega (arith, few) in
-    why_of c.from_residual.result (λ done. GoesOver c.args.types.now (name ∷ []) old new)
-    (StopsWithin c.args.types.now (name ∷ []) old new) c.in_err-count.field-0.0
-    c.from_residual.ensures.1 (record {
-      later = later_beside old new refl (tells_same c.args.report.now) asked.unread
+    stops_so c.args.types.now _ _ c.from_residual.result c.in_err-count.field-0.0
+    c.from_residual.ensures.1 (name ∷ []) (record {
+      later = later_beside _ _ refl (tells_same c.args.report.now) asked.unread
           (ap (λ (v : _). v.items) c.in_err-count.ensures.same);
       listed = asked.listed;
       why = too_many c.args.types.now name given given c.args.names.now.counted
           c.args.names.now.names.items c.in_err-count.field-0.0
-          (sym c.if-not-is_object.ensures.typed) c.in_err-count.ensures.many full;
+          (sym c.if-not-is_object.ensures.typed) c.in_err-count.ensures.many
+          (omega (arith, few));
     })

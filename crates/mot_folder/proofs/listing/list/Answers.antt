@@ -1,7 +1,7 @@
 use Rattle.std.proofs.Common.{[], refl}
 use Rattle.mot_folder.specs.Inner.Listing.{Lists, ListsNot, stage}
 use Rattle.mot_folder.proofs.Stages.{lists_kept, lists_not}
-use Rattle.mot_folder.proofs.Unlisted.{none_ok, why_same}
+use Rattle.mot_folder.proofs.Unlisted.{none_ok, why_of, why_same}
 use Rattle.mot_folder.proofs.listing.list.Goals as goal
 use Rattle.mot_shelf.specs.Given.{nothing}
 
@@ -21,9 +21,9 @@ returns-in_err-keep_names g c =
     let result = c.from_residual-in_err-keep_names in
     let stop = c.in_err-keep_names in
     record {
-      lists = why_same result.result (λ names. Lists types old (stage path given report
+      lists = why_of result.result (λ names. Lists types old (stage path given report
           names.counted names.names.items)) (ListsNot types old (stage path given report 0 []))
-          stop.field-0.0 result.ensures.1
+          stop.field-0.0.refusal (why_same result.result stop.field-0.0 result.ensures.1)
           (lists_not types old (stage (g.S.Shelf.path c.list_names.new.shelf)
           (g.S.Shelf.gave c.list_names.new.shelf) report c.in_ok-names.names.counted
           c.in_ok-names.names.names.items) path given _ stop.field-0.0.refusal
@@ -40,8 +40,10 @@ returns-in_err-names g c =
     let given = g.S.Shelf.gave c.list_names.new.shelf in
     let report = c.list_names.new.report in
     record {
-      lists = why_same c.from_residual.result (λ names. Lists types old (stage path given report
+      lists = why_of c.from_residual.result (λ names. Lists types old (stage path given report
           names.counted names.names.items)) (ListsNot types old (stage path given report 0 []))
-          c.in_err-names.field-0.0 c.from_residual.ensures.1 c.in_err-names.ensures;
+          c.in_err-names.field-0.0.refusal
+          (why_same c.from_residual.result c.in_err-names.field-0.0 c.from_residual.ensures.1)
+          c.in_err-names.ensures;
       gone = none_ok c.from_residual.result _ c.from_residual.ensures.0;
     }

@@ -1,7 +1,7 @@
 use Rattle.std.proofs.Common.{◌≡◌, [], refl, subst}
 use Rattle.mot_folder.specs.Inner.Listing.{Lists, ListsNot, stage}
 use Rattle.mot_folder.proofs.Stages.{later_same, lists_all, lists_no_more, lists_not}
-use Rattle.mot_folder.proofs.Unlisted.{why_same}
+use Rattle.mot_folder.proofs.Unlisted.{why_of, why_same}
 use Rattle.mot_folder.proofs.listing.list_names.Goals as goal
 use Rattle.mot_shelf.specs.Given.{and_failed, nothing}
 
@@ -21,9 +21,9 @@ returns-in_err-read_names g c =
     let report = c.read_names.new.report in
     let new = stage path given report 0 [] in
     let stop = c.in_err-read_names in
-    why_same c.from_residual.result (λ names. Lists types old (stage path given report
-    names.counted names.names.items)) (ListsNot types old new) stop.field-0.0
-    c.from_residual.ensures.1
+    why_of c.from_residual.result (λ names. Lists types old (stage path given report
+    names.counted names.names.items)) (ListsNot types old new) stop.field-0.0.refusal
+    (why_same c.from_residual.result stop.field-0.0 c.from_residual.ensures.1)
     (lists_no_more types (g.S.Shelf.path c.args.shelf.now) (g.S.Shelf.gave c.args.shelf.now)
     c.args.report.now (g.S.Shelf.path c.open.new.self) (g.S.Shelf.gave c.open.new.self)
     c.new-names.result.counted c.new-names.result.names.items c.requires

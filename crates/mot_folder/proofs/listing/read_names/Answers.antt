@@ -1,9 +1,9 @@
 use Rattle.std.proofs.Common.{ap, arith, take}
-use Rattle.mot_folder.specs.Inner.Listing.{ReadsAll, ReadsNoMore, stage}
+use Rattle.mot_folder.specs.Inner.Listing.{stage}
 use Rattle.mot_folder.specs.Inner.Listing.GivesNoMore.{endless}
 use Rattle.mot_folder.proofs.Stages.{more_listed, reads_all, reads_fault, reads_more, reads_no_more}
 use Rattle.mot_folder.proofs.Stages.{reads_none}
-use Rattle.mot_folder.proofs.Unlisted.{why_same}
+use Rattle.mot_folder.proofs.Unlisted.{reads_so, why_same}
 use Rattle.mot_folder.proofs.listing.read_names.Goals as goal
 
 pub loop-init : goal.loop-init
@@ -30,15 +30,11 @@ loop-preserved g c =
 pub returns-in_err-add_all-in-Ok : goal.returns-in_err-add_all-in-Ok
 returns-in_err-add_all-in-Ok g c =
     let types = c.args.types.now in
-    let old = stage (g.S.Shelf.path c.args.shelf.now) (g.S.Shelf.gave c.args.shelf.now)
-    c.args.report.now c.args.names.now.counted c.args.names.now.names.items in
-    let new = stage (g.S.Shelf.path c.add_all.new.shelf) (g.S.Shelf.gave c.add_all.new.shelf)
-    c.add_all.new.report c.add_all.new.names.counted c.add_all.new.names.names.items in
     let stop = c.in_err-add_all-in-Ok in
-    why_same c.from_residual.result (λ done. ReadsAll types old new) (ReadsNoMore types old new)
-    stop.field-0.0 c.from_residual.ensures.1
-    (reads_no_more types old _ (g.S.Shelf.path c.names.new.self) (g.S.Shelf.gave c.names.new.self)
-    c.loop.invariant.some c.in-Ok.ensures.same new _ stop.field-0.0.refusal c.in-Ok.ensures.gave
+    reads_so types _ _ c.from_residual.result stop.field-0.0.refusal
+    (why_same c.from_residual.result stop.field-0.0 c.from_residual.ensures.1)
+    (reads_no_more types _ _ (g.S.Shelf.path c.names.new.self) (g.S.Shelf.gave c.names.new.self)
+    c.loop.invariant.some c.in-Ok.ensures.same _ _ stop.field-0.0.refusal c.in-Ok.ensures.gave
     stop.ensures)
 
 pub returns-in-Err : goal.returns-in-Err
