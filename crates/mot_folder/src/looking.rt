@@ -403,7 +403,7 @@ impl<'a, S: Shelf + Drop> Update for Looks<'a, S> {
         self.folder.was_listed = was_listed;
         self.folder.shelf.note(&mut self.looks);
         self.count = self.count.saturating_add(1);
-        self.any_refused = self.any_refused || self.folder.report.any_refused;
+        self.any_refused |= self.folder.report.any_refused;
         self.left = packets_left(self.folder.report.any_left, self.every);
         result
     }

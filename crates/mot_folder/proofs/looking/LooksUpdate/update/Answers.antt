@@ -10,7 +10,6 @@ use Rattle.mot_folder.specs.Looked.{known_after, no_look, one_look, packets_left
 use Rattle.mot_folder.specs.Looked.{packets_left_behind, so_far}
 use Rattle.mot_folder.specs.Looked.{watch}
 use Rattle.mot_folder.proofs.looking.LooksUpdate.update.Goals as goal
-use Rattle.mot_folder.proofs.looking.LooksUpdate.update.Goals.{else-self, then-self}
 use Rattle.mot_journal.specs.Image.{Standing}
 use Rattle.mot_numbers.specs.declared.refusal.Refusal.{Refusal}
 use Rattle.mot_playout.specs.Attempts.{fault_of}
@@ -20,12 +19,6 @@ use Rattle.mot_update.specs.Between.{IsUpdating, may_look}
 use Rattle.mot_update.specs.Watching.{looks_known}
 use Rattle.mot_update.specs.declared.moment.Moment.{Moment}
 use Rattle.mot_update.proofs.Laws.{has_read, not_none}
-
-or_first : (a b : Bool) → a ≡ true → a ≡ (a || b)
-or_first a b e = e ∙ ap (λ x. x || b) (sym e)
-
-or_second : (a b : Bool) → a ≡ false → b ≡ (a || b)
-or_second a b e = ap (λ x. x || b) (sym e)
 
 twice_not : (b : Bool) → b ≡ not (not b)
 twice_not true = refl
@@ -138,10 +131,7 @@ returns-clause-run g c = λ s holds honest.
     (due_is c.args.self.now.left c.args.moment c.may_look.result true c.may_look.ensures
     c.if-not-look_is_due.ensures.due)
     c.packets_left-self.ensures c.note.ensures
-    (elim c.if-self.branch [
-      | then-self w ↦ w.self-is ∙ or_first _ _ w.if-self.true
-      | else-self w ↦ w.self-is ∙ or_second _ _ w.if-self.false
-    ])
+    refl
     (ap (λ n. looks_known n c.look_at_folder-result.new.folder.report.events.items
     c.turn_over-was_listed.new.before.items) c.saturating_add-self.ensures
     ∙ ap (looks_known (min (c.args.self.now.count + 1) 18446744073709551615)
