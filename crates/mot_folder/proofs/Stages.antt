@@ -2,15 +2,15 @@
 use Rattle.std.proofs.Common.{◌≡◌, ◌∙◌, ◌+◌, ◌≤◌, ◌++◌, ◌∷◌, List, [], ℕ, ap, arith, length}
 use Rattle.std.proofs.Common.{length-append, refl, subst, sym}
 use Rattle.mot_folder.specs.Inner.Listing.{GivesAll, GivesNoMore, GoesOver, IsCallRefusal, IsLater}
-use Rattle.mot_folder.specs.Inner.Listing.{IsListed, IsUnread, Lists, ListsNot, ReadsAll, ReadsNoMore}
-use Rattle.mot_folder.specs.Inner.Listing.{ReadsSome, Stage, StopsAt, StopsWithin, TellsFurther, TellsNameless}
-use Rattle.mot_folder.specs.Inner.Listing.{stage}
+use Rattle.mot_folder.specs.Inner.Listing.{IsListed, IsUnread, Lists, ListsNot, ReadsAll}
+use Rattle.mot_folder.specs.Inner.Listing.{ReadsNoMore, ReadsSome, Stage, StopsAt, StopsWithin}
+use Rattle.mot_folder.specs.Inner.Listing.{TellsFurther, TellsNameless, stage}
 use Rattle.mot_folder.specs.Listed.{IsListing, names_in}
 use Rattle.mot_folder.specs.Log.{TellsAnswers}
 use Rattle.mot_folder.proofs.Log.{tells_same}
 use Rattle.mot_folder.proofs.Seen.{all_given, goes_nowhere, goes_on, is_listing, is_unlisted}
-use Rattle.mot_folder.proofs.Seen.{is_unopened, no_more, no_piece, some_more, some_none, stops_behind}
-use Rattle.mot_folder.proofs.Seen.{unread_failed, unread_listed, unread_on}
+use Rattle.mot_folder.proofs.Seen.{is_unopened, no_more, no_piece, some_more, some_none}
+use Rattle.mot_folder.proofs.Seen.{stops_behind, unread_failed, unread_listed, unread_on}
 use Rattle.mot_folder.specs.declared.report.Report.{Report}
 use Rattle.mot_numbers.specs.declared.refusal.Refusal.{Refusal}
 use Rattle.mot_shelf.specs.Given.{Given, and_failed, and_kept_names, and_listed, nothing}
@@ -132,8 +132,8 @@ module _ (types : List SuffixType) where
         let next = stage path given t.report t.counted t.names in
         record {
           later = later_on s next u (later_read (unread_listed t.given given bytes is)) stops.later;
-          why = no_more types s.given t.given given u.given s.counted t.counted s.names t.names bytes
-              refusal some.gave is stops.why
+          why = no_more types s.given t.given given u.given s.counted t.counted s.names t.names
+              bytes refusal some.gave is stops.why
               (record { listed = stops.listed; unread = stops.later.unread });
         }
 
@@ -177,15 +177,18 @@ module _ (types : List SuffixType) where
           further = λ was.
               all.further (subst (λ (n : Given). TellsNameless n.files report) (sym opens) was);
           listing = is_listing types path first given t.given counted t.counted t.names none is zero
-              (subst (λ l. GivesAll types given t.given counted t.counted l t.names) empty all.gave);
+              (subst (λ l. GivesAll types given t.given counted t.counted l t.names) empty
+              all.gave);
         }
 
     pub lists_no_more : (t : Stage) (refusal : Refusal)
         → ReadsNoMore types (stage of given report counted names) t refusal
-        → ListsNot types (stage path nothing report 0 []) (stage t.path t.given t.report 0 []) refusal
+        → ListsNot types (stage path nothing report 0 []) (stage t.path t.given t.report 0 [])
+        refusal
     lists_no_more t refusal none_more =
         let old = stage path nothing report 0 [] in
-        let later = later_on old (stage of given report counted names) t later_opened none_more.later in
+        let opened = stage of given report counted names in
+        let later = later_on old opened t later_opened none_more.later in
         record {
           later = later_beside old (stage t.path t.given t.report 0 []) later.same later.told
               later.unread refl;

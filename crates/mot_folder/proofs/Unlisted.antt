@@ -33,4 +33,5 @@ module _ (types : List SuffixType) (old new : Stage) (r : Result Unit Unlisted) 
       why_of r (λ done. GoesOver types more old new) (StopsWithin types more old new) refusal is why
 
   pub reads_so : ReadsNoMore types old new refusal → AreRead types old new r
-  reads_so why = why_of r (λ done. ReadsAll types old new) (ReadsNoMore types old new) refusal is why
+  reads_so why =
+      why_of r (λ done. ReadsAll types old new) (ReadsNoMore types old new) refusal is why

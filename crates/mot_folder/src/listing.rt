@@ -249,7 +249,8 @@ fn read_names<S: Shelf + Drop>(
     names: &mut FileNames,
     report: &mut Report,
 ) -> Result<(), Unlisted>
-    ensures { AreRead types.now (stage (S.path shelf.old) (S.gave shelf.old) report.old names.old.counted
+    ensures { AreRead types.now
+        (stage (S.path shelf.old) (S.gave shelf.old) report.old names.old.counted
         names.old.names.items)
         (stage (S.path shelf.new) (S.gave shelf.new) report.new names.new.counted
         names.new.names.items) result }

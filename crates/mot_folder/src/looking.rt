@@ -6,7 +6,8 @@ ghost use Rattle.disk_model.specs.Disk.{KeepsLength};
 ghost use Rattle.mot_update.specs.Between.{IsUpdating, may_look};
 ghost use Rattle.mot_events.specs.Events.{is_listed};
 ghost use Rattle.mot_events.specs.Events.{event_of};
-ghost use Rattle.mot_events.specs.declared.event.Met.TheVariants.{Gap, Going, Kept, Listed, Waiting};
+ghost use Rattle.mot_events.specs.declared.event.Met.TheVariants.{Gap, Going, Kept, Listed};
+ghost use Rattle.mot_events.specs.declared.event.Met.TheVariants.{Waiting};
 ghost use Rattle.mot_events.specs.declared.event.Why.{Why};
 ghost use Rattle.mot_folder.specs.Log.{TellsAnswers, TellsOf, TellsOne, unlisted_for};
 ghost use Rattle.mot_folder.specs.Inner.Notes.{unknown_objects};
@@ -136,10 +137,8 @@ fn look_at_names<S: Shelf + Drop, D: Disk>(
         → HasLookedAtFolder server.old server.new (D.state server.old.disk)
         (D.state server.new.disk) s folder.old.types.now folder.old.allows_empty
         (S.path folder.old.shelf) (S.gave folder.new.shelf) folder.new.report (fault_of result)
-        folder.old.files.known.items folder.new.files.known.items }
-    ensures path { (s : Standing) → Holds server.old.view s (D.state server.old.disk)
-        → (D.state server.new.disk).IsHonest
-        → S.path folder.new.shelf ≡ S.path folder.old.shelf }
+        folder.old.files.known.items folder.new.files.known.items
+        × (S.path folder.new.shelf ≡ S.path folder.old.shelf) }
     ensures whole { OnOk result (folder.new.report.any_left_out ≡ false) }
 {
     note_listed(&mut folder.report, folder.shelf.shown(), folder.was_listed);

@@ -8,7 +8,8 @@ use Rattle.mot_events.specs.declared.event.LookEvent.{LookEvent}
 use Rattle.mot_events.specs.declared.event.Met.TheVariants.{Skipped}
 use Rattle.mot_events.specs.declared.event.Skip.{Skip}
 use Rattle.mot_events.specs.declared.event.Skip.TheVariants.{NotUtf8, Suffix}
-use Rattle.mot_folder.specs.Listed.{AreEither, IsListing, nameless, names_in, object_names, with_type}
+use Rattle.mot_folder.specs.Listed.{AreEither, IsListing, nameless, names_in, object_names}
+use Rattle.mot_folder.specs.Listed.{with_type}
 use Rattle.mot_folder.specs.Log.{ReportTells, TellsAnswers, TellsOne, images_noted, is_read}
 use Rattle.mot_folder.specs.Log.{names_read, of_look}
 use Rattle.mot_folder.specs.Looked.{IsUnlisted}
@@ -128,7 +129,8 @@ TellsFurther old new =
     TellsNameless old.given.files old.report → TellsNameless new.given.files new.report
 
 -- these further names were gone over
-pub record GoesOver (types : List SuffixType) (more : List (List ℕ)) (old new : Stage) : Type 0 where
+pub record GoesOver (types : List SuffixType) (more : List (List ℕ)) (old new : Stage) :
+    Type 0 where
   pub later : IsLater old new
   pub listed : new.given.listed ≡ old.given.listed
   pub further : TellsFurther old new
@@ -159,7 +161,8 @@ pub record ReadsAll (types : List SuffixType) (old new : Stage) : Type 0 where
   pub gave : GivesAll types old.given new.given old.counted new.counted old.names new.names
 
 -- or no more
-pub record ReadsNoMore (types : List SuffixType) (old new : Stage) (refusal : Refusal) : Type 0 where
+pub record ReadsNoMore (types : List SuffixType) (old new : Stage) (refusal : Refusal) :
+    Type 0 where
   pub later : IsLater old new
   pub why : GivesNoMore types old.given new.given old.counted old.names refusal
 

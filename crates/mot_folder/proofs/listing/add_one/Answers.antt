@@ -29,14 +29,14 @@ returns-then-not-is_object g c =
     let asked : WereAsked old new =
     subst (λ (n : Given). WereAsked old n) (sym skip.gave) (asked_nothing old) in
     record {
-      later = later_beside (stage (g.S.Shelf.path c.args.shelf.now) old c.args.report.now counted names)
-          (stage (g.S.Shelf.path c.tell_skipped.new.shelf) new c.tell_skipped.new.report counted
-          names) skip.same skip.told asked.unread refl;
+      later = later_beside (stage (g.S.Shelf.path c.args.shelf.now) old c.args.report.now counted
+          names) (stage (g.S.Shelf.path c.tell_skipped.new.shelf) new c.tell_skipped.new.report
+          counted names) skip.same skip.told asked.unread refl;
       listed = asked.listed;
       further = λ was. subst (λ (n : Given). TellsNameless n.files c.tell_skipped.new.report)
           (sym skip.gave) (skip.further old.files was);
-      goes = subst (λ (n : Given). GoesOn c.args.types.now (c.args.name.now ∷ []) old n counted counted
-          names names) (sym skip.gave)
+      goes = subst (λ (n : Given). GoesOn c.args.types.now (c.args.name.now ∷ []) old n counted
+          counted names names) (sym skip.gave)
           (without_type c.args.types.now c.args.name.now old counted names
           (sym c.if-not-is_object.ensures.typed));
     }

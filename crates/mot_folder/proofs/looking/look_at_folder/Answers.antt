@@ -65,7 +65,8 @@ pub returns-in-Err-clause-looked : goal.returns-in-Err-clause-looked
 returns-in-Err-clause-looked g c = λ s holds honest.
     let old = c.args.server.now in
     let state = g.D.Disk.state old.disk in
-    let told = c.in-Err.ensures.lists.later.told [] (tells_none c.begin-2.new.self c.begin-2.ensures.told) in
+    let told = c.in-Err.ensures.lists.later.told []
+    (tells_none c.begin-2.new.self c.begin-2.ensures.told) in
     let refusal = c.in-Err.unlisted.refusal in
     let path = g.S.Shelf.path c.list.new.shelf in
     let bare = unlisted_for path refusal Unsaid in
@@ -92,7 +93,8 @@ returns-then-is_kept-clause-looked g c = λ s holds honest.
     let given = g.S.Shelf.gave c.list.new.shelf in
     let path = g.S.Shelf.path c.list.new.shelf in
     let names = c.in-Ok.names.names.items in
-    let told = c.in-Ok.ensures.lists.later.told [] (tells_none c.begin-2.new.self c.begin-2.ensures.told) in
+    let told = c.in-Ok.ensures.lists.later.told []
+    (tells_none c.begin-2.new.self c.begin-2.ensures.told) in
     let same = c.in-Ok.ensures.lists.later.same ∙ c.begin.ensures.same in
     let is : is_kept allows names (length s.carousel.objects) ≡ true =
     kept_as_counted allows names old.view s holds.agrees
@@ -126,11 +128,11 @@ returns-clause-looked g c = λ s holds honest.
     first.allows_empty p (g.S.Shelf.gave last.shelf) last.report (fault_of c.look_at_names.result)
     first.files.known.items last.files.known.items)
     (c.in-Ok.ensures.lists.later.same ∙ c.begin.ensures.same)
-    (c.look_at_names.ensures.looked s holds honest)
+    (c.look_at_names.ensures.looked s holds honest).0
 
 pub returns-clause-path : goal.returns-clause-path
 returns-clause-path g c = λ s holds honest.
-    c.look_at_names.ensures.path s holds honest ∙ c.in-Ok.ensures.lists.later.same
+    (c.look_at_names.ensures.looked s holds honest).1 ∙ c.in-Ok.ensures.lists.later.same
     ∙ c.begin.ensures.same
 
 pub returns-then-is_kept-clause-path : goal.returns-then-is_kept-clause-path

@@ -181,26 +181,25 @@ module _ {waiting : ℕ} (types others : List SuffixType) (begins ends : KnownFi
         knows_begins first begins path types unread none,
       )
 
-  -- what is known then
+  -- what is known then, of the path that it began with
   behind : after ≡ names
-      → IsLook types begins.known.items ends.known.items path last names place report waiting answers
-      wanted × KnowsFiles last ends answers
+      → (IsLook types begins.known.items ends.known.items path last names place report waiting answers
+      wanted × KnowsFiles last ends answers) × (other ≡ path)
   behind stays = (
-    subst (λ n. IsLook types begins.known.items ends.known.items path last n place report waiting
-        answers wanted) stays
-        (look_is types others begins.known.items ends.known.items path other last after place report
-        waiting answers wanted told_behind.0),
-    record {
-      passed = told_behind.1.passed;
-      read = told_behind.1.read;
-      refused = told_behind.1.refused.1;
-    },
+    (
+      subst (λ n. IsLook types begins.known.items ends.known.items path last n place report waiting
+          answers wanted) stays
+          (look_is types others begins.known.items ends.known.items path other last after place report
+          waiting answers wanted told_behind.0),
+      record {
+        passed = told_behind.1.passed;
+        read = told_behind.1.read;
+        refused = told_behind.1.refused.1;
+      },
+    ),
+    same_path types others begins.known.items ends.known.items path other last after place report
+        waiting answers ((front types begins.known.items ++ []) ++ wanted) told_behind.0,
   )
-
-  -- it is of the path that it began with
-  path_stays : other ≡ path
-  path_stays = same_path types others begins.known.items ends.known.items path other last after place
-      report waiting answers ((front types begins.known.items ++ []) ++ wanted) told_behind.0
 
 -- the carousel that a server has, with its bodies, has what it has without
 has_now : (view : RepositoryView) (s : Standing) → Agrees view s → (k : Known)
@@ -224,36 +223,6 @@ on_ok : (r : Result Unit Refusal) (P : Type 0) → OnOk r P → IsOk r → P
 on_ok (Ok x) P is ok = is
 on_ok (Err e) P is ok = absurd (cc (ok))
 
-pub returns-in_err-look-clause-path : goal.returns-in_err-look-clause-path
-returns-in_err-look-clause-path g c = λ s holds honest.
-    let source = c.look.new.source in
-    let first = c.args.folder.now in
-    let looks = c.in_err-look.ensures.looked s holds honest in
-    let files = (g.S.Shelf.gave first.shelf).files in
-    path_stays first.types.now source.types.now c.start.new.self source.files
-    (g.S.Shelf.path first.shelf) (g.S.Shelf.path source.shelf)
-    (g.S.Shelf.gave first.shelf) (g.S.Shelf.gave source.shelf) first.names.names.items
-    source.names.names.items source.place c.note_most.new.report source.report
-    looks.0.runs.answers looks.0.wanted c.requires.listed.listing c.requires.listed.unread
-    (c.note_most.ensures.further files
-    (c.note_listed.ensures.further files c.requires.listed.nameless))
-    c.start.ensures.none.0 looks.1
-
-pub returns-clause-path : goal.returns-clause-path
-returns-clause-path g c = λ s holds honest.
-    let source = c.look.new.source in
-    let first = c.args.folder.now in
-    let looks = c.in_ok-look.ensures.looked s holds honest in
-    let files = (g.S.Shelf.gave first.shelf).files in
-    path_stays first.types.now source.types.now c.start.new.self source.files
-    (g.S.Shelf.path first.shelf) (g.S.Shelf.path source.shelf)
-    (g.S.Shelf.gave first.shelf) (g.S.Shelf.gave source.shelf) first.names.names.items
-    source.names.names.items source.place c.note_most.new.report source.report
-    looks.0.runs.answers looks.0.wanted c.requires.listed.listing c.requires.listed.unread
-    (c.note_most.ensures.further files
-    (c.note_listed.ensures.further files c.requires.listed.nameless))
-    c.start.ensures.none.0 looks.1
-
 pub returns-in_err-look-clause-looked : goal.returns-in_err-look-clause-looked
 returns-in_err-look-clause-looked g c = λ s holds honest.
     let state = g.D.Disk.state in
@@ -270,7 +239,7 @@ returns-in_err-look-clause-looked g c = λ s holds honest.
     let seen = take source.place names in
     let looks = c.in_err-look.ensures.looked s holds honest in
     let fault = Some c.in_err-look.field-0.0 in
-    let is = behind types source.types.now c.start.new.self source.files path
+    let all = behind types source.types.now c.start.new.self source.files path
     (g.S.Shelf.path source.shelf) (g.S.Shelf.gave c.args.folder.now.shelf) given names
     source.names.names.items source.place c.note_most.new.report source.report looks.0.runs.answers
     looks.0.wanted c.requires.listed.listing c.requires.listed.unread
@@ -278,22 +247,25 @@ returns-in_err-look-clause-looked g c = λ s holds honest.
     (c.note_listed.ensures.further (g.S.Shelf.gave c.args.folder.now.shelf).files
     c.requires.listed.nameless))
     c.start.ensures.none.0 looks.1 c.in_err-look.ensures.same in
+    let is = all.0 in
     let known = c.args.folder.now.files.known.items in
     let started_so = started known c.start.new.self _ old.view s holds.agrees
     (ap (λ (k : memory.Carousel). k.objects.items) (sym c.carousel-2.ensures.value))
-    c.start.ensures.known in
-    subst (λ (r : Result Unit Refusal). HasLookedAtFolder old new (state old.disk) (state new.disk)
-    s types allows path given source.report (fault_of r) known source.files.known.items)
-    (sym (same_error c.from_residual.result c.in_err-look.field-0.0 c.from_residual.ensures.1))
-    (of_names old new (state old.disk) (state new.disk) s types allows path given source.report names
-    fault known source.files.known.items c.requires.listed.shown is.0.listing updates looks.0 seen
-    (λ none. absurd (cc (none))) (λ without none. cc (none)) is.0.tells
-    (all_on (passed_over known source.files.known.items s.carousel
-    (subst (λ l. AllByRecursion (λ k. Among known k × (has_it s.carousel k ≡ true)) l)
-    (sym is.0.files) started_so)) given.unchanged is.1.passed)
-    (all_on (λ k at. was_known at) source.files.known.items
-    (subst (λ l. AllByRecursion (Among known) l) (sym is.0.files)
-    (all_on (λ k at. at.0) c.start.new.self.known.items started_so))))
+    c.start.ensures.known in (
+      subst (λ (r : Result Unit Refusal). HasLookedAtFolder old new (state old.disk) (state new.disk)
+          s types allows path given source.report (fault_of r) known source.files.known.items)
+          (sym (same_error c.from_residual.result c.in_err-look.field-0.0 c.from_residual.ensures.1))
+          (of_names old new (state old.disk) (state new.disk) s types allows path given source.report names
+          fault known source.files.known.items c.requires.listed.shown is.0.listing updates looks.0 seen
+          (λ none. absurd (cc (none))) (λ without none. cc (none)) is.0.tells
+          (all_on (passed_over known source.files.known.items s.carousel
+          (subst (λ l. AllByRecursion (λ k. Among known k × (has_it s.carousel k ≡ true)) l)
+          (sym is.0.files) started_so)) given.unchanged is.1.passed)
+          (all_on (λ k at. was_known at) source.files.known.items
+          (subst (λ l. AllByRecursion (Among known) l) (sym is.0.files)
+          (all_on (λ k at. at.0) c.start.new.self.known.items started_so)))),
+      all.1,
+    )
 
 pub returns-clause-looked : goal.returns-clause-looked
 returns-clause-looked g c = λ s holds honest.
@@ -309,7 +281,7 @@ returns-clause-looked g c = λ s holds honest.
     let source = c.look.new.source in
     let given = g.S.Shelf.gave source.shelf in
     let looks = c.in_ok-look.ensures.looked s holds honest in
-    let is = behind types source.types.now c.start.new.self source.files path
+    let all = behind types source.types.now c.start.new.self source.files path
     (g.S.Shelf.path source.shelf) (g.S.Shelf.gave c.args.folder.now.shelf) given names
     source.names.names.items source.place c.note_most.new.report source.report looks.0.runs.answers
     looks.0.wanted c.requires.listed.listing c.requires.listed.unread
@@ -317,6 +289,7 @@ returns-clause-looked g c = λ s holds honest.
     (c.note_listed.ensures.further (g.S.Shelf.gave c.args.folder.now.shelf).files
     c.requires.listed.nameless))
     c.start.ensures.none.0 looks.1 c.in_ok-look.ensures.same in
+    let is = all.0 in
     let seen : take source.place names ≡ names =
     take_all source.place names (subst (λ (n : List (List ℕ)). length n ≤ source.place)
     c.in_ok-look.ensures.same c.in_ok-look.ensures.ended) in
@@ -334,15 +307,17 @@ returns-clause-looked g c = λ s holds honest.
     let were : AllByRecursion (λ k. Among known k × (has_it s.carousel k ≡ true))
     source.files.known.items =
     subst (λ l. AllByRecursion (λ k. Among known k × (has_it s.carousel k ≡ true)) l)
-    (sym is.0.files) started_so in
-    listed_whole old new (state old.disk) (state new.disk) s types allows path given report
-    names known c.finish.new.self.known.items c.requires.listed.shown is.0.listing updates looks.0 told
-    (all_on (passed_over known source.files.known.items s.carousel were) given.unchanged is.1.passed)
-    (all_on (comes_from known given source.files looks.0.runs.answers last.carousel
-    new.view.carousel.objects.items
-    (all_on (λ k at. at.0) source.files.known.items were)
-    (has_now new.view last looks.0.runs.run.leaves.agrees) is.1) c.finish.new.self.known.items
-    (subst (λ (k : memory.Carousel). AllByRecursion (IsKept source.files k.objects.items)
-    c.finish.new.self.known.items) c.carousel-3.ensures.value c.finish.ensures))
-    c.end_listed.result c.end_listed.ensures.fault
-    (λ ok. (on_ok c.end_listed.result _ c.end_listed.ensures.whole ok).1)
+    (sym is.0.files) started_so in (
+      listed_whole old new (state old.disk) (state new.disk) s types allows path given report
+          names known c.finish.new.self.known.items c.requires.listed.shown is.0.listing updates looks.0 told
+          (all_on (passed_over known source.files.known.items s.carousel were) given.unchanged is.1.passed)
+          (all_on (comes_from known given source.files looks.0.runs.answers last.carousel
+          new.view.carousel.objects.items
+          (all_on (λ k at. at.0) source.files.known.items were)
+          (has_now new.view last looks.0.runs.run.leaves.agrees) is.1) c.finish.new.self.known.items
+          (subst (λ (k : memory.Carousel). AllByRecursion (IsKept source.files k.objects.items)
+          c.finish.new.self.known.items) c.carousel-3.ensures.value c.finish.ensures))
+          c.end_listed.result c.end_listed.ensures.fault
+          (λ ok. (on_ok c.end_listed.result _ c.end_listed.ensures.whole ok).1),
+      all.1,
+    )
