@@ -1,9 +1,9 @@
-use Rattle.std.proofs.Common.{[], refl}
+use Rattle.std.proofs.Common.{◌∙◌, ◌++◌, ◌∷◌, [], ap, refl}
 use Rattle.mot_folder.specs.Inner.Listing.{Lists, ListsNot, stage}
 use Rattle.mot_folder.proofs.Stages.{lists_kept, lists_not}
 use Rattle.mot_folder.proofs.Unlisted.{none_ok, why_of, why_same}
 use Rattle.mot_folder.proofs.listing.list.Goals as goal
-use Rattle.mot_shelf.specs.Given.{nothing}
+use Rattle.mot_shelf.specs.Given.{Given, nothing}
 
 pub returns-clause-lists : goal.returns-clause-lists
 returns-clause-lists g c =
@@ -47,3 +47,14 @@ returns-in_err-names g c =
           c.in_err-names.ensures;
       gone = none_ok c.from_residual.result _ c.from_residual.ensures.0;
     }
+
+pub returns-clause-gone : goal.returns-clause-gone
+returns-clause-gone g c = λ some. (
+  (g.S.Shelf.gave c.list_names.new.shelf).kept_names,
+  ap (λ (n : Given). n.kept_names) c.in_ok-keep_names.ensures.gave
+      ∙ ap (λ p. (g.S.Shelf.gave c.list_names.new.shelf).kept_names ++ p ∷ [])
+      c.in_ok-names.ensures.later.same,
+)
+
+pub returns-then-count_unknown-eq0-clause-lists : goal.returns-then-count_unknown-eq0-clause-lists
+returns-then-count_unknown-eq0-clause-lists g c = c.in_ok-names.ensures

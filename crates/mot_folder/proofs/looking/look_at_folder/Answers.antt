@@ -142,3 +142,18 @@ returns-then-is_kept-clause-path g c = λ s holds honest.
 pub returns-in-Err-clause-path : goal.returns-in-Err-clause-path
 returns-in-Err-clause-path g c = λ s holds honest.
     c.in-Err.ensures.lists.later.same ∙ c.begin.ensures.same
+
+pub returns-clause-keeps : goal.returns-clause-keeps
+returns-clause-keeps g c = c.look_at_names.ensures.keeps
+
+pub returns-clause-faults : goal.returns-clause-faults
+returns-clause-faults g c = c.look_at_names.ensures.faults
+
+pub returns-clause-whole : goal.returns-clause-whole
+returns-clause-whole g c = c.look_at_names.ensures.whole
+
+pub returns-then-is_kept-clause-whole : goal.returns-then-is_kept-clause-whole
+returns-then-is_kept-clause-whole g c = c.end_kept.ensures.whole
+
+pub returns-in-Err-clause-whole : goal.returns-in-Err-clause-whole
+returns-in-Err-clause-whole g c = c.end_unlisted.ensures.whole
