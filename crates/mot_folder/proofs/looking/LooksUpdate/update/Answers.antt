@@ -142,3 +142,15 @@ returns-clause-run g c = λ s holds honest.
 pub returns-clause-looked : goal.returns-clause-looked
 returns-clause-looked g c = λ due s holds honest.
     c.look_at_folder-result.ensures.looked s holds honest
+
+pub returns-clause-keeps : goal.returns-clause-keeps
+returns-clause-keeps g c = c.look_at_folder-result.ensures.keeps
+
+pub returns-clause-faults : goal.returns-clause-faults
+returns-clause-faults g c = c.look_at_folder-result.ensures.faults
+
+pub returns-clause-listed : goal.returns-clause-listed
+returns-clause-listed g c = λ due. c.turn_over-was_listed.ensures.listed
+
+pub returns-clause-looks : goal.returns-clause-looks
+returns-clause-looks g c = λ due. (c.packets_left-self.ensures, c.note.ensures)
