@@ -321,3 +321,9 @@ returns-clause-looked g c = λ s holds honest.
           (λ ok. (on_ok c.end_listed.result _ c.end_listed.ensures.whole ok).1),
       all.1,
     )
+
+pub returns-in_err-look-clause-keeps : goal.returns-in_err-look-clause-keeps
+returns-in_err-look-clause-keeps g c = c.look.ensures.keeps
+
+pub returns-clause-keeps : goal.returns-clause-keeps
+returns-clause-keeps g c = c.look.ensures.keeps
