@@ -1,5 +1,5 @@
 -- What was told, one after the other.
-use Rattle.std.proofs.Common.{◌≡◌, List, [], ◌∷◌, ◌++◌, ap, subst}
+use Rattle.std.proofs.Common.{List, [], ◌∷◌, ◌++◌, ap, subst}
 use Rattle.mot_events.specs.Told.{Entry, HearsAll}
 use Rattle.mot_events.specs.Told.Entry.{left_out, of}
 use Rattle.mot_events.specs.declared.event.Event.{Event}

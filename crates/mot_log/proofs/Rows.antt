@@ -1,5 +1,5 @@
 -- The definitions, computed on worked rows: the lines of docs/FORMATS.md.
-use Rattle.std.proofs.Common.{◌≡◌, ◌++◌, ◌∷◌, [], None, Some, codes, refl, true}
+use Rattle.std.proofs.Common.{◌≡◌, ◌∷◌, [], None, Some, codes, refl, true}
 use Rattle.std.specs.Fmt.{digits}
 use Rattle.std.specs.Str.{chars, is_utf8}
 use lib.Utf8.{encode}
@@ -7,7 +7,7 @@ use Rattle.mot_log.specs.Counters.{counted, none_counted}
 use Rattle.mot_log.specs.Tally.{level_of, level_text, tally_of_met}
 use Rattle.mot_events.specs.Events.{event_of}
 use Rattle.mot_log.specs.Text.{began_text, line_of, met_line}
-use Rattle.mot_log.specs.Text.{refusal_words, sizes_words, why_words}
+use Rattle.mot_log.specs.Text.{sizes_words, why_words}
 use Rattle.mot_events.specs.declared.event.Deed.TheVariants.{Look, Put, Withdraw}
 use Rattle.mot_events.specs.declared.event.Event.TheVariants.{Stopped}
 use Rattle.mot_events.specs.declared.event.Met.TheVariants.{Done, Gap, Going, Kept, Listed, Refused}

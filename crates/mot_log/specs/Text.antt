@@ -5,10 +5,7 @@ use Rattle.std.specs.Fmt.{decimal}
 use Rattle.mot_events.specs.Events.{asked_word, deed_word, skip_word}
 use Rattle.mot_log.specs.Shown.{shown_name}
 use Rattle.mot_log.specs.Tally.{has_line, level_of, level_text, tally_of}
-use Rattle.mot_events.specs.declared.event.Asked.{Asked}
-use Rattle.mot_events.specs.declared.event.Asked.TheVariants as asked
 use Rattle.mot_events.specs.declared.event.Deed.{Deed}
-use Rattle.mot_events.specs.declared.event.Deed.TheVariants as deed
 use Rattle.mot_events.specs.declared.event.Event.{Event}
 use Rattle.mot_events.specs.declared.event.Event.TheVariants as event
 use Rattle.mot_events.specs.declared.event.LookEvent.{LookEvent}
@@ -16,8 +13,6 @@ use Rattle.mot_events.specs.declared.event.Met.{Met}
 use Rattle.mot_events.specs.declared.event.Met.TheVariants as met
 use Rattle.mot_events.specs.declared.event.Reply.{Reply}
 use Rattle.mot_events.specs.declared.event.Reply.TheVariants as reply
-use Rattle.mot_events.specs.declared.event.Skip.{Skip}
-use Rattle.mot_events.specs.declared.event.Skip.TheVariants as skip
 use Rattle.mot_events.specs.declared.event.Why.{Why}
 use Rattle.mot_events.specs.declared.event.Why.TheVariants as why
 use Rattle.mot_log.specs.declared.tally.Tally.{Tally}

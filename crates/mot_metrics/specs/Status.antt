@@ -1,5 +1,5 @@
 -- The status of a carousel on air, in the text format of Prometheus.
-use Rattle.std.specs.Prelude.{ℕ, ◌==◌, ◌&&◌, Bool, true, false, not}
+use Rattle.std.specs.Prelude.{ℕ, ◌==◌, ◌&&◌, Bool, false}
 use Rattle.std.specs.Prelude.{if◌then◌else◌, List, [], ◌∷◌, ◌++◌, bytes_eq, flat_map, codes, length}
 use Rattle.std.specs.Fmt.{decimal}
 use Rattle.std.specs.List.{list_any, slice_index}
@@ -8,7 +8,6 @@ use Rattle.mot_events.specs.Events.{deed_word, is_listed, is_look}
 use Rattle.mot_log.specs.Text.{reason_words, refusal_words}
 use Rattle.mot_log.specs.declared.counters.Counters.{Counters}
 use Rattle.mot_events.specs.declared.event.Deed.{Deed}
-use Rattle.mot_events.specs.declared.event.Deed.TheVariants as deed
 use Rattle.mot_events.specs.declared.event.LookEvent.{LookEvent}
 use Rattle.mot_events.specs.declared.event.Met.{Met}
 use Rattle.mot_events.specs.declared.event.Met.TheVariants as met
