@@ -16,7 +16,9 @@ pub struct Table<T: Drop> {
 
 impl<T: Drop> Table<T> {
     /// Nothing is open.
-    pub fn new(alloc: Global) -> Table<T> {
+    pub fn new(alloc: Global) -> Table<T>
+        ensures { (place : ℕ) → held result place ≡ None }
+    {
         Table {
             places: Vec::new(alloc),
         }
@@ -25,10 +27,10 @@ impl<T: Drop> Table<T> {
     /// Gives what was opened a handle that stood for nothing. The other handles stay as they are.
     pub fn keep(&mut self, opened: T) -> Result<Handle, Fault>
         ensures { MatchResult result
-            (λ handle. (held self.old.places.items handle.slot ≡ None)
-            × (held self.new.places.items handle.slot ≡ Some opened)
-            × ((other : ℕ) → other ≢ handle.slot → held self.new.places.items other ≡ held self.old.places.items other))
-            (λ _. self.new.places.items ≡ self.old.places.items) }
+            (λ handle. (held self.old handle.slot ≡ None)
+            × (held self.new handle.slot ≡ Some opened)
+            × ((other : ℕ) → other ≢ handle.slot → held self.new other ≡ held self.old other))
+            (λ _. (other : ℕ) → held self.new other ≡ held self.old other) }
     {
         if let Some(at) = self.free() {
             self.places[at] = Some(opened);
@@ -55,7 +57,7 @@ impl<T: Drop> Table<T> {
 
     /// What the handle stands for.
     pub fn get(&self, handle: Handle) -> Option<&T>
-        ensures { option_copied result ≡ held self.now.places.items handle.slot }
+        ensures { option_copied result ≡ held self.now handle.slot }
     {
         match self.places.get(handle.slot as usize) {
             Some(Some(open)) => Some(open),
@@ -65,7 +67,7 @@ impl<T: Drop> Table<T> {
 
     /// What the handle stands for.
     pub fn get_mut(&mut self, handle: Handle) -> Option<&mut T>
-        ensures { option_copied_mut result ≡ held self.old.places.items handle.slot }
+        ensures { option_copied_mut result ≡ held self.old handle.slot }
     {
         match self.places.get_mut(handle.slot as usize) {
             Some(Some(open)) => Some(open),
@@ -75,9 +77,9 @@ impl<T: Drop> Table<T> {
 
     /// The handle stands for nothing.
     pub fn close(&mut self, handle: Handle)
-        ensures nothing { held self.new.places.items handle.slot ≡ None }
+        ensures nothing { held self.new handle.slot ≡ None }
         ensures others { (other : ℕ) → other ≢ handle.slot
-            → held self.new.places.items other ≡ held self.old.places.items other }
+            → held self.new other ≡ held self.old other }
     {
         if let Some(place) = self.places.get_mut(handle.slot as usize) {
             *place = None;
