@@ -120,12 +120,6 @@ module _ (view : RepositoryView) (s : Standing) (state : State) (sound : IsHones
   pub folds : IsOk (catalogue_of g.objects records)
   folds = subst IsOk (sym of.fold) refl
 
--- where no call is made, a crash leaves no magic
-pub none_yet : (g : Geometry) (after : Option ℕ) (s : Standing) (old : State)
-    → IsHonestDisk old → NoneLeft old → Throughout old old (NoneOrCopyOf g after s)
-none_yet g after s old sound none =
-    begins old (NoneOrCopyOf g after s) sound (λ c left. inl (none c left))
-
 -- ---- the bytes after the data area
 
 module _ (g : Geometry) (old : State) where

@@ -1,15 +1,15 @@
 -- What writes of bodies leave on the new disk, and which disk failed.
 use Rattle.std.proofs.Common.{◌≡◌, ℕ, zero, suc, ◌+◌, ◌-◌, ◌<◌, ◌≤◌, List, [], ◌∷◌, ◌++◌, length, take}
-use Rattle.std.proofs.Common.{drop, slice_range, sym, ap, ◌∙◌, subst, arith, inl, inr}
+use Rattle.std.proofs.Common.{drop, slice_range, sym, ap, ◌∙◌, subst, arith, inl}
 use Rattle.std.proofs.Common.{⊎_elim, append-nil, append_assoc}
 use Rattle.std.proofs.Math.Nat.{eq-or-lt_of_le}
 use Rattle.std.proofs.Math.Seq.{take-add}
 use Rattle.std.proofs.lemmas.List.{drop-drop, length-take, take_all}
 use Rattle.std.proofs.lemmas.List.Sums.{sum_by_more, sum_by_more_le}
-use Rattle.disk_model.specs.Disk.{State, AgreeOutside, IsHonestDisk, WritesWithin, Torn, Keeps}
+use Rattle.disk_model.specs.Disk.{State, AgreeOutside, IsHonestDisk, WritesWithin, Torn}
 use Rattle.disk_model.specs.Failures.{Rises}
-use Rattle.disk_model.proofs.Laws.{agree_refl, agree_trans, agree_more, begins, goes_on, joins}
-use Rattle.disk_model.proofs.Laws.{at_end, keeps_none}
+use Rattle.disk_model.proofs.Laws.{agree_trans, agree_more, goes_on, joins}
+use Rattle.disk_model.proofs.Laws.{at_end}
 use Rattle.mot_copying.specs.declared.copying.NotCopied.{NotCopied}
 use Rattle.mot_copying.specs.Inner.Steps.{ChangesOnly, IsFault, unreadable, device}
 use Rattle.mot_journal.proofs.Laws.{part}
@@ -18,18 +18,7 @@ use Rattle.mot_numbers.specs.Geometry.{area_start}
 use Rattle.mot_repository.specs.Copy.{bytes_in_row, bytes_of_extents}
 use Rattle.mot_repository.specs.OnDisk.{extent_at, body_on}
 
--- where no call is made, a disk keeps all
-pub keeps_as_is : (state : State) → Keeps state state
-keeps_as_is state = record { frame = keeps_none state; honest = λ is. is }
-
 module _ (start len : ℕ) (old : State) where
-  -- a disk that is left as it is changes within any range at most
-  pub changes_nothing : IsHonestDisk old → ChangesOnly start len old old
-  changes_nothing sound = record {
-    bytes = agree_refl start len old.bytes;
-    time = begins old (Torn start len old) sound (λ c left. (c, left, agree_refl start len c));
-  }
-
   module _ (mid : State) (sound : IsHonestDisk mid) (so_far : ChangesOnly start len old mid) where
     torn-on : (at n : ℕ) → start ≤ at → at + n ≤ start + len → (c : List ℕ) → Torn at n mid c
         → Torn start len old c
@@ -124,10 +113,6 @@ rises_on : (start mid now : ℕ) → start ≤ mid → mid ≤ now → Rises mid
 rises_on start mid now le later rises =
     ⊎_elim (λ e. subst (λ n. Rises n now) (sym e) rises) (λ lt. inl (omega (arith, lt, later)))
     (eq-or-lt_of_le le)
-
-rises_more : (start mid now : ℕ) → mid ≤ now → Rises start mid → Rises start now
-rises_more start mid now later rises =
-    ⊎_elim (λ lt. inl (omega (arith, lt, later))) (λ e. inr e) rises
 
 -- a fault in the later part of a time is one of the whole
 pub fault_on : {why : NotCopied} (d e d1 e1 d' e' : ℕ) → d ≤ d1 → d1 ≤ d' → e ≤ e1 → e1 ≤ e'

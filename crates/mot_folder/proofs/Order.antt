@@ -1,6 +1,6 @@
 -- Names in their order, and one more in its place.
 use Rattle.std.proofs.Common.{◌≡◌, ◌∙◌, ◌<◌, ◌≤◌, ◌+◌, ℕ, zero, suc, Bool, true, false, not}
-use Rattle.std.proofs.Common.{List, [], ◌∷◌, Some, ap, arith, cond, length, nat_eq, refl}
+use Rattle.std.proofs.Common.{List, [], ◌∷◌, Some, ap, arith, cond, length, refl}
 use Rattle.std.proofs.Common.{subst, sym, inl, inr}
 use Rattle.std.proofs.Math.Nat.{eq-or-lt_of_le}
 use Rattle.std.proofs.lemmas.Bool.{and_parts, and_from, or_parts, or_from, not-true, not_from_false}
@@ -11,7 +11,7 @@ use Rattle.std.proofs.lemmas.Cmp.{same_from_slice_cmp_tested}
 use Rattle.std.specs.Cmp.Lexicographic.{slice_partial_cmp}
 use Rattle.std.specs.List.{insert}
 use Rattle.std.specs.Ordering.{is_lt, is_some_and, nat_cmp}
-use Rattle.std.specs.Prelude.{◌⊎◌, ◌&&◌, bytes_eq, nat_lt, slice_get}
+use Rattle.std.specs.Prelude.{◌⊎◌, bytes_eq, slice_get}
 use Rattle.mot_folder.specs.Listed.{and_in_order, stands_before}
 use Rattle.mot_objects.specs.Carousel.{are_names_distinct}
 use Rattle.mot_suffixes.specs.Types.{AreShown, is_hidden}
@@ -25,57 +25,7 @@ pub is_first : (xs ys : List ℕ) (r : Bool)
 is_first = same_from_slice_cmp_tested nat_cmp is_lt stands_before refl (λ _ _. refl) (λ _ _. refl)
     (λ x y xs ys o h. grind (arith, nat_tests))
 
-turned-cases : (x y : ℕ) (xs ys : List ℕ) → (stands_before xs ys ≡ true → stands_before ys xs ≡ false)
-    → cond (nat_eq x y) (stands_before xs ys) (nat_lt x y) ≡ true
-    → cond (nat_eq y x) (stands_before ys xs) (nat_lt y x) ≡ false
-turned-cases x y xs ys rest e = grind (arith, nat_tests, rest, e)
-
-turned : (xs ys : List ℕ) → stands_before xs ys ≡ true → stands_before ys xs ≡ false
-turned [] [] e = absurd (cc (e))
-turned [] (y ∷ ys) e = refl
-turned (x ∷ xs) [] e = absurd (cc (e))
-turned (x ∷ xs) (y ∷ ys) e = turned-cases x y xs ys (turned xs ys) e
-
 -- ---- names in order, and one more
-
--- no name stands before the one in front of it
-abbrev pub begins_behind : List ℕ → List (List ℕ) → Bool
-begins_behind name [] = true
-begins_behind name (other ∷ names) = not (stands_before other name)
-
-abbrev pub are_in_order : List (List ℕ) → Bool
-are_in_order [] = true
-are_in_order (name ∷ names) = begins_behind name names && are_in_order names
-
-first-cases : (b : Bool) (other n m : List ℕ) (names : List (List ℕ))
-    → stands_before n other ≡ false → not (stands_before m other) ≡ true
-    → begins_behind other (cond b (n ∷ m ∷ names) (m ∷ and_in_order names n)) ≡ true
-first-cases true other n m names e f = not_from_false _ e
-first-cases false other n m names e f = f
-
-first : (other n : List ℕ) (names : List (List ℕ)) → stands_before n other ≡ false
-    → begins_behind other names ≡ true → begins_behind other (and_in_order names n) ≡ true
-first other n [] e f = not_from_false _ e
-first other n (m ∷ names) e f = first-cases (stands_before n m) other n m names e f
-
-order-cases : (b : Bool) (n other : List ℕ) (names : List (List ℕ)) → stands_before n other ≡ b
-    → are_in_order (other ∷ names) ≡ true → are_in_order (and_in_order names n) ≡ true
-    → are_in_order (cond b (n ∷ other ∷ names) (other ∷ and_in_order names n)) ≡ true
-order-cases true n other names e all rest =
-    and_from (begins_behind n (other ∷ names)) (are_in_order (other ∷ names))
-    (not_from_false _ (turned n other e)) all
-order-cases false n other names e all rest =
-    let parts = and_parts (begins_behind other names) (are_in_order names) all in
-    and_from (begins_behind other (and_in_order names n)) (are_in_order (and_in_order names n))
-    (first other n names e parts.0) rest
-
--- names in order and one more in its place are in order
-pub stays_in_order : (names : List (List ℕ)) (n : List ℕ) → are_in_order names ≡ true
-    → are_in_order (and_in_order names n) ≡ true
-stays_in_order [] n all = refl
-stays_in_order (other ∷ names) n all =
-    order-cases (stands_before n other) n other names refl all
-    (stays_in_order names n (and_parts (begins_behind other names) (are_in_order names) all).1)
 
 -- its place is the first one whose name it stands before
 pub in_its_place : (names : List (List ℕ)) (n : List ℕ) (i : ℕ) → i ≤ length names

@@ -14,9 +14,8 @@ use Rattle.mot_folder.specs.Looked.{IsUnlisted}
 use Rattle.mot_folder.specs.declared.listing.TheConstants.{MAX_NAMES}
 use Rattle.mot_numbers.specs.declared.refusal.Refusal.{Refusal}
 use Rattle.mot_numbers.specs.declared.refusal.Refusal.TheVariants.{TooManyObjects}
-use Rattle.mot_folder.proofs.Order.{are_in_order, stays_in_order}
 use Rattle.mot_folder.specs.Listed.{AreEither, IsListing, and_in_order, and_object, and_objects}
-use Rattle.mot_folder.specs.Listed.{has_type, object_names}
+use Rattle.mot_folder.specs.Listed.{has_type}
 use Rattle.mot_folder.specs.Listed.{names_in, with_type}
 use Rattle.mot_folder.specs.Listed.AreEither.{no_name, one_first, one_other}
 use Rattle.mot_objects.proofs.Laws.{name_is, name_true}
@@ -52,23 +51,6 @@ object_left_out names n none =
     ap (λ t. cond (t && not (is_known names n)) (and_in_order names n) names)
     (sym (false_from_ne_true (is_name MAX_NAME n)
     (λ is. none (name_is MAX_NAME n (omega arith) is))))
-
-one_in_order : (b : Bool) (names : List (List ℕ)) (file : List ℕ) → are_in_order names ≡ true
-    → are_in_order (cond b (and_in_order names file) names) ≡ true
-one_in_order true names file ordered = stays_in_order names file ordered
-one_in_order false names file ordered = ordered
-
--- names of objects are in their order
-objects-ordered : (names files : List (List ℕ)) → are_in_order names ≡ true
-    → are_in_order (and_objects names files) ≡ true
-objects-ordered names [] ordered = ordered
-objects-ordered names (file ∷ files) ordered =
-    objects-ordered (and_object names file) files
-    (one_in_order (is_name MAX_NAME file && not (is_known names file)) names file ordered)
-
--- so the names of objects that are listed are
-pub listed_in_order : (files : List (List ℕ)) → are_in_order (object_names files) ≡ true
-listed_in_order files = objects-ordered [] files refl
 
 module _ (types : List SuffixType) (name : List ℕ) where
   one_typed : (t : Bool) → has_type types name ≡ t → with_type types (name ∷ []) ≡ cond t (name ∷ []) []

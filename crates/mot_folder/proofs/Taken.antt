@@ -361,15 +361,6 @@ module _ (types : List SuffixType) where
   misses_so on (was_refused bytes stamp is why) = was_refused bytes stamp is (why_so on why)
   misses_so on (was_unkept bytes stamp is) = was_unkept bytes stamp is
 
-  -- nothing happens
-  pub of_same : (g : Given) (report : Report) (waiting : ℕ) (names : List (List ℕ))
-      → TellsBoth (TellsOf types g report waiting names) (TellsOf types g report waiting names) [] []
-  of_same g report waiting names = λ given answers was.
-      subst (λ (l : List Wanted). TellsOf types g report waiting names (answers ++ []) l)
-      (sym (append-nil given))
-      (subst (λ (l : List Answer). TellsOf types g report waiting names l given)
-      (sym (append-nil answers)) was)
-
   -- an answer to a command is told
   told_one : (g : Given) (old new : Report) (waiting : ℕ) (names : List (List ℕ)) (answer : Answer)
       (last : LookEvent) → names_read (last ∷ []) ≡ [] → is_read last ≡ false

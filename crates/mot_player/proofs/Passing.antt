@@ -15,7 +15,7 @@ use Rattle.mot_numbers.specs.Reading.{is_empty}
 use Rattle.mot_player.specs.Course.{CourseView, Entity, directory_from, entities_of, entity_in}
 use Rattle.mot_player.specs.Course.{queued, segments_from, segments_in, waiting_of}
 use Rattle.mot_player.specs.Inner.Course.{due_of, due_with, has_ended, has_ended_with, passed}
-use Rattle.mot_player.specs.Inner.Course.{ended_course, heard_course, passed_with, whole_course}
+use Rattle.mot_player.specs.Inner.Course.{heard_course, passed_with, whole_course}
 use Rattle.mot_player.specs.PlayerView.{AreBodiesFor, TurnPlan, turn_with}
 use Rattle.mot_player.specs.Inner.Entities.{IsInside, IsOnCourse, IsPlannable, IsWithinTurn}
 use Rattle.mot_player.specs.Inner.Entities.{entity_bytes, entity_length, entity_tid}
@@ -531,25 +531,6 @@ on-whole plan size p = record {
   within = first-body plan size p;
 }
 
-pub on-ended : (plan : TurnPlan) (size count : ℕ) → count ≡ length plan.bodies + 1 →
-    IsOnCourse plan size (ended_course count)
-on-ended plan size count e = record {
-  directory = tt;
-  queue = tt;
-  body = omega (arith, e);
-  within = inr (e, refl);
-}
-
-heard-cases : (plan : TurnPlan) (size : ℕ) (c : CourseView) (b : Bool) → IsPlannable plan →
-    IsOnCourse plan size c → IsOnCourse plan size (if b then c else record c { directory = Some 0 })
-heard-cases plan size c true p on = on
-heard-cases plan size c false p on = record {
-  directory = within-first plan size p;
-  queue = on.queue;
-  body = on.body;
-  within = on.within;
-}
-
 heard-queue-cases : (c : CourseView) (b : Bool) →
     (if b then c else record c { directory = Some 0 }).queue ≡ c.queue
 heard-queue-cases c true = refl
@@ -558,10 +539,6 @@ heard-queue-cases c false = refl
 -- a directory that is asked for leaves the queue
 pub heard-queue : (count : ℕ) (c : CourseView) → (heard_course count c).queue ≡ c.queue
 heard-queue count c = heard-queue-cases c (has_ended count c)
-
-pub on-heard : (plan : TurnPlan) (size count : ℕ) (c : CourseView) → IsPlannable plan →
-    IsOnCourse plan size c → IsOnCourse plan size (heard_course count c)
-on-heard plan size count c p on = heard-cases plan size c (has_ended count c) p on
 
 -- of a directory's segments none is a body's, and of a body's each
 none-of_directory : (tid n s : ℕ) (ps : List (List ℕ)) →

@@ -1,5 +1,5 @@
 -- What a whole reply shows of the line that it answers.
-use Rattle.std.proofs.Common.{◌≡◌, inl, inr, ℕ, zero, suc, ◌+◌, ◌-◌, ◌*◌, ◌<◌}
+use Rattle.std.proofs.Common.{◌≡◌, inl, inr, ℕ, zero, suc, ◌+◌, ◌-◌, ◌*◌}
 use Rattle.std.proofs.Common.{◌/◌, ◌%◌}
 use Rattle.std.proofs.Common.{Bool, true, false, List, [], ◌∷◌, ◌++◌, length, map, Option, Some}
 use Rattle.std.proofs.Common.{None}
@@ -86,9 +86,6 @@ space-endless = tested (codes " ") (refl, tt)
 
 field-endless : (n : ℕ) → HasNoLineEnd (field n)
 field-endless n = joined (decimal n) (codes " ") (number-endless n) space-endless
-
-no-end : (b : ℕ) → 32 < b → nat_eq b 10 ≡ false
-no-end b h = grind (arith, nat_tests)
 
 name-endless : (name : List ℕ) → IsName name → HasNoLineEnd name
 name-endless name is =

@@ -24,12 +24,6 @@ tells_trans a b c xs ys p q = λ told was.
 pub tells_nil : (a : List Answer → Type 0) → TellsMore a a []
 tells_nil a = λ told was. subst a (sym (append-nil told)) was
 
--- nothing more was told
-pub tells_kept : (a b c : List Answer → Type 0) (xs : List Answer) → TellsMore a b xs
-    → TellsMore b c []
-    → TellsMore a c xs
-tells_kept a b c xs p q = subst (TellsMore a c) (append-nil xs) (tells_trans a b c xs [] p q)
-
 -- nothing was told before
 pub tells_on : (a b c : List Answer → Type 0) (xs : List Answer) → TellsMore a b []
     → TellsMore b c xs

@@ -1,12 +1,10 @@
 -- Faults of calls one after the other.
-use Rattle.std.proofs.Common.{◌≡◌, ◌∙◌, ◌⊎◌, inl, inr, Result, Ok, Err, refl, sym, ap, subst}
+use Rattle.std.proofs.Common.{◌≡◌, ◌∙◌, ◌⊎◌, inl, inr, Result, Ok, Err, refl, sym, subst}
 use Rattle.std.specs.Prelude.{IfErr, MatchResult, OnOk, IsTrue, IsFalse}
 use Rattle.disk_model.specs.Disk.{State}
 use Rattle.disk_model.specs.Failures.{Rises}
 use Rattle.mot_numbers.specs.declared.refusal.Refusal.{Refusal}
 use Rattle.mot_numbers.specs.declared.refusal.Refusal.TheVariants.{DeviceFault, Halted, OutOfMemory}
-use Rattle.mot_playout.specs.Playing.{IsReadRefusal}
-use Rattle.mot_playout.specs.Playing as reading
 use Rattle.mot_playout.specs.RunEnds.{IsRunFault}
 use Rattle.mot_playout.specs.RunEnds as run
 use Rattle.mot_playout.specs.Server.{ServerView}
@@ -48,14 +46,6 @@ module _ {D : Type 0} where
       calm_on old mid new start between now calm tells
   tells_on old mid new start between now (Err refusal) calm tells =
       fault_on old mid start between now refusal calm tells
-
-  -- what a call that only reads is refused for
-  pub unread : (state : D → State) (old new : ServerView D) (refusal : Refusal)
-      → IsReadRefusal old new (state old.disk).failures (state new.disk).failures refusal
-      → IsUpdateFault old (state old.disk) (state new.disk) refusal
-  unread state old new refusal (reading.halted is e same) =
-      fault.halted is e (ap (λ (v : ServerView D). (state v.disk).failures) same)
-  unread state old new refusal (reading.failed is e rises) = fault.device is e rises
 
   undone : (old new : ServerView D) (start now : State) (refusal : Refusal)
       → (refusal ≡ DeviceFault) ⊎ (now.failures ≡ start.failures)
