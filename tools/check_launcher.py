@@ -254,7 +254,7 @@ def twenty_unproved_starts_at_once(clone):
 def the_last_crates_in_a_run_of_their_own(clone):
     status, printed, said = clone.run("serve", "disk", MOTCAR_BUILD="proved", CHAIN="yes", CORES="4")
     expect((0, "proved serve disk\n"), (status, printed))
-    expect_in("which takes 20 to 30 minutes on four cores\n", said)
+    expect_in("which takes 15 to 30 minutes on four cores\n", said)
     expect(["ci mot_numbers", "ci"], clone.calls("ci"))
 
 
