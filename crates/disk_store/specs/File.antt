@@ -1,6 +1,6 @@
 -- A file as a disk.
 use Rattle.std.specs.declared.io.Error.{Error}
-use Rattle.std.specs.Prelude.{◌≡◌, ◌⊎◌, List, Option, IsTrue, IsFalse, IsSome, IsOk, IsErr, Result}
+use Rattle.std.specs.Prelude.{◌≡◌, ◌⊎◌, Bool, List, Option, IsTrue, IsFalse, IsSome, IsOk, IsErr, Result}
 use Rattle.disk_model.specs.Failures.{most_failures}
 use Rattle.disk_model.specs.declared.disk.DiskFault.{DiskFault}
 use Rattle.disk_model.specs.Disk.{State}
@@ -8,12 +8,21 @@ use Rattle.disk_store.specs.Content.{Content, replayed_state}
 use Rattle.disk_store.specs.Calls.{Call, after_call, content_after, no_content, AreRight}
 use Rattle.disk_store.specs.declared.file.start.Start.{Ghosts}
 use Rattle.disk_store.specs.declared.file.FileDiskFrom.{FileDiskFrom}
+use Rattle.disk_store.specs.declared.file.system.HeldFile.{HeldFile}
+
+-- the calls on a file that is held, with their answers
+abbrev pub held_calls : HeldFile → List Call
+held_calls file = file.history.calls
+
+-- why the first of them that failed did so
+abbrev pub held_fault : HeldFile → Option Error
+held_fault file = file.fault
 
 -- a file that held these bytes as it was opened
 module _ {S : Type 0} {start : Ghosts S} where
   -- the calls so far, with their answers
   abbrev pub calls_on : FileDiskFrom S start → List Call
-  calls_on disk = disk.file.history.calls
+  calls_on disk = held_calls disk.file
 
   -- what a file of the model holds after the calls so far
   abbrev pub file_content : FileDiskFrom S start → Content
@@ -28,15 +37,18 @@ module _ {S : Type 0} {start : Ghosts S} where
 
   -- why the first call of the system that failed did so
   abbrev pub fault_on : FileDiskFrom S start → Option Error
-  fault_on disk = disk.file.fault
+  fault_on disk = held_fault disk.file
 
-  -- no sync of it has failed
+  -- whether no sync of it has failed
+  abbrev pub can_sync : FileDiskFrom S start → Bool
+  can_sync disk = disk.can_sync
+
   abbrev pub CanSync : FileDiskFrom S start → Type 0
-  CanSync disk = IsTrue disk.can_sync
+  CanSync disk = IsTrue (can_sync disk)
 
   -- a sync of it has failed, and each later one fails
   abbrev pub HasFailedSync : FileDiskFrom S start → Type 0
-  HasFailedSync disk = IsFalse disk.can_sync
+  HasFailedSync disk = IsFalse (can_sync disk)
 
   -- Why the first call of the system that failed did so is kept. A call on a disk that fails calls
   -- the system, unless a sync failed before, or the count of failures is the greatest.

@@ -1,10 +1,12 @@
 -- The second of two files, as a task leaves it.
 use Rattle.std.specs.declared.io.Error.{Error}
-use Rattle.std.specs.Prelude.{ℕ, Bool, List, Option}
+use Rattle.std.specs.Prelude.{◌≡◌, ℕ, Bool, List, Option}
 use Rattle.disk_model.specs.Disk.{State}
 use Rattle.disk_store.specs.Beginning.{HasBegun, IsSinceMade, IsSinceOpened}
 use Rattle.disk_store.specs.Calls.{AreRight, Call, after_call, content_after, no_content}
 use Rattle.disk_store.specs.Content.{replayed_state}
+use Rattle.disk_store.specs.File.{held_calls, held_fault}
+use Rattle.disk_store.specs.declared.file.FileDiskFrom.{FileDiskFrom}
 use Rattle.disk_store.specs.declared.file.SecondDisk.{SecondDisk}
 use Rattle.disk_store.specs.declared.file.start.Start.{Ghosts}
 
@@ -12,7 +14,7 @@ use Rattle.disk_store.specs.declared.file.start.Start.{Ghosts}
 module _ {S : Type 0} {start : Ghosts S} where
   -- the calls so far, with their answers
   abbrev pub second_calls : SecondDisk S start → List Call
-  second_calls disk = disk.file.history.calls
+  second_calls disk = held_calls disk.file
 
   -- all that contracts know of it as a disk
   abbrev pub second_state : SecondDisk S start → State
@@ -22,7 +24,13 @@ module _ {S : Type 0} {start : Ghosts S} where
 
   -- why the first call of the system that failed did so
   abbrev pub second_fault : SecondDisk S start → Option Error
-  second_fault disk = disk.file.fault
+  second_fault disk = held_fault disk.file
+
+  -- it is what this disk was after its last call: its file, and its counts of failures and calls
+  abbrev pub IsLeftOf : {T : Type 0} {begun : Ghosts T} → SecondDisk S start → FileDiskFrom T begun
+      → Type 0
+  IsLeftOf second disk =
+      (second.file ≡ disk.file) × (second.failures ≡ disk.failures) × (second.calls ≡ disk.calls)
 
   -- it was made, or opened
   abbrev pub HasSecondCalls : Bool → SecondDisk S start → Type 0

@@ -6,10 +6,16 @@ use Rattle.mot_journal.specs.Image.{Standing}
 use Rattle.mot_journal.specs.declared.layout.Layout.TheVariants.{Two}
 use Rattle.mot_numbers.specs.declared.refusal.Refusal.{Refusal}
 use Rattle.mot_numbers.specs.declared.refusal.Refusal.TheVariants.{OutOfMemory, DeviceFault, Halted}
+use Rattle.mot_objects.specs.declared.carousel.Carousel.{Carousel}
 use Rattle.mot_objects.specs.declared.command.Command.{Command}
 use Rattle.mot_objects.specs.declared.command.Done.{Done}
 use Rattle.mot_repository.specs.Outcome.{after_command, has_long_name}
 use Rattle.mot_repository.specs.Repository.{RepositoryView, Agrees}
+use Rattle.mot_repository.specs.declared.prepared.Prepared.{Prepared}
+
+-- the carousel after a change that was worked out
+abbrev pub carousel_after : Prepared → Carousel
+carousel_after prepared = prepared.inventory.carousel
 
 -- Why a command is refused before anything is written: the repository is halted; whatever the
 -- bodies are, the command, whose name has room in layout 2, comes to this refusal; or memory is

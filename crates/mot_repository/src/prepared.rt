@@ -1,11 +1,11 @@
 //! A command for which all memory was taken, and nothing was written.
-ghost use Rattle.std.specs.Prelude.{◌≡◌, ◌≤◌, ◌+◌, true, false, IsTrue, IsFalse, OnOk, IfOk, IfErr, Ok};
+ghost use Rattle.std.specs.Prelude.{◌≡◌, ◌+◌, true, false, IsTrue, IsFalse, OnOk, IfOk, IfErr, Ok};
 ghost use Rattle.std.specs.Prelude.{if◌then◌else◌, is_ok};
 ghost use Rattle.std.specs.Result.{result_and};
 ghost use Rattle.mot_journal.specs.declared.layout.Layout.TheVariants.{Two};
 ghost use Rattle.mot_numbers.specs.Geometry as Sizes;
 ghost use Rattle.mot_numbers.specs.Geometry.{is_valid};
-ghost use Rattle.mot_repository.specs.Answers.{IsRefusal};
+ghost use Rattle.mot_repository.specs.Answers.{IsRefusal, carousel_after};
 ghost use Rattle.mot_repository.specs.Inner.Extents.{catalogue_with};
 ghost use Rattle.mot_repository.specs.Inner.Whole.{IsWhole};
 ghost use Rattle.mot_repository.specs.Records.{records_of_catalogue};
@@ -48,7 +48,7 @@ pub struct Prepared<'a> {
 impl Prepared<'_> {
     /// The carousel after the change.
     pub fn next(&self) -> &Carousel
-        ensures { result.now ≡ self.now.inventory.carousel }
+        ensures { result.now ≡ carousel_after self.now }
     {
         &self.inventory.carousel
     }

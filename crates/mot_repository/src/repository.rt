@@ -61,7 +61,7 @@ impl<D: Disk> Repository<D> {
     ghost use Rattle.mot_journal.specs.Journal.{StandsWhere};
     ghost use Rattle.mot_journal.specs.Slot.{slot_count};
     ghost use Rattle.mot_repository.specs.Answers.{IsRefusal, IsChanged, IsAnswered};
-    ghost use Rattle.mot_repository.specs.Answers.{IsHalted, IsMigrationRefusal};
+    ghost use Rattle.mot_repository.specs.Answers.{IsHalted, IsMigrationRefusal, carousel_after};
     ghost use Rattle.mot_repository.specs.Copy.{CopiesAreSound};
     ghost use Rattle.mot_repository.specs.Cost.{calls_of_command};
     ghost use Rattle.mot_repository.specs.Extents.{ArePaired};
@@ -251,7 +251,7 @@ impl<D: Disk> Repository<D> {
         ensures halted { OnErr result (IsHalted self.old.view self.new.view) }
         ensures changed { (command : Command) → IsPrepared self.old.view command prepared.entry
             → IfOk result (λ done. IsChanged self.old.view command done self.new.view) }
-        ensures kept { OnOk result (self.new.view.carousel ≡ prepared.entry.inventory.carousel) }
+        ensures kept { OnOk result (self.new.view.carousel ≡ carousel_after prepared.entry) }
 
         // At each moment a crash leaves what the disk stood for before the command, or what it
         // stands for after it.

@@ -14,7 +14,7 @@ use crate::{Disk, DiskFault};
 
 impl<S: Start> Disk for FileDiskFrom<S> {
     ghost use Rattle.disk_store.specs.File.{file_state, calls_on, CanSync, HasFailedSync};
-    ghost use Rattle.disk_store.specs.File.{KeepsFault};
+    ghost use Rattle.disk_store.specs.File.{KeepsFault, can_sync};
     ghost use Rattle.disk_store.specs.FileSound.{file_sound};
 
     ghost state = { file_state };
@@ -46,7 +46,7 @@ impl<S: Start> Disk for FileDiskFrom<S> {
             ⊎ ((calls_on self.new ≡ calls_on self.old)
             × ((file_state self.old).failures ≡ most_failures))) }
         ensures first { KeepsFault self.old self.new result }
-        ensures syncs { self.new.can_sync ≡ self.old.can_sync }
+        ensures syncs { can_sync self.new ≡ can_sync self.old }
         ensures all { LeavesAll (file_state self.new) }
     {
         self.calls.raise();
@@ -85,7 +85,7 @@ impl<S: Start> Disk for FileDiskFrom<S> {
             ⊎ ((calls_on self.new ≡ calls_on self.old)
             × ((file_state self.old).failures ≡ most_failures))) }
         ensures first { KeepsFault self.old self.new result }
-        ensures syncs { self.new.can_sync ≡ self.old.can_sync }
+        ensures syncs { can_sync self.new ≡ can_sync self.old }
         ensures all { LeavesAll (file_state self.new) }
     {
         self.calls.raise();

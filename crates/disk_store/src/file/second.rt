@@ -1,6 +1,6 @@
 //! The second of two files, as a task on two disks leaves it.
 ghost use Rattle.std.specs.Prelude.{◌≡◌, option_map};
-ghost use Rattle.disk_store.specs.Second.{second_fault};
+ghost use Rattle.disk_store.specs.Second.{IsLeftOf, second_fault};
 ghost use Rattle.disk_store.specs.declared.file.fault.OpenFault.TheVariants.{System};
 
 use super::{FileDiskFrom, OpenFault, Second, SecondDisk, Start};
@@ -9,9 +9,7 @@ use std::marker::PhantomData;
 impl<S: Start> SecondDisk<S> {
     /// The disk, after its last call.
     pub fn of(disk: FileDiskFrom<Second<S>>) -> SecondDisk<S>
-        ensures file { result.file ≡ disk.file }
-        ensures failures { result.failures ≡ disk.failures }
-        ensures count { result.calls ≡ disk.calls }
+        ensures { IsLeftOf result disk }
     {
         SecondDisk {
             file: disk.file,

@@ -4,6 +4,7 @@
 ghost use Rattle.std.specs.Prelude.{◌≡◌, [], ◌∷◌, ◌++◌, IfOk, OnOk, OnErr};
 ghost use Rattle.disk_store.specs.Calls.{Locked, Opened, Made, Gave, FailedRead, Wrote};
 ghost use Rattle.disk_store.specs.Calls.{FailedWrite, Synced, FailedSync, Dropped, Named};
+ghost use Rattle.disk_store.specs.File.{held_calls, held_fault};
 ghost use Rattle.disk_store.specs.Inner.FirstFault.{KeepsFirst};
 
 use super::OpenFault;
@@ -31,7 +32,7 @@ pub struct HeldFile {
 impl HeldFile {
     /// Fails if another open of the file has the lock, which goes with the file's last handle.
     pub fn lock(file: File) -> Result<HeldFile, OpenFault>
-        ensures { IfOk result (λ held. held.history.calls ≡ Locked ∷ []) }
+        ensures { IfOk result (λ held. held_calls held ≡ Locked ∷ []) }
     {
         let mut history = History::new();
         match history.locked(file.try_lock()) {
@@ -72,7 +73,7 @@ impl HeldFile {
     /// How long it is.
     pub fn take_length(&mut self) -> io::Result<u64>
         ensures { IfOk result
-            (λ len. self.new.history.calls ≡ self.old.history.calls ++ Opened len ∷ []) }
+            (λ len. held_calls self.new ≡ held_calls self.old ++ Opened len ∷ []) }
     {
         self.history.opened(self.file.seek(SeekFrom::End(0)))
     }
@@ -81,7 +82,7 @@ impl HeldFile {
     /// hole a write that failed may be lost later, though it is made again with success.
     pub fn fill(&mut self, len: u64) -> io::Result<()>
         ensures { OnOk result
-            (self.new.history.calls ≡ self.old.history.calls ++ Made len ∷ []) }
+            (held_calls self.new ≡ held_calls self.old ++ Made len ∷ []) }
     {
         self.history.made(len, write_zeros(&self.file, len))
     }
@@ -89,7 +90,7 @@ impl HeldFile {
     /// Makes last what was written, and the length.
     pub fn sync_all(&mut self) -> io::Result<()>
         ensures { OnOk result
-            (self.new.history.calls ≡ self.old.history.calls ++ Synced ∷ []) }
+            (held_calls self.new ≡ held_calls self.old ++ Synced ∷ []) }
     {
         self.history.synced(self.file.sync_all())
     }
@@ -98,7 +99,7 @@ impl HeldFile {
     /// it keeps what it could not write as if it had: so a read gives what the device has.
     pub fn drop_cached(&mut self, rt: &HostRuntime, path: &str) -> io::Result<()>
         ensures { OnOk result
-            (self.new.history.calls ≡ self.old.history.calls ++ Dropped ∷ []) }
+            (held_calls self.new ≡ held_calls self.old ++ Dropped ∷ []) }
     {
         let answer = drop_cached_pages(rt, &self.file, path);
         self.history.dropped(answer)
@@ -107,7 +108,7 @@ impl HeldFile {
     /// Makes its name last: the folder of this path has it.
     pub fn sync_folder<T: Files<File = File>>(&mut self, files: &T, path: &str) -> io::Result<()>
         ensures { OnOk result
-            (self.new.history.calls ≡ self.old.history.calls ++ Named ∷ []) }
+            (held_calls self.new ≡ held_calls self.old ++ Named ∷ []) }
     {
         self.history.named(sync_folder_of(files, path))
     }
@@ -115,10 +116,10 @@ impl HeldFile {
     /// Reads the bytes from a position on.
     pub fn read(&mut self, at: u64, out: &mut [u8]) -> io::Result<()>
         ensures ok { OnOk result
-            (self.new.history.calls ≡ self.old.history.calls ++ Gave at out.new ∷ []) }
+            (held_calls self.new ≡ held_calls self.old ++ Gave at out.new ∷ []) }
         ensures err { OnErr result
-            (self.new.history.calls ≡ self.old.history.calls ++ FailedRead at ∷ []) }
-        ensures first { KeepsFirst self.old.fault self.new.fault result }
+            (held_calls self.new ≡ held_calls self.old ++ FailedRead at ∷ []) }
+        ensures first { KeepsFirst (held_fault self.old) (held_fault self.new) result }
     {
         let answer = self.file.read_exact_at(out, at);
         self.keep_first(&answer);
@@ -128,10 +129,10 @@ impl HeldFile {
     /// Writes these bytes from a position on.
     pub fn write(&mut self, at: u64, bytes: &[u8]) -> io::Result<()>
         ensures ok { OnOk result
-            (self.new.history.calls ≡ self.old.history.calls ++ Wrote at bytes.now ∷ []) }
+            (held_calls self.new ≡ held_calls self.old ++ Wrote at bytes.now ∷ []) }
         ensures err { OnErr result
-            (self.new.history.calls ≡ self.old.history.calls ++ FailedWrite at bytes.now ∷ []) }
-        ensures first { KeepsFirst self.old.fault self.new.fault result }
+            (held_calls self.new ≡ held_calls self.old ++ FailedWrite at bytes.now ∷ []) }
+        ensures first { KeepsFirst (held_fault self.old) (held_fault self.new) result }
     {
         let answer = self.file.write_all_at(bytes, at);
         self.keep_first(&answer);
@@ -141,10 +142,10 @@ impl HeldFile {
     /// Makes last what was written.
     pub fn sync(&mut self) -> io::Result<()>
         ensures ok { OnOk result
-            (self.new.history.calls ≡ self.old.history.calls ++ Synced ∷ []) }
+            (held_calls self.new ≡ held_calls self.old ++ Synced ∷ []) }
         ensures err { OnErr result
-            (self.new.history.calls ≡ self.old.history.calls ++ FailedSync ∷ []) }
-        ensures first { KeepsFirst self.old.fault self.new.fault result }
+            (held_calls self.new ≡ held_calls self.old ++ FailedSync ∷ []) }
+        ensures first { KeepsFirst (held_fault self.old) (held_fault self.new) result }
     {
         let answer = self.file.sync_data();
         self.keep_first(&answer);
@@ -153,7 +154,7 @@ impl HeldFile {
 
     /// Why the first of the calls that failed did so.
     pub fn fault(&self) -> Option<io::Error>
-        ensures { result ≡ self.now.fault }
+        ensures { result ≡ held_fault self.now }
     {
         self.fault
     }
