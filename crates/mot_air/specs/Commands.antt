@@ -14,7 +14,7 @@ use Rattle.mot_destinations.specs.declared.packets.Target.{Target}
 use Rattle.mot_destinations.specs.declared.packets.Target.TheVariants.{File, Output}
 use Rattle.mot_endpoints.specs.Lines.{IsUnlined}
 use Rattle.mot_endpoints.specs.Opened.{named}
-use Rattle.mot_destinations.specs.Packets.{IsTarget}
+use Rattle.mot_destinations.specs.Packets.{IsPlaced, IsTarget, writes_of}
 use Rattle.mot_endpoints.specs.Types.{IsTyped, IsUntyped}
 use Rattle.mot_numbers.specs.declared.refusal.Refusal.{Refusal}
 use Rattle.mot_numbers.specs.declared.refusal.Refusal.TheVariants.{DeviceFault, WriteFault}
@@ -24,6 +24,7 @@ use Rattle.mot_shelf.specs.Given.{Given}
 use Rattle.mot_folder.specs.Looked.{Watch}
 use Rattle.mot_suffixes.specs.Types.{SuffixType}
 use Rattle.mot_cli.specs.declared.playing.PlayTask.{PlayTask}
+use Rattle.mot_line_folder.specs.Spool.{reads_of}
 
 -- In these a frame holds so many packets.
 
@@ -80,10 +81,11 @@ module _ {S : Type 0} {start : Ghosts S} where
       → Option Refusal → (old new : Option (List ℕ)) → UsedDisk S start → Type 0
   PlaysTo p tale all ending old new used =
       (target : Target) × IsTarget p.packets.now target × (target ≡ Output → Keeps old new)
-      × (target ≡ File → ending ≡ None → OnFile (λ disk beside. beside.taken.is_placed ≡ true) used)
+      × (target ≡ File → ending ≡ None → OnFile (λ disk beside. IsPlaced beside.taken) used)
       × ((refused : Bool) × (ending ≡ None → all ≡ is_all_done target refused)
       × OnFile (λ disk beside. SinceOpened (PlaysAsked target (λ frame. tale frame beside.looks.all
-      beside.lines.notes.all refused) p ending (p.packets.now ∷ []) beside.taken.notes.all) disk) used)
+      (reads_of beside.lines) refused) p ending (p.packets.now ∷ []) (writes_of beside.taken)) disk)
+      used)
 
   -- In these the writer's known bytes were old and are new. Standard input is not read. Of what a
   -- pipe, a device or a file takes no contract tells.

@@ -5,8 +5,9 @@ ghost use Rattle.mot_outcome.specs.Outcome.{Concludes};
 ghost use Rattle.mot_air.specs.Commands.{PlaysTask, played_with};
 ghost use Rattle.mot_air.specs.declared.manner.Manner.{Manner};
 ghost use Rattle.mot_air.specs.Telling.{watch_in, watched};
-ghost use Rattle.mot_endpoints.specs.Opened.{named};
+ghost use Rattle.mot_endpoints.specs.Opened.{named, paths_of};
 ghost use Rattle.mot_outcome.specs.Outcome.{Opens};
+ghost use Rattle.mot_shelf.specs.System.{shelf_path};
 
 use crate::on_air::{Airing, play_file};
 use crate::playing::Followed;
@@ -36,7 +37,7 @@ pub fn play<'a, B: Start, W: Write, E: Write>(
         result.disk (W.contents writer.old) (W.contents writer.new))
         result.result result.disk (W.contents writer.old) (W.contents writer.new) }
     ensures opens { Opens (played_with task.entry) task.entry.disk.now result.disk
-        host.old.paths.all host.new.paths.all }
+        (paths_of host.old) (paths_of host.new) }
 {
     let PlayTask { disk, packets, .. } = task;
     let types = match file_types(host, alloc, task.types) {
@@ -72,9 +73,9 @@ fn followed<'a, 't>(
     rules: LookRules,
 ) -> Option<Followed<'t, SystemShelf<'a, HostSystem<'a, HostRuntime>>>>
     ensures given { (how : Manner) → watched result (λ followed. watch_in how
-        followed.shelf.path.now followed.types.now followed.allows_empty)
+        (shelf_path followed.shelf) followed.types.now followed.allows_empty)
         ≡ watched folder.entry (λ path. watch_in how path.now types.now rules.allow_empty) }
-    ensures opens { host.new.paths.all ≡ host.old.paths.all ++ named (codes "folder") folder.entry }
+    ensures opens { paths_of host.new ≡ paths_of host.old ++ named (codes "folder") folder.entry }
 {
     match folder {
         Some(path) => Some(Followed {
@@ -94,8 +95,8 @@ fn status_file<'a>(
 ) -> Option<StatusFile<'a, HostSystem<'a, HostRuntime>>>
     ensures path { option_map (λ status. status.path.now) result
         ≡ option_map (λ path. path.now) path.entry }
-    ensures opens { host.new.paths.all
-        ≡ host.old.paths.all ++ named (codes "status") path.entry }
+    ensures opens { paths_of host.new
+        ≡ paths_of host.old ++ named (codes "status") path.entry }
 {
     match path {
         Some(path) => Some(host.status(path, disk)),

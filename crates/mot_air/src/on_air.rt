@@ -10,10 +10,13 @@ ghost use Rattle.mot_air.specs.Playing.{Plays};
 ghost use Rattle.mot_air.specs.Commands.{PlaysAsked, PlaysTo, is_all_done, played_as};
 ghost use Rattle.mot_outcome.specs.Outcome.{Concludes, Opens};
 ghost use Rattle.mot_air.specs.Telling.{EndsAs, tale_told, tale_with, watch_in, watched};
-ghost use Rattle.mot_endpoints.specs.Opened.{BeginsTo};
-ghost use Rattle.mot_destinations.specs.Packets.{IsTarget, begun_of, target_of};
+ghost use Rattle.mot_endpoints.specs.Opened.{BeginsTo, paths_of};
+ghost use Rattle.mot_destinations.specs.Packets.{IsPlaced, IsTarget, begun_of, target_of};
+ghost use Rattle.mot_destinations.specs.Packets.{writes_of};
+ghost use Rattle.mot_line_folder.specs.Spool.{reads_of};
 ghost use Rattle.mot_numbers.specs.declared.refusal.Refusal.TheVariants.{DeviceFault, WriteFault};
 ghost use Rattle.mot_playout.specs.Attempts.{fault_of};
+ghost use Rattle.mot_shelf.specs.System.{shelf_path};
 ghost use Rattle.mot_status.specs.Teller.{TellerView, starts};
 
 use crate::Ended;
@@ -73,13 +76,13 @@ pub(crate) fn play_file<'a, B: Start, Y: System + Drop, W: Write, E: Write>(
 ) -> Finished<B, bool>
     ensures ended { Concludes (λ r. (r ≡ DeviceFault) ⊎ (r ≡ WriteFault)) (λ all ending.
         PlaysTo airing.entry.task (λ frame. let how = played_as airing.entry.task frame in
-        tale_with (watched airing.entry.folder (λ followed. watch_in how followed.shelf.path.now
+        tale_with (watched airing.entry.folder (λ followed. watch_in how (shelf_path followed.shelf)
         followed.types.now followed.allows_empty))
         (option_map (λ lines. (lines.hand, lines.every - 1)) airing.entry.lines) how)
         all ending (W.contents writer.old) (W.contents writer.new) result.disk)
         result.result result.disk (W.contents writer.old) (W.contents writer.new) }
     ensures opens { Opens ((codes "packets", airing.entry.task.packets.now) ∷ [])
-        airing.entry.task.disk.now result.disk host.old.paths.all host.new.paths.all }
+        airing.entry.task.disk.now result.disk (paths_of host.old) (paths_of host.new) }
 {
     match open_both(host, airing.task, start) {
         Ok((opened, disk)) => play_both(alloc, disk, opened, airing, writer, errors),
@@ -106,10 +109,10 @@ fn open_both<'a, B: Start>(
     ensures refused { IfErr result (λ unbegun. IsUnbegun
         (λ r. (r ≡ DeviceFault) ⊎ (r ≡ WriteFault)) unbegun.result unbegun.disk) }
     ensures opens { MatchResult result
-        (λ _. host.new.paths.all ≡ host.old.paths.all
+        (λ _. paths_of host.new ≡ paths_of host.old
         ++ (codes "packets", task.entry.packets.now) ∷ (codes "disk", task.entry.disk.now) ∷ [])
         (λ _. BeginsTo ((codes "packets", task.entry.packets.now) ∷ [])
-        host.old.paths.all host.new.paths.all) }
+        (paths_of host.old) (paths_of host.new)) }
 {
     let mut opened = match host.packets(task.packets, task.disk, task.turns) {
         Ok(opened) => opened,
@@ -178,14 +181,14 @@ fn play_into<D: Disk, P: System + Drop, F: Shelf + Drop, Y: System + Drop, W: Wr
         tale_with (watched airing.entry.folder (λ followed. watch_in how (F.path followed.shelf)
         followed.types.now followed.allows_empty))
         (option_map (λ lines. (lines.hand, lines.every - 1)) airing.entry.lines) how
-        result.beside.looks.all result.beside.lines.notes.all result.any_refused)
+        result.beside.looks.all (reads_of result.beside.lines) result.any_refused)
         airing.entry.task (fault_of result.ended.result)
-        (begun_of opened.entry) result.beside.taken.notes.all
+        (begun_of opened.entry) (writes_of result.beside.taken)
         (D.state disk) (D.state result.ended.disk) }
     ensures quiet { target_of opened.entry ≡ Target.Output
         → Keeps (W.contents writer.old) (W.contents writer.new) }
     ensures placed { target_of opened.entry ≡ Target.File
-        → fault_of result.ended.result ≡ None → result.beside.taken.is_placed ≡ true }
+        → fault_of result.ended.result ≡ None → IsPlaced result.beside.taken }
 {
     match opened.target() {
         Target::Output => play_opened(alloc, disk, opened, airing, errors),
@@ -211,7 +214,8 @@ fn air<D: Disk, F: Shelf + Drop, Y: System + Drop, O: Outlet, L: Write + Drop>(
         (last : TellerView) × Plays (tale_told same
         (watched airing.entry.folder (λ followed. watch_in how (F.path followed.shelf)
         followed.types.now followed.allows_empty)) reads how result.0.beside.looks.all
-        result.0.beside.lines.notes.all result.0.any_refused (starts Y.calls (L.contents log) (record {
+        (reads_of result.0.beside.lines) result.0.any_refused
+        (starts Y.calls (L.contents log) (record {
           disk = airing.entry.task.disk;
           status = airing.entry.status;
           levels = airing.entry.task.levels;
@@ -243,7 +247,8 @@ fn air_so<D: Disk, F: Shelf + Drop, Y: System + Drop, O: Outlet, L: Write + Drop
         (last : TellerView) × Plays (tale_told same
         (watched airing.entry.folder (λ followed. watch_in how (F.path followed.shelf)
         followed.types.now followed.allows_empty)) reads how result.0.beside.looks.all
-        result.0.beside.lines.notes.all result.0.any_refused (starts Y.calls (L.contents log) (record {
+        (reads_of result.0.beside.lines) result.0.any_refused
+        (starts Y.calls (L.contents log) (record {
           disk = airing.entry.task.disk;
           status = airing.entry.status;
           levels = airing.entry.task.levels;
@@ -283,12 +288,12 @@ fn play_opened<D: Disk, P: System + Drop, F: Shelf + Drop, Y: System + Drop, L: 
         tale_with (watched airing.entry.folder (λ followed. watch_in how (F.path followed.shelf)
         followed.types.now followed.allows_empty))
         (option_map (λ lines. (lines.hand, lines.every - 1)) airing.entry.lines) how
-        result.beside.looks.all result.beside.lines.notes.all result.any_refused)
+        result.beside.looks.all (reads_of result.beside.lines) result.any_refused)
         airing.entry.task (fault_of result.ended.result)
-        (begun_of opened.entry) result.beside.taken.notes.all
+        (begun_of opened.entry) (writes_of result.beside.taken)
         (D.state disk) (D.state result.ended.disk) }
     ensures placed { target_of opened.entry ≡ Target.File
-        → fault_of result.ended.result ≡ None → result.beside.taken.is_placed ≡ true }
+        → fault_of result.ended.result ≡ None → IsPlaced result.beside.taken }
 {
     let mut opened = opened;
     let (end, _) = air(alloc, disk, &mut opened.writer, airing, log);
@@ -320,9 +325,9 @@ fn placed<P: System + Drop>(
 ) -> (Result<(), Refusal>, Option<Cause>)
     ensures came { (result.0 ≡ ended) ⊎ ((target_of opened.old ≡ Target.File)
         × (ended ≡ Ok tt) × (result.0 ≡ Err WriteFault)) }
-    ensures same { opened.new.writer.taken.notes.all ≡ opened.old.writer.taken.notes.all }
+    ensures same { writes_of opened.new.writer.taken ≡ writes_of opened.old.writer.taken }
     ensures placed { target_of opened.old ≡ Target.File → fault_of result.0 ≡ None
-        → opened.new.writer.taken.is_placed ≡ true }
+        → IsPlaced opened.new.writer.taken }
 {
     let cause = match opened.reason() {
         Some(cause) => Some(cause),

@@ -14,6 +14,7 @@ ghost use Rattle.mot_lines.specs.Hand.{bytes_in_hand};
 ghost use Rattle.mot_numbers.specs.declared.geometry.Geometry.{Geometry};
 ghost use Rattle.mot_objects.specs.declared.command.Command.{Command};
 ghost use Rattle.mot_ending.specs.Opening.{IsUnopened};
+ghost use Rattle.mot_line_folder.specs.Spool.{open_file, reads_of, spool_gave, spool_system};
 ghost use Rattle.mot_playout.specs.Attempts.{fault_of};
 ghost use Rattle.mot_status.specs.Teller.{TellerView, TellsEnd, starts, teller};
 ghost use Rattle.mot_update.specs.Watching.{looks_known};
@@ -99,7 +100,7 @@ impl<D: Disk> PlayEnd<D> {
     pub(crate) fn unopened(refused: Refused<D>) -> Self
         ensures ended { (fault_of result.ended.result ≡ Some refused.refusal)
             × (result.ended.disk ≡ refused.disk) }
-        ensures given { (result.beside.looks.all ≡ []) × (result.beside.lines.notes.all ≡ []) }
+        ensures given { (result.beside.looks.all ≡ []) × (reads_of result.beside.lines ≡ []) }
         ensures refused { result.any_refused ≡ false }
     {
         PlayEnd::unwatched(Ended::unopened(refused), LineNotes::new())
@@ -121,7 +122,8 @@ pub fn play_disk<S: Shelf + Drop, F: System + Drop, D: Disk, O: Outlet, L: Write
         (last : TellerView) × Plays (tale_told same
         (watched folder.entry (λ followed. watch_in how (S.path followed.shelf)
         followed.types.now followed.allows_empty)) None how result.0.beside.looks.all
-        result.0.beside.lines.notes.all result.0.any_refused (starts F.calls (L.contents log) telling.entry) last)
+        (reads_of result.0.beside.lines) result.0.any_refused
+        (starts F.calls (L.contents log) telling.entry) last)
         how (fault_of result.0.ended.result) (O.writes outlet.old) (O.writes outlet.new)
         (D.state disk) (D.state result.0.ended.disk)
         × EndsTelling (fault_of result.0.ended.result) how.turns last (L.contents result.1) }
@@ -159,7 +161,7 @@ pub fn play_and_answer<S: Shelf + Drop, F: System + Drop, D: Disk, O: Outlet, L:
         (watched folder.entry (λ followed. watch_in how (S.path followed.shelf)
         followed.types.now followed.allows_empty))
         (Some (lines.entry.hand, lines.entry.every - 1)) how result.0.beside.looks.all
-        result.0.beside.lines.notes.all result.0.any_refused
+        (reads_of result.0.beside.lines) result.0.any_refused
         (starts F.calls (L.contents log) telling.entry) last)
         how (fault_of result.0.ended.result) (O.writes outlet.old) (O.writes outlet.new)
         (D.state disk) (D.state result.0.ended.disk)
@@ -238,7 +240,7 @@ fn play_answering<D: Disk, U: Update + Facts + Drop, F: System + Drop, O: Outlet
     how: Manner,
 ) -> (Ended<D, ()>, U, L, LineNotes)
     ensures { let same = ⟦<LookEvent as PartialEq>⟧.eq in
-        (last : SourcesOf U) × (last.update ≡ result.1) × (last.lines ≡ result.3.notes.all)
+        (last : SourcesOf U) × (last.update ≡ result.1) × (last.lines ≡ reads_of result.3)
         × Plays (tale_of (tells_lines_of same (lines.entry.every - 1) U.known U.tells) how
         (beside update lines.entry.hand (starts F.calls (L.contents log) telling.entry))
         last) how (fault_of result.0.result) (O.writes outlet.old)
@@ -305,7 +307,7 @@ fn lines_between<'a, F: System + Drop, U: Update + Facts + Drop, T: Watch + Drop
     ensures hand { result.intake.hand ≡ lines.entry.hand }
     ensures every { result.between ≡ lines.entry.every - 1 }
     ensures due { result.left ≡ 0 }
-    ensures unread { result.reader.lines.notes.all ≡ [] }
+    ensures unread { spool_gave result.reader ≡ [] }
     ensures reported { result.reported ≡ reported }
 {
     let LineFolder { place, hand, every } = lines;
@@ -368,7 +370,7 @@ fn end_lines<'a, D: Disk, U: Update + Facts + Drop, F: System + Drop, L: Write +
     turns: u64,
     lines: &mut Lines<Spool<'a, F>, U, Reporter<'_, F, L>>,
 ) -> Ended<D, ()>
-    ensures lines { lines.new.reader.lines ≡ lines.old.reader.lines }
+    ensures lines { spool_gave lines.new.reader ≡ spool_gave lines.old.reader }
     ensures update { lines.new.reported.update ≡ lines.old.reported.update }
     ensures ended { IsEndOf fed result }
     ensures told { EndsLines (ending_of fed) turns
@@ -394,12 +396,12 @@ fn finish<'a, F: System + Drop, U: Update + Facts + Drop, T: Watch + Drop>(
     lines: &mut Lines<Spool<'a, F>, U, T>,
     is_ended: bool,
 )
-    ensures lines { lines.new.reader.lines ≡ lines.old.reader.lines }
+    ensures lines { spool_gave lines.new.reader ≡ spool_gave lines.old.reader }
     ensures update { lines.new.reported.update ≡ lines.old.reported.update }
     ensures stays { is_ended ≡ false → lines.new ≡ lines.old }
     ensures finishes { is_ended ≡ true → lines.old.intake.hand ≡ bytes_in_hand []
-        → Finishes lines.old.reader.«open» (F.calls lines.old.reader.finder.system)
-        (F.calls lines.new.reader.finder.system) }
+        → Finishes (open_file lines.old.reader)
+        (F.calls (spool_system lines.old.reader)) (F.calls (spool_system lines.new.reader)) }
     ensures told { (entries : List Entry) × AreOfFiles entries
         × HearsAll T.hears T.misses lines.old.reported.watch entries lines.new.reported.watch }
 {

@@ -7,7 +7,8 @@ use Rattle.disk_store.specs.File.{file_state}
 use Rattle.disk_store.specs.Ram.{ram_state}
 use Rattle.disk_store.specs.declared.file.start.Start.{Ghosts}
 use Rattle.disk_store.specs.declared.memory.ram.RamDisk.{RamDisk}
-use Rattle.mot_devices.specs.Looking.{IsFree, OnlyLooks}
+use Rattle.mot_devices.specs.Looking.{OnlyLooks}
+use Rattle.mot_devices.specs.Uses.{IsFree}
 use Rattle.mot_export.specs.Exporting.{Exports}
 use Rattle.mot_export.specs.Inspecting.{Inspects}
 use Rattle.mot_files.specs.Call.{Call}

@@ -7,6 +7,7 @@ ghost use Rattle.mot_outcome.specs.Outcome.{Opens, Prints};
 ghost use Rattle.mot_commands.specs.Commands.{ChecksFile};
 ghost use Rattle.mot_outcome.specs.Outcome.{Finishes};
 ghost use Rattle.mot_commands.specs.Report.{Checks, clean_line, layout_line};
+ghost use Rattle.mot_endpoints.specs.Opened.{paths_of};
 
 use crate::finishing::finish;
 use disk_model::Disk;
@@ -33,7 +34,7 @@ pub fn check_file<S: Start, W: Write>(
     ensures ended { Finishes (λ r. r ≡ DeviceFault) (λ ending used.
         ChecksFile ending used (W.contents writer.old) (W.contents writer.new))
         result (W.contents writer.old) (W.contents writer.new) }
-    ensures files { Opens [] path.now result.disk host.old.paths.all host.new.paths.all }
+    ensures files { Opens [] path.now result.disk (paths_of host.old) (paths_of host.new) }
 {
     match host.disk(path, start) {
         Ok(disk) => {

@@ -1,6 +1,7 @@
 //! What `export` does.
 ghost use Rattle.std.specs.Prelude.{◌≡◌, []};
 ghost use Rattle.mot_commands.specs.Commands.{ExportsFile};
+ghost use Rattle.mot_endpoints.specs.Opened.{paths_of};
 ghost use Rattle.mot_numbers.specs.declared.refusal.Refusal.TheVariants.{DeviceFault};
 ghost use Rattle.mot_outcome.specs.Outcome.{Finishes, Opens};
 
@@ -23,7 +24,7 @@ pub fn export_file<B: Start, W: Write>(
     ensures ended { Finishes (λ r. r ≡ DeviceFault) (λ ending used.
         ExportsFile ending used (W.contents writer.old) (W.contents writer.new))
         result (W.contents writer.old) (W.contents writer.new) }
-    ensures files { Opens [] path.now result.disk host.old.paths.all host.new.paths.all }
+    ensures files { Opens [] path.now result.disk (paths_of host.old) (paths_of host.new) }
 {
     match host.disk(path, start) {
         Ok(disk) => {

@@ -1,5 +1,6 @@
 //! What a task came to on the disk of a file that was there.
 ghost use Rattle.std.specs.Prelude.{◌≡◌, None};
+ghost use Rattle.mot_endpoints.specs.Opened.{paths_of};
 ghost use Rattle.mot_outcome.specs.declared.used.Beside.{Beside};
 ghost use Rattle.mot_outcome.specs.declared.used.UsedDisk.TheVariants.{OfFile};
 
@@ -20,7 +21,7 @@ pub(crate) fn finish<S: Start, T>(
       cause = None;
       reason = ended.reason;
     }) }
-    ensures paths { host.new.paths.all ≡ host.old.paths.all }
+    ensures paths { paths_of host.new ≡ paths_of host.old }
 {
     if let Err(refusal) = &ended.result {
         clear_unfit(host, *refusal);

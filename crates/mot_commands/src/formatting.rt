@@ -8,6 +8,7 @@ ghost use Rattle.mot_commands.specs.Commands.{FormatsFile, IsUnformatted, LooksF
 ghost use Rattle.mot_outcome.specs.Outcome.{Finishes};
 ghost use Rattle.mot_commands.specs.Commands.{OpensOrMakes};
 ghost use Rattle.mot_commands.specs.Report.{Formats, formatted_line};
+ghost use Rattle.mot_endpoints.specs.Opened.{paths_of};
 
 use crate::finishing::finish;
 use disk_model::Disk;
@@ -39,7 +40,7 @@ pub fn format_file<Y: System, S: Start, W: Write>(
         FormatsFile geometry directory ending used (W.contents writer.old) (W.contents writer.new))
         result (W.contents writer.old) (W.contents writer.new) }
     ensures files { OpensOrMakes (fault_of result.result) path.now result.disk
-        host.old.paths.all host.new.paths.all }
+        (paths_of host.old) (paths_of host.new) }
     ensures looked { LooksFirst path.now result.disk
         (Y.calls system.old) (Y.calls system.new) }
 {
@@ -67,7 +68,7 @@ fn format_free<S: Start, W: Write>(
         FormatsFile geometry directory ending used (W.contents writer.old) (W.contents writer.new))
         result (W.contents writer.old) (W.contents writer.new) }
     ensures files { OpensOrMakes (fault_of result.result) path.now result.disk
-        host.old.paths.all host.new.paths.all }
+        (paths_of host.old) (paths_of host.new) }
 {
     match host.disk(path, start) {
         Ok(mut disk) => {
@@ -97,7 +98,7 @@ fn format_new_file<S: Start, W: Write>(
         FormatsFile geometry directory ending used (W.contents writer.old) (W.contents writer.new))
         result (W.contents writer.old) (W.contents writer.new) }
     ensures files { OpensOrMakes (fault_of result.result) path.now result.disk
-        host.old.paths.all host.new.paths.all }
+        (paths_of host.old) (paths_of host.new) }
 {
     let mut disk = match host.make_disk(path, geometry.length(), unopened.start) {
         Ok(disk) => disk,

@@ -1,6 +1,6 @@
 //! What `get` does.
 ghost use Rattle.mot_playout.specs.Attempts.{fault_of};
-ghost use Rattle.std.specs.Prelude.{◌≡◌, ◌⊎◌, ◌<◌, [], ℕ, IfErr, IfOk, vec_len};
+ghost use Rattle.std.specs.Prelude.{◌≡◌, ◌⊎◌, ◌<◌, [], IfErr, IfOk, vec_len};
 ghost use Rattle.disk_model.specs.Disk.{OnlyReads};
 ghost use Rattle.disk_model.specs.Failures.{Rises};
 ghost use Rattle.mot_numbers.specs.declared.refusal.Refusal.TheVariants.{BadName, DeviceFault, OutOfMemory};
@@ -10,6 +10,7 @@ ghost use Rattle.mot_outcome.specs.Outcome.{Finishes, Opens};
 ghost use Rattle.mot_commands.specs.Commands.{GetsFile};
 ghost use Rattle.mot_commands.specs.Shown.{Gets};
 ghost use Rattle.mot_commands.specs.Inner.Got.{MissesBody, ReadsBody};
+ghost use Rattle.mot_endpoints.specs.Opened.{paths_of};
 ghost use Rattle.mot_repository.specs.Repository.{HasStanding, object_body};
 
 use crate::finishing::finish;
@@ -36,7 +37,7 @@ pub fn get_file<S: Start, W: Write>(
     ensures ended { Finishes (λ r. r ≡ DeviceFault) (λ ending used.
         GetsFile name.now ending used (W.contents writer.old) (W.contents writer.new))
         result (W.contents writer.old) (W.contents writer.new) }
-    ensures files { Opens [] path.now result.disk host.old.paths.all host.new.paths.all }
+    ensures files { Opens [] path.now result.disk (paths_of host.old) (paths_of host.new) }
 {
     match host.disk(path, start) {
         Ok(disk) => {

@@ -1,6 +1,7 @@
 //! What `inspect` does.
 ghost use Rattle.std.specs.Prelude.{◌≡◌, []};
 ghost use Rattle.mot_commands.specs.Commands.{InspectsFile};
+ghost use Rattle.mot_endpoints.specs.Opened.{paths_of};
 ghost use Rattle.mot_numbers.specs.declared.refusal.Refusal.TheVariants.{DeviceFault};
 ghost use Rattle.mot_outcome.specs.Outcome.{Finishes, Opens};
 
@@ -24,7 +25,7 @@ pub fn inspect_file<B: Start, W: Write>(
     ensures ended { Finishes (λ r. r ≡ DeviceFault) (λ ending used.
         InspectsFile rate ending used (W.contents writer.old) (W.contents writer.new))
         result (W.contents writer.old) (W.contents writer.new) }
-    ensures files { Opens [] path.now result.disk host.old.paths.all host.new.paths.all }
+    ensures files { Opens [] path.now result.disk (paths_of host.old) (paths_of host.new) }
 {
     match host.disk(path, start) {
         Ok(disk) => {

@@ -6,6 +6,7 @@ ghost use Rattle.mot_lines.specs.Listing.{listing_text_beside};
 ghost use Rattle.mot_outcome.specs.Outcome.{Finishes, Opens, Prints};
 ghost use Rattle.mot_commands.specs.Commands.{ListsFile};
 ghost use Rattle.mot_commands.specs.Shown.{Lists};
+ghost use Rattle.mot_endpoints.specs.Opened.{paths_of};
 
 use crate::finishing::finish;
 use disk_model::Disk;
@@ -31,7 +32,7 @@ pub fn list_file<S: Start, W: Write>(
     ensures ended { Finishes (λ r. r ≡ DeviceFault) (λ ending used.
         ListsFile ending used (W.contents writer.old) (W.contents writer.new))
         result (W.contents writer.old) (W.contents writer.new) }
-    ensures files { Opens [] path.now result.disk host.old.paths.all host.new.paths.all }
+    ensures files { Opens [] path.now result.disk (paths_of host.old) (paths_of host.new) }
 {
     match host.disk(path, start) {
         Ok(disk) => {

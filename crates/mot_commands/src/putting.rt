@@ -7,7 +7,7 @@ ghost use Rattle.disk_model.specs.Disk.{KeepsLength};
 ghost use Rattle.mot_commands.specs.Asking.{Comes, TakesTill};
 ghost use Rattle.mot_commands.specs.Inner.Got.{refusal_of};
 ghost use Rattle.mot_commands.specs.Putting.{Puts, PutsEach, PutLooks, PutsFiles, PutsTo, PutStops, texts};
-ghost use Rattle.mot_endpoints.specs.Opened.{named};
+ghost use Rattle.mot_endpoints.specs.Opened.{named, paths_of};
 ghost use Rattle.mot_endpoints.specs.Types.{IsUntyped};
 ghost use Rattle.mot_lines.specs.Text.{refusal_line};
 ghost use Rattle.mot_numbers.specs.declared.refusal.Refusal.TheVariants.{DeviceFault, WriteFault};
@@ -49,7 +49,7 @@ pub fn put<Y: System, S: Start, W: Write, E: Write>(
         (W.contents writer.old) (W.contents writer.new) (Y.calls system.old) (Y.calls system.new))
         result (W.contents writer.old) (W.contents writer.new) }
     ensures files { Opens (named (codes "types") types.entry) path.now result.disk
-        host.old.paths.all host.new.paths.all }
+        (paths_of host.old) (paths_of host.new) }
     ensures looked { PutLooks types.entry (texts files.now) result.disk
         (Y.calls system.old) (Y.calls system.new) }
 {
@@ -77,7 +77,7 @@ fn put_files<Y: System, S: Start, W: Write, E: Write>(
         (texts files.now) all ending (W.contents writer.old) (W.contents writer.new)
         (Y.calls system.old) (Y.calls system.new) used)
         result (W.contents writer.old) (W.contents writer.new) }
-    ensures files { Opens [] path.now result.disk host.old.paths.all host.new.paths.all }
+    ensures files { Opens [] path.now result.disk (paths_of host.old) (paths_of host.new) }
     ensures unbegun { IsUntouched result.disk → Y.calls system.new ≡ Y.calls system.old }
 {
     match host.disk(path, start) {

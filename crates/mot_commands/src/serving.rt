@@ -8,6 +8,7 @@ ghost use Rattle.disk_model.specs.Disk.{KeepsLength};
 ghost use Rattle.mot_commands.specs.Commands.{IsUnmade, ServesFile, ServesMemory};
 ghost use Rattle.mot_outcome.specs.Outcome.{Finishes};
 ghost use Rattle.mot_commands.specs.Serving.{Serves};
+ghost use Rattle.mot_endpoints.specs.Opened.{paths_of};
 
 use crate::finishing::finish;
 use disk_model::Disk;
@@ -72,7 +73,7 @@ pub fn serve_file<S: Start, R: Read, W: Write>(
         (λ ending used. ServesFile ending used (R.remaining reader.old) (R.remaining reader.new)
         (W.contents writer.old) (W.contents writer.new))
         result (W.contents writer.old) (W.contents writer.new) }
-    ensures files { Opens [] path.now result.disk host.old.paths.all host.new.paths.all }
+    ensures files { Opens [] path.now result.disk (paths_of host.old) (paths_of host.new) }
 {
     match host.disk(path, start) {
         Ok(disk) => {

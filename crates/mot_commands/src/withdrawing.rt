@@ -9,6 +9,7 @@ ghost use Rattle.mot_commands.specs.Asking.{Comes, TakesTill, Withdraws, Withdra
 ghost use Rattle.mot_commands.specs.Asking.{withdraw_line};
 ghost use Rattle.mot_commands.specs.Commands.{WithdrawsFile};
 ghost use Rattle.mot_commands.specs.Putting.{texts};
+ghost use Rattle.mot_endpoints.specs.Opened.{paths_of};
 
 use crate::answering::answer;
 use crate::finishing::finish;
@@ -35,7 +36,7 @@ pub fn withdraw_file<S: Start, W: Write>(
     ensures ended { Comes (λ r. r ≡ DeviceFault) (λ all ending used. WithdrawsFile
         (texts names.now) all ending used (W.contents writer.old) (W.contents writer.new))
         result (W.contents writer.old) (W.contents writer.new) }
-    ensures files { Opens [] path.now result.disk host.old.paths.all host.new.paths.all }
+    ensures files { Opens [] path.now result.disk (paths_of host.old) (paths_of host.new) }
 {
     match host.disk(path, start) {
         Ok(disk) => {

@@ -10,7 +10,8 @@ use Rattle.disk_store.specs.declared.file.start.Start.{Ghosts}
 use Rattle.mot_cli.specs.Options.{geometry_over}
 use Rattle.mot_cli.specs.declared.options.Options.{Options}
 use Rattle.mot_copy_command.specs.Copying.{Copies}
-use Rattle.mot_devices.specs.Looking.{IsFree, OnlyLooks}
+use Rattle.mot_devices.specs.Looking.{OnlyLooks}
+use Rattle.mot_devices.specs.Uses.{IsFree}
 use Rattle.mot_ending.specs.Opening.{IsUnopened, OfStanding}
 use Rattle.mot_files.specs.Call.{Call}
 use Rattle.mot_numbers.specs.Geometry.{IsValid, length_of}

@@ -3,11 +3,13 @@ ghost use Rattle.mot_playout.specs.Attempts.{fault_of};
 ghost use Rattle.std.specs.Prelude.{◌≡◌, IfNone, IfSome, IsSome, None, Some, false, true};
 ghost use Rattle.disk_model.specs.Disk.{OnlyReads};
 ghost use Rattle.disk_store.specs.File.{file_state};
+ghost use Rattle.disk_store.specs.Second.{IsLeftOf};
 ghost use Rattle.mot_cli.specs.Options.{geometry_over};
 ghost use Rattle.mot_copy_command.specs.Command.{ComesToCopy, CopiesFile, CopiesTo, IsRefused};
 ghost use Rattle.mot_copy_command.specs.Command.{LooksAtCopy, LooksAtNew, OpensTwo};
 ghost use Rattle.mot_copy_command.specs.Copying.{Copies, refusal_of};
 ghost use Rattle.mot_copy_command.specs.Inner.{CopiesView, OfView};
+ghost use Rattle.mot_endpoints.specs.Opened.{paths_of};
 ghost use Rattle.mot_numbers.specs.Geometry.{IsValid};
 ghost use Rattle.mot_numbers.specs.declared.geometry.Geometry.{Geometry as GeometryOf};
 ghost use Rattle.mot_numbers.specs.declared.refusal.Refusal.TheVariants.{DeviceFault};
@@ -55,7 +57,7 @@ pub fn copy_file<Y: System, S: Start, W: Write>(
         (W.contents writer.old) (W.contents writer.new))
         result (W.contents writer.old) (W.contents writer.new) }
     ensures files { OpensTwo (fault_of result.result) task.now.disk.now task.now.new.now result.disk
-        host.old.paths.all host.new.paths.all }
+        (paths_of host.old) (paths_of host.new) }
     ensures looked { LooksAtNew task.now.new.now result.disk
         (Y.calls system.old) (Y.calls system.new) }
 {
@@ -87,7 +89,7 @@ fn copy_disk<Y: System, S: Start, W: Write>(
         (W.contents writer.old) (W.contents writer.new)
         (file_state disk.disk) (file_state result.0.disk.disk) }
     ensures files { ComesToCopy (fault_of result.0.result) task.now.new.now result.1
-        host.old.paths.all host.new.paths.all }
+        (paths_of host.old) (paths_of host.new) }
     ensures looked { LooksAtCopy task.now.new.now result.1
         (Y.calls system.old) (Y.calls system.new) }
 {
@@ -161,7 +163,7 @@ fn copy_open<S: Start, W: Write>(
         (fault_of result.0.result) result.1 (W.contents writer.old) (W.contents writer.new)
         (file_state repository.disk.disk) (file_state result.0.disk.disk) }
     ensures files { ComesToCopy (fault_of result.0.result) task.now.new.now result.1
-        host.old.paths.all host.new.paths.all }
+        (paths_of host.old) (paths_of host.new) }
 {
     match host.disk(task.new, second) {
         Ok(mut to) => {
@@ -199,7 +201,7 @@ fn copy_to_new<S: Start, W: Write>(
         (fault_of result.0.result) result.1 (W.contents writer.old) (W.contents writer.new)
         (file_state repository.disk.disk) (file_state result.0.disk.disk) }
     ensures files { ComesToCopy (fault_of result.0.result) task.now.new.now result.1
-        host.old.paths.all host.new.paths.all }
+        (paths_of host.old) (paths_of host.new) }
 {
     let mut to = match host.make_disk(task.new, geometry.length(), unopened.start) {
         Ok(to) => to,
@@ -242,8 +244,7 @@ fn end_of<S: Start>(
     geometry: &Geometry,
 ) -> Copying<S>
     ensures from { result.0.disk ≡ repository.disk }
-    ensures to { IfSome result.1 (λ second. (second.file ≡ to.file)
-        × (second.failures ≡ to.failures) × (second.calls ≡ to.calls)) }
+    ensures to { IfSome result.1 (λ second. IsLeftOf second to) }
     ensures some { IsSome result.1 }
     ensures made { result.0.result ≡ made }
 {

@@ -10,9 +10,11 @@ use Rattle.mot_destinations.specs.declared.fault.PacketsFault.{PacketsFault}
 use Rattle.mot_destinations.specs.declared.new_file.NewPlace.{NewPlace}
 use Rattle.mot_destinations.specs.declared.packets.Destination.{Destination}
 use Rattle.mot_destinations.specs.declared.packets.OpenPackets.{OpenPackets}
+use Rattle.mot_destinations.specs.declared.packets.PacketWriter.{PacketWriter}
 use Rattle.mot_destinations.specs.declared.packets.Place.{Place}
 use Rattle.mot_destinations.specs.declared.packets.Target.{Target}
 use Rattle.mot_destinations.specs.declared.packets.Target.TheVariants.{File, Output, Stream}
+use Rattle.mot_destinations.specs.declared.taken.Taken.{Taken}
 use Rattle.mot_files.specs.Call.{Call, followed, locked, looked_at, opened, told_terminal, wrote}
 use Rattle.mot_files.specs.Placing.{Places}
 use Rattle.mot_files.specs.declared.system.Fault.{Fault}
@@ -37,9 +39,29 @@ target_in (Destination.File place) = File
 abbrev pub target_of : {S : Type 0} → OpenPackets S → Target
 target_of opened = target_in opened.destination
 
--- what is noted of it before packets are written: the path that it was opened by
+-- where they go
+abbrev pub destination_of : {S : Type 0} → OpenPackets S → Destination
+destination_of opened = opened.destination
+
+-- what a writer of packets writes to
+abbrev pub writer_handle : {S : Type 0} → PacketWriter S → Handle
+writer_handle writer = writer.handle
+
+-- and the system of files that this is open in
+abbrev pub writer_system : {S : Type 0} → PacketWriter S → S
+writer_system writer = writer.system
+
+-- the path by which it was opened, and then what each write took
+abbrev pub writes_of : Taken → List (List ℕ)
+writes_of taken = taken.notes.all
+
+-- the file that was opened by that path took its place
+abbrev pub IsPlaced : Taken → Type 0
+IsPlaced taken = taken.is_placed ≡ true
+
+-- what is noted before packets are written: the path by which that was opened
 abbrev pub begun_of : {S : Type 0} → OpenPackets S → List (List ℕ)
-begun_of opened = opened.writer.taken.notes.all
+begun_of opened = writes_of opened.writer.taken
 
 -- why a packet was not taken whole, or what was known before
 abbrev pub fault_after : Option PacketsFault → (len : ℕ) → Result ℕ Fault → Option PacketsFault

@@ -1,12 +1,27 @@
 -- How the status comes to its file.
-use Rattle.std.specs.Prelude.{◌≡◌, ℕ, Bool, true, false, List, Result, Ok, Err}
+use Rattle.std.specs.Prelude.{◌≡◌, ℕ, Bool, true, false, List, Option, Result, Ok, Err}
+use Rattle.std.specs.Prelude.{option_map, string_bytes}
+use Rattle.std.specs.Global.{Global}
 use Rattle.mot_destinations.specs.Names.{IsOfDisk}
 use Rattle.mot_destinations.specs.Placing.{Clears, Finds, told_of}
 use Rattle.mot_destinations.specs.declared.fault.PacketsFault.{PacketsFault}
 use Rattle.mot_destinations.specs.declared.fault.PacketsFault.TheVariants.{NoFile, NoNewFile}
+use Rattle.mot_destinations.specs.declared.status_file.StatusFile.{StatusFile}
 use Rattle.mot_files.specs.Call.{Call}
 use Rattle.mot_files.specs.Placing.{Replaces}
 use Rattle.mot_files.specs.declared.system.Fault.{Fault}
+
+-- the system of files that a file of the status is in
+abbrev pub status_system : {S : Type 0} → StatusFile S → S
+status_system file = file.system
+
+-- the path of the disk, whose place it may not take
+abbrev pub status_disk : {S : Type 0} → StatusFile S → List ℕ
+status_disk file = file.disk.now
+
+-- the path beside it; none if there was no memory for it
+abbrev pub status_beside : {S : Type 0} → StatusFile S → Option (List ℕ)
+status_beside file = option_map (string_bytes {Z = Global}) file.beside
 
 -- a file or nothing may be replaced
 abbrev pub allows : Result Bool PacketsFault → Result (Unit {0}) PacketsFault

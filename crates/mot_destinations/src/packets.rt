@@ -1,10 +1,12 @@
 //! What the packets of `play` go to.
 ghost use Rattle.std.specs.Prelude.{◌≡◌, ◌≢◌, ◌≤◌, ◌↔◌, ◌∷◌, ◌++◌, ℕ, [], None, Some, IfOk, IsTrue};
-ghost use Rattle.std.specs.Prelude.{MatchResult, OnOk, Ok, Result, length, take, true};
-ghost use Rattle.mot_destinations.specs.Packets.{BeginsBeside, IsAnswer, IsPlace, IsReason};
-ghost use Rattle.mot_destinations.specs.Packets.{IsTakenAway, IsTarget, OpensInto, OpensOutput, OpensStream};
-ghost use Rattle.mot_destinations.specs.Packets.{TakesItsPlace, TakesPlace, TellsWhy, begun_of};
+ghost use Rattle.std.specs.Prelude.{MatchResult, OnOk, Ok, Result, length, take};
+ghost use Rattle.mot_destinations.specs.Packets.{BeginsBeside, IsAnswer, IsPlace, IsPlaced};
+ghost use Rattle.mot_destinations.specs.Packets.{IsReason, IsTakenAway, IsTarget, OpensInto};
+ghost use Rattle.mot_destinations.specs.Packets.{OpensOutput, OpensStream, TakesItsPlace};
+ghost use Rattle.mot_destinations.specs.Packets.{TakesPlace, TellsWhy, begun_of, destination_of};
 ghost use Rattle.mot_destinations.specs.Packets.{fault_after, place_of, place_without, target_of};
+ghost use Rattle.mot_destinations.specs.Packets.{writer_handle, writer_system, writes_of};
 ghost use Rattle.mot_destinations.specs.declared.packets.Target.{Target};
 ghost use Rattle.mot_files.specs.Call.{wrote};
 ghost use Rattle.mot_files.specs.declared.system.Fault.{Fault};
@@ -101,12 +103,13 @@ impl<'a, S: System + Drop> OpenPackets<'a, S> {
     /// or of the new one, whole. It is noted beside what was written. If that fails, the file is
     /// taken away.
     pub fn take_place(&mut self) -> Result<(), PacketsFault>
-        ensures same { self.new.writer.taken.notes.all ≡ self.old.writer.taken.notes.all }
+        ensures same { writes_of self.new.writer.taken ≡ writes_of self.old.writer.taken }
         ensures placed { target_of self.old ≡ Target.File
-            → OnOk result (self.new.writer.taken.is_placed ≡ true) }
+            → OnOk result (IsPlaced self.new.writer.taken) }
         ensures others { target_of self.old ≢ Target.File → result ≡ Ok tt }
-        ensures calls { TakesItsPlace self.old.destination self.old.writer.handle result
-            (S.calls self.old.writer.system) (S.calls self.new.writer.system) }
+        ensures calls { TakesItsPlace (destination_of self.old) (writer_handle self.old.writer)
+            result
+            (S.calls (writer_system self.old.writer)) (S.calls (writer_system self.new.writer)) }
     {
         let Destination::File(place) = &self.destination else {
             return Ok(());
@@ -122,8 +125,8 @@ impl<'a, S: System + Drop> OpenPackets<'a, S> {
     /// Leaves nothing of a new file.
     pub fn take_away(&mut self)
         ensures taken { self.new.writer.taken ≡ self.old.writer.taken }
-        ensures calls { IsTakenAway self.old.destination self.old.writer.handle
-            (S.calls self.old.writer.system) (S.calls self.new.writer.system) }
+        ensures calls { IsTakenAway (destination_of self.old) (writer_handle self.old.writer)
+            (S.calls (writer_system self.old.writer)) (S.calls (writer_system self.new.writer)) }
     {
         if let Destination::File(place) = &self.destination {
             take_away(
@@ -145,10 +148,11 @@ impl<'a, S: System + Drop> OpenPackets<'a, S> {
     /// system says of a further write: the file is given up anyway.
     pub fn reason(&mut self) -> Option<Cause>
         ensures same { self.new.writer.taken ≡ self.old.writer.taken }
-        ensures handle { self.new.writer.handle ≡ self.old.writer.handle }
-        ensures destination { self.new.destination ≡ self.old.destination }
-        ensures told { IsReason self.old.destination self.old.writer.handle self.old.writer.fault
-            result (S.calls self.old.writer.system) (S.calls self.new.writer.system) }
+        ensures handle { writer_handle self.new.writer ≡ writer_handle self.old.writer }
+        ensures destination { destination_of self.new ≡ destination_of self.old }
+        ensures told { IsReason (destination_of self.old) (writer_handle self.old.writer)
+            self.old.writer.fault result (S.calls (writer_system self.old.writer))
+            (S.calls (writer_system self.new.writer)) }
     {
         let fault = match self.writer.fault {
             Some(fault) => fault,
@@ -195,8 +199,9 @@ pub fn open_packets<'a, S: System + Drop>(
     ensures begun { IfOk result (λ opened. begun_of opened ≡ path.now ∷ []) }
     ensures turns { IfOk result (λ opened. target_of opened ≡ Target.File
         → (turns ≢ None) × (turns ≢ Some 0)) }
-    ensures calls { IfOk result (λ opened. OpensInto path.now disk.now opened.writer.handle
-        (S.calls system) (S.calls opened.writer.system) opened.destination) }
+    ensures calls { IfOk result (λ opened. OpensInto path.now disk.now
+        (writer_handle opened.writer) (S.calls system) (S.calls (writer_system opened.writer))
+        (destination_of opened)) }
 {
     let mut system = system;
     if path == OUTPUT {
@@ -363,19 +368,21 @@ impl<S: System + Drop> PacketWriter<S> {
 }
 
 impl<S: System + Drop> Outlet for PacketWriter<S> {
-    ghost writes = { λ outlet. Some outlet.taken.notes.all };
+    ghost writes = { λ outlet. Some (writes_of outlet.taken) };
 
     fn write_once(&mut self, bytes: &[u8]) -> io::Result<usize>
         ensures bound { IfOk result (λ count. count ≤ length bytes.now) }
         ensures one { MatchResult result
-            (λ count. Grows (Some self.old.taken.notes.all) (Some self.new.taken.notes.all)
+            (λ count. Grows (Some (writes_of self.old.taken)) (Some (writes_of self.new.taken))
             (take count bytes.now ∷ []))
-            (λ _. Grows (Some self.old.taken.notes.all) (Some self.new.taken.notes.all) ([] ∷ [])) }
-        ensures handle { self.new.handle ≡ self.old.handle }
+            (λ _. Grows (Some (writes_of self.old.taken)) (Some (writes_of self.new.taken))
+            ([] ∷ [])) }
+        ensures handle { writer_handle self.new ≡ writer_handle self.old }
 
         // The packet was offered in one write to what was opened, and nothing else was done.
-        ensures calls { (answer : Result ℕ Fault) × (S.calls self.new.system
-            ≡ S.calls self.old.system ++ wrote self.old.handle bytes.now answer ∷ [])
+        ensures calls { (answer : Result ℕ Fault) × (S.calls (writer_system self.new)
+            ≡ S.calls (writer_system self.old)
+            ++ wrote (writer_handle self.old) bytes.now answer ∷ [])
             × (self.new.fault ≡ fault_after self.old.fault (length bytes.now) answer)
             × IsAnswer answer result }
     {

@@ -2,6 +2,7 @@
 ghost use Rattle.std.specs.Prelude.{◌≡◌, ◌++◌, ◌∷◌, [], IfSome, MatchOption, codes, string_bytes};
 ghost use Rattle.mot_files.specs.Call.{told_time};
 ghost use Rattle.mot_destinations.specs.Status.{ChecksPlace, WritesStatus, beside_fault};
+ghost use Rattle.mot_destinations.specs.Status.{status_beside, status_disk, status_system};
 
 use crate::beside::{SUFFIX, is_of_disk};
 use crate::fault::PacketsFault;
@@ -24,9 +25,9 @@ impl<'a, S: System + Drop> StatusFile<'a, S> {
     /// The file at this path. Nothing was written.
     pub fn new(system: S, alloc: Global, path: &'a str, disk: &'a str) -> StatusFile<'a, S>
         ensures path { result.path.now ≡ path.now }
-        ensures disk { result.disk.now ≡ disk.now }
-        ensures system { result.system ≡ system }
-        ensures beside { IfSome result.beside (λ beside. string_bytes beside
+        ensures disk { status_disk result ≡ disk.now }
+        ensures system { status_system result ≡ system }
+        ensures beside { IfSome (status_beside result) (λ beside. beside
             ≡ path.now ++ codes ".new") }
     {
         StatusFile {
@@ -39,10 +40,11 @@ impl<'a, S: System + Drop> StatusFile<'a, S> {
 
     /// The time of day, if the system knows it.
     pub fn now(&mut self) -> Option<Time>
-        ensures calls { S.calls self.new.system ≡ S.calls self.old.system ++ told_time result ∷ [] }
+        ensures calls { S.calls (status_system self.new)
+            ≡ S.calls (status_system self.old) ++ told_time result ∷ [] }
         ensures path { self.new.path ≡ self.old.path }
-        ensures disk { self.new.disk ≡ self.old.disk }
-        ensures beside { self.new.beside ≡ self.old.beside }
+        ensures disk { status_disk self.new ≡ status_disk self.old }
+        ensures beside { status_beside self.new ≡ status_beside self.old }
     {
         self.system.now()
     }
@@ -50,13 +52,13 @@ impl<'a, S: System + Drop> StatusFile<'a, S> {
     /// Writes the text beside the file, and puts it in its place. Neither is synced: after a power
     /// cut the file may be empty. The disk stays, and so does what is no regular file.
     pub fn write(&mut self, text: &[u8]) -> Result<(), PacketsFault>
-        ensures calls { MatchOption self.old.beside
-            (S.calls self.new.system ≡ S.calls self.old.system)
-            (λ beside. WritesStatus self.old.path.now (string_bytes beside) self.old.disk.now
-            text.now result (S.calls self.old.system) (S.calls self.new.system)) }
+        ensures calls { MatchOption (status_beside self.old)
+            (S.calls (status_system self.new) ≡ S.calls (status_system self.old))
+            (λ beside. WritesStatus self.old.path.now beside (status_disk self.old) text.now result
+            (S.calls (status_system self.old)) (S.calls (status_system self.new))) }
         ensures path { self.new.path ≡ self.old.path }
-        ensures disk { self.new.disk ≡ self.old.disk }
-        ensures beside { self.new.beside ≡ self.old.beside }
+        ensures disk { status_disk self.new ≡ status_disk self.old }
+        ensures beside { status_beside self.new ≡ status_beside self.old }
     {
         let Some(beside) = &self.beside else {
             return Err(PacketsFault::from(AllocError));

@@ -1,5 +1,6 @@
 //! What the writes of packets took, as a list that only clauses read.
 ghost use Rattle.std.specs.Prelude.{◌≡◌, ◌≤◌, ◌∷◌, ◌++◌, [], true, IfOk, MatchResult, length, take};
+ghost use Rattle.mot_destinations.specs.Packets.{writes_of};
 
 use disk_store::Notes;
 use std::io;
@@ -17,7 +18,7 @@ pub struct Taken {
 impl Taken {
     /// Nothing was opened, and nothing written.
     pub fn nothing() -> Taken
-        ensures { result.notes.all ≡ [] }
+        ensures { writes_of result ≡ [] }
     {
         Taken {
             notes: Notes::new(),

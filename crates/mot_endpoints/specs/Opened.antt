@@ -1,6 +1,11 @@
 -- What a host came to, in order: as what, and by which path.
 use Rattle.std.specs.Prelude.{ℕ, ◌≡◌, List, [], ◌∷◌, ◌++◌, Option, Some, None}
 use Rattle.std.specs.Borrow.{Bor}
+use Rattle.mot_endpoints.specs.declared.host.Host.{Host}
+
+-- what it came to so far
+abbrev pub paths_of : Host → List (List ℕ × List ℕ)
+paths_of host = host.paths.all
 
 -- the path that is given for such a thing, if one is
 abbrev pub named : (kind : List ℕ) → Option (Bor (List ℕ)) → List (List ℕ × List ℕ)

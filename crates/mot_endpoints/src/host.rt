@@ -5,7 +5,12 @@ ghost use Rattle.std.specs.Prelude.{codes, false, length, true};
 ghost use Rattle.disk_store.specs.Beginning.{IsFirst};
 ghost use Rattle.disk_store.specs.File.{file_state};
 ghost use Rattle.mot_endpoints.specs.LinePlaces.{ChecksLines};
-ghost use Rattle.mot_destinations.specs.Packets.{IsTarget, OpensInto, begun_of, target_of};
+ghost use Rattle.mot_endpoints.specs.Opened.{paths_of};
+ghost use Rattle.mot_destinations.specs.Packets.{IsTarget, OpensInto, begun_of, destination_of};
+ghost use Rattle.mot_destinations.specs.Packets.{target_of, writer_handle, writer_system};
+ghost use Rattle.mot_destinations.specs.Status.{status_disk, status_system};
+ghost use Rattle.mot_files.specs.Host.{calls_of};
+ghost use Rattle.mot_shelf.specs.System.{reads_at_once, shelf_path, shelf_system};
 
 use crate::lines::{Others, check_folder};
 use crate::types::read_text;
@@ -33,7 +38,7 @@ pub struct Host<'a> {
 impl<'a> Host<'a> {
     /// It came to none.
     pub fn new(rt: &'a HostRuntime) -> Host<'a>
-        ensures { result.paths.all ≡ [] }
+        ensures { paths_of result ≡ [] }
     {
         Host {
             rt,
@@ -44,7 +49,7 @@ impl<'a> Host<'a> {
 
     /// The files of the machine, of which nothing was asked.
     fn system(&self) -> HostSystem<'a, HostRuntime>
-        ensures { result.calls.all ≡ [] }
+        ensures { calls_of result ≡ [] }
     {
         HostSystem::new(self.rt, self.rt.alloc(), self.rt.stdout())
     }
@@ -57,8 +62,8 @@ impl<'a> Host<'a> {
     ) -> Result<BegunFile<S, WasThere>, Unopened<S>>
         ensures first { IfOk result (λ file. IsFirst false file.disk) }
         ensures paths { MatchResult result
-            (λ _. self.new.paths.all ≡ self.old.paths.all ++ (codes "disk", path.now) ∷ [])
-            (λ _. self.new.paths.all ≡ self.old.paths.all) }
+            (λ _. paths_of self.new ≡ paths_of self.old ++ (codes "disk", path.now) ∷ [])
+            (λ _. paths_of self.new ≡ paths_of self.old) }
     {
         self.side = SideFile::of_target(self.rt, path).ok();
         let file = open_file(self.rt, path, start)?;
@@ -76,8 +81,8 @@ impl<'a> Host<'a> {
         ensures first { IfOk result (λ file. IsFirst true file.disk) }
         ensures len { IfOk result (λ file. (file_state file.disk).len ≡ len) }
         ensures paths { MatchResult result
-            (λ _. self.new.paths.all ≡ self.old.paths.all ++ (codes "disk", path.now) ∷ [])
-            (λ _. self.new.paths.all ≡ self.old.paths.all) }
+            (λ _. paths_of self.new ≡ paths_of self.old ++ (codes "disk", path.now) ∷ [])
+            (λ _. paths_of self.new ≡ paths_of self.old) }
     {
         self.side = match SideFile::of(self.rt, path) {
             Ok(side) => Some(side),
@@ -91,7 +96,7 @@ impl<'a> Host<'a> {
     /// Removes the empty file that the last opening of a disk has made beside its file, if it can:
     /// what was opened is no disk, or not one for what is asked.
     pub fn clear_side(&mut self)
-        ensures { self.new.paths.all ≡ self.old.paths.all }
+        ensures { paths_of self.new ≡ paths_of self.old }
     {
         if let Some(side) = &self.side {
             let _ = side.clear(self.rt);
@@ -101,7 +106,7 @@ impl<'a> Host<'a> {
     /// Removes the file of this path, that was made last as a disk and is of no use, and the empty
     /// one that was made beside it, if it can.
     pub fn take_away(&mut self, path: &str)
-        ensures { self.new.paths.all ≡ self.old.paths.all ++ (codes "removed", path.now) ∷ [] }
+        ensures { paths_of self.new ≡ paths_of self.old ++ (codes "removed", path.now) ∷ [] }
     {
         self.paths.note(b"removed", path.as_bytes());
         if let Some(side) = &self.side {
@@ -125,10 +130,11 @@ impl<'a> Host<'a> {
         ensures turns { IfOk result (λ opened. target_of opened ≡ Target.File
             → (turns ≢ None) × (turns ≢ Some 0)) }
         ensures paths { MatchResult result
-            (λ _. self.new.paths.all ≡ self.old.paths.all ++ (codes "packets", path.now) ∷ [])
-            (λ _. self.new.paths.all ≡ self.old.paths.all) }
-        ensures calls { IfOk result (λ opened. OpensInto path.now disk.now opened.writer.handle
-            [] opened.writer.system.calls.all opened.destination) }
+            (λ _. paths_of self.new ≡ paths_of self.old ++ (codes "packets", path.now) ∷ [])
+            (λ _. paths_of self.new ≡ paths_of self.old) }
+        ensures calls { IfOk result (λ opened. OpensInto path.now disk.now
+            (writer_handle opened.writer) [] (calls_of (writer_system opened.writer))
+            (destination_of opened)) }
     {
         let opened = open_packets(self.system(), self.rt.alloc(), path, disk, turns)?;
         self.paths.note(b"packets", path.as_bytes());
@@ -142,11 +148,10 @@ impl<'a> Host<'a> {
         path: &'a str,
         at_once: bool,
     ) -> SystemShelf<'a, HostSystem<'a, HostRuntime>>
-        ensures none { result.system.calls.all ≡ [] }
-        ensures path { result.path.now ≡ path.now }
-        ensures rule { result.at_once ≡ at_once }
-        ensures paths { self.new.paths.all
-            ≡ self.old.paths.all ++ (codes "folder", path.now) ∷ [] }
+        ensures none { calls_of (shelf_system result) ≡ [] }
+        ensures path { shelf_path result ≡ path.now }
+        ensures rule { reads_at_once result ≡ at_once }
+        ensures paths { paths_of self.new ≡ paths_of self.old ++ (codes "folder", path.now) ∷ [] }
     {
         self.paths.note(b"folder", path.as_bytes());
         SystemShelf::new(self.system(), path, at_once)
@@ -161,10 +166,10 @@ impl<'a> Host<'a> {
     ) -> Result<LinePlace<'a, HostSystem<'a, HostRuntime>>, LinesFault>
         ensures path { IfOk result (λ place. place.path ≡ path.entry) }
         ensures paths { MatchResult result
-            (λ _. self.new.paths.all ≡ self.old.paths.all ++ (codes "lines", path.now) ∷ [])
-            (λ _. self.new.paths.all ≡ self.old.paths.all) }
+            (λ _. paths_of self.new ≡ paths_of self.old ++ (codes "lines", path.now) ∷ [])
+            (λ _. paths_of self.new ≡ paths_of self.old) }
         ensures checked { IfOk result (λ place. ChecksLines path.now others.entry (Ok tt)
-            [] place.system.calls.all) }
+            [] (calls_of place.system)) }
     {
         let mut system = HostSystem::new(self.rt, self.rt.alloc(), self.rt.stdout());
         check_folder(&mut system, path, others)?;
@@ -176,8 +181,8 @@ impl<'a> Host<'a> {
     pub fn types(&mut self, alloc: Global, path: &str) -> Result<Vec<u8>, TypesFault>
         ensures len { IfOk result (λ text. length text.items ≤ 65536) }
         ensures paths { MatchResult result
-            (λ _. self.new.paths.all ≡ self.old.paths.all ++ (codes "types", path.now) ∷ [])
-            (λ _. self.new.paths.all ≡ self.old.paths.all) }
+            (λ _. paths_of self.new ≡ paths_of self.old ++ (codes "types", path.now) ∷ [])
+            (λ _. paths_of self.new ≡ paths_of self.old) }
     {
         let text = read_text(&mut self.system(), alloc, path)?;
         self.paths.note(b"types", path.as_bytes());
@@ -191,10 +196,9 @@ impl<'a> Host<'a> {
         disk: &'a str,
     ) -> StatusFile<'a, HostSystem<'a, HostRuntime>>
         ensures path { result.path.now ≡ path.now }
-        ensures disk { result.disk.now ≡ disk.now }
-        ensures unasked { result.system.calls.all ≡ [] }
-        ensures paths { self.new.paths.all
-            ≡ self.old.paths.all ++ (codes "status", path.now) ∷ [] }
+        ensures disk { status_disk result ≡ disk.now }
+        ensures unasked { calls_of (status_system result) ≡ [] }
+        ensures paths { paths_of self.new ≡ paths_of self.old ++ (codes "status", path.now) ∷ [] }
     {
         self.paths.note(b"status", path.as_bytes());
         StatusFile::new(self.system(), self.rt.alloc(), path, disk)

@@ -5,7 +5,7 @@ ghost use Rattle.mot_endpoints.specs.LinePlaces.{ChecksLines, IsApart, IsApartFr
 ghost use Rattle.mot_endpoints.specs.LinePlaces.{IsRefused, IsUnresolved, LeadsInto, PacketsApart};
 ghost use Rattle.mot_endpoints.specs.LinePlaces.{StandsIn, TypesApart};
 ghost use Rattle.mot_endpoints.specs.Lines.{IsUnlined};
-ghost use Rattle.mot_endpoints.specs.Opened.{BeginsTo, named};
+ghost use Rattle.mot_endpoints.specs.Opened.{BeginsTo, named, paths_of};
 ghost use Rattle.mot_files.specs.declared.system.Kind.TheVariants.{Folder};
 ghost use Rattle.mot_line_folder.specs.declared.folder.LineFolder.{LineFolder};
 
@@ -54,9 +54,9 @@ pub fn line_folder<'a>(
         ≡ option_map (λ _. []) path.entry) }
     ensures refused { IfErr result (λ unbegun. IsUnlined path.entry unbegun.refusal) }
     ensures opens { MatchResult result
-        (λ _. host.new.paths.all ≡ host.old.paths.all ++ named (codes "lines") path.entry)
+        (λ _. paths_of host.new ≡ paths_of host.old ++ named (codes "lines") path.entry)
         (λ _. BeginsTo (named (codes "lines") path.entry)
-        host.old.paths.all host.new.paths.all) }
+        (paths_of host.old) (paths_of host.new)) }
 {
     let Some(path) = path else {
         return Ok(None);

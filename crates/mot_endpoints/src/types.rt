@@ -1,7 +1,7 @@
 //! Which files of a folder are objects: the known suffixes, and those that a file adds.
 ghost use Rattle.std.specs.Prelude.{◌≡◌, ◌≤◌, ◌<◌, ◌+◌, ◌∷◌, ◌++◌, ℕ, List, []};
 ghost use Rattle.std.specs.Prelude.{IfErr, IfOk, MatchResult, Ok, codes, length, take};
-ghost use Rattle.mot_endpoints.specs.Opened.{BeginsTo, named};
+ghost use Rattle.mot_endpoints.specs.Opened.{BeginsTo, named, paths_of};
 ghost use Rattle.mot_endpoints.specs.Inner.Texts.{IsOpened, IsReadToEnd, IsTextOf};
 ghost use Rattle.mot_endpoints.specs.Types.{IsTyped, IsUntyped};
 ghost use Rattle.mot_files.specs.Call.{looked_at, read_of};
@@ -28,9 +28,9 @@ pub fn file_types(
     ensures typed { IfOk result (IsTyped path.entry) }
     ensures refused { IfErr result (λ unbegun. IsUntyped path.entry unbegun.refusal) }
     ensures opens { MatchResult result
-        (λ _. host.new.paths.all ≡ host.old.paths.all ++ named (codes "types") path.entry)
+        (λ _. paths_of host.new ≡ paths_of host.old ++ named (codes "types") path.entry)
         (λ _. BeginsTo (named (codes "types") path.entry)
-        host.old.paths.all host.new.paths.all) }
+        (paths_of host.old) (paths_of host.new)) }
 {
     let mut types = match FileTypes::new(alloc) {
         Ok(types) => types,

@@ -1,6 +1,7 @@
 //! The files of the machine. Each method makes the one call of its name, on what it is given, and
 //! notes it with its answer: no contract can say so, and a reader of this file has to see it.
 ghost use Rattle.std.specs.Prelude.{◌≡◌, ◌≤◌, [], IfOk, length};
+ghost use Rattle.mot_files.specs.Host.{calls_of};
 
 use crate::answers::{closed, locked, real_path, seen, time_of_day, told};
 use crate::call_log::CallLog;
@@ -34,7 +35,7 @@ pub struct HostSystem<'a, T: Files<File = File> + Clock> {
 impl<'a, T: Files<File = File> + Clock> HostSystem<'a, T> {
     /// The files of this runtime, and its standard output. Nothing was asked.
     pub fn new(rt: &'a T, alloc: Global, output: Stdout) -> HostSystem<'a, T>
-        ensures { result.calls.all ≡ [] }
+        ensures { calls_of result ≡ [] }
     {
         HostSystem {
             rt,
@@ -101,7 +102,7 @@ impl<'a, T: Files<File = File> + Clock> HostSystem<'a, T> {
 }
 
 impl<'a, T: Files<File = File> + Clock> System for HostSystem<'a, T> {
-    ghost calls = { λ system. system.calls.all };
+    ghost calls = { calls_of };
 
     fn look(&mut self, path: &str) -> Result<Seen, Fault> {
         let answer = seen(self.rt.symlink_metadata(path));

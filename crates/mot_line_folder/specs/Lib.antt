@@ -1,4 +1,5 @@
 pub mod Inner
 pub mod LineFiles
 pub mod LineReads
+pub mod Spool
 pub mod Spooling

@@ -1,5 +1,6 @@
 //! The folder that lines come from while a disk is played.
 ghost use Rattle.std.specs.Prelude.{◌≡◌, []};
+ghost use Rattle.mot_line_folder.specs.Spool.{spool_folder, spool_gave};
 
 use crate::spool::Spool;
 use mot_files::System;
@@ -26,8 +27,8 @@ impl<'a, S: System + Drop> LinePlace<'a, S> {
 
     /// Its files, of which none was read.
     pub fn spool(self, alloc: Global) -> Spool<'a, S>
-        ensures folder { result.finder.folder.now ≡ self.entry.path.now }
-        ensures none { result.lines.notes.all ≡ [] }
+        ensures folder { spool_folder result ≡ self.entry.path.now }
+        ensures none { spool_gave result ≡ [] }
     {
         Spool::new(self.system, alloc, self.path)
     }

@@ -1,5 +1,6 @@
 //! What the reads of lines gave, as a list that only clauses read.
 ghost use Rattle.std.specs.Prelude.{◌≡◌, [], ◌∷◌, ◌++◌};
+ghost use Rattle.mot_line_folder.specs.Spool.{reads_of};
 
 use disk_store::Notes;
 
@@ -13,7 +14,7 @@ pub struct LineNotes {
 impl LineNotes {
     /// Nothing was read.
     pub fn new() -> LineNotes
-        ensures { result.notes.all ≡ [] }
+        ensures { reads_of result ≡ [] }
     {
         LineNotes {
             notes: Notes::new(),

@@ -1,10 +1,12 @@
 //! Files of lines in a folder, read one after the other.
-ghost use Rattle.std.specs.Prelude.{◌≡◌, ◌≤◌, ◌⊎◌, ◌∷◌, ◌++◌, [], ℕ, IfOk, IfSome, IsErr, List, None, Option};
+ghost use Rattle.std.specs.Prelude.{◌≡◌, ◌≤◌, ◌⊎◌, ◌∷◌, ◌++◌, [], IfOk, IfSome, IsErr, List, None, Option};
 ghost use Rattle.std.specs.Prelude.{Result, false, length, string_bytes, take, true, vec_capacity};
 ghost use Rattle.mot_events.specs.Told.{AreOfFiles, Entry, HearsAll};
 ghost use Rattle.mot_line_folder.specs.LineFiles.{Leaves, TakesAway};
 ghost use Rattle.mot_line_folder.specs.Inner.Said.{Remembers};
 ghost use Rattle.mot_line_folder.specs.declared.said.Stamp.{Stamp};
+ghost use Rattle.mot_line_folder.specs.Spool.{is_torn, open_file, reads_of, spool_folder};
+ghost use Rattle.mot_line_folder.specs.Spool.{spool_gave, spool_system};
 ghost use Rattle.mot_line_folder.specs.Spooling.{Finishes, FinishesFile, Serves};
 ghost use Rattle.mot_line_folder.specs.Spooling.{ServesCount, ServesFile};
 ghost use Rattle.mot_files.specs.declared.system.Fault.{Fault};
@@ -46,10 +48,10 @@ pub struct Spool<'a, S: System + Drop> {
 impl<'a, S: System + Drop> Spool<'a, S> {
     /// No file was read.
     pub fn new(system: S, alloc: Global, folder: &'a str) -> Spool<'a, S>
-        ensures folder { result.finder.folder.now ≡ folder.now }
-        ensures system { result.finder.system ≡ system }
+        ensures folder { spool_folder result ≡ folder.now }
+        ensures system { spool_system result ≡ system }
         ensures goes { result.is_stopped ≡ false }
-        ensures none { result.lines.notes.all ≡ [] }
+        ensures none { spool_gave result ≡ [] }
     {
         Spool {
             finder: Finder::new(system, alloc, folder),
@@ -63,7 +65,7 @@ impl<'a, S: System + Drop> Spool<'a, S> {
 
     /// What its reads gave.
     pub fn into_lines(self) -> LineNotes
-        ensures { result ≡ self.entry.lines }
+        ensures { reads_of result ≡ spool_gave self.entry }
     {
         self.lines
     }
@@ -203,7 +205,7 @@ impl<'a, S: System + Drop> Spool<'a, S> {
 
     /// The system of files.
     pub fn into_system(self) -> S
-        ensures { result ≡ self.entry.finder.system }
+        ensures { result ≡ spool_system self.entry }
     {
         self.finder.into_system()
     }
@@ -212,10 +214,10 @@ impl<'a, S: System + Drop> Spool<'a, S> {
     /// that is at its end is taken away, and nothing more is read. One whose last line has no end
     /// stays, since that line was not answered. What is wrong is told.
     pub fn finish<T: Tells>(&mut self, log: &mut T)
-        ensures given { self.new.lines ≡ self.old.lines }
-        ensures finishes { Finishes self.old.«open» (S.calls self.old.finder.system)
-            (S.calls self.new.finder.system) }
-        ensures folder { self.new.finder.folder ≡ self.old.finder.folder }
+        ensures given { spool_gave self.new ≡ spool_gave self.old }
+        ensures finishes { Finishes (open_file self.old) (S.calls (spool_system self.old))
+            (S.calls (spool_system self.new)) }
+        ensures folder { spool_folder self.new ≡ spool_folder self.old }
         ensures stops { self.new.is_stopped ≡ true }
         ensures told { (entries : List Entry) × AreOfFiles entries
             × HearsAll T.hears T.misses log.old entries log.new }
@@ -259,20 +261,19 @@ impl<'a, S: System + Drop> Spool<'a, S> {
 }
 
 impl<'a, S: System + Drop> Inlet for Spool<'a, S> {
-    ghost gave = { λ spool. spool.lines.notes.all };
+    ghost gave = { spool_gave };
 
     fn read<T: Tells>(&mut self, room: &mut [u8], count: &mut LineCount, log: &mut T) -> usize
         ensures fits { result ≤ length room.new }
-        ensures gave { self.new.lines.notes.all
-            ≡ self.old.lines.notes.all ++ take result room.new ∷ [] }
+        ensures gave { spool_gave self.new ≡ spool_gave self.old ++ take result room.new ∷ [] }
         ensures told { (entries : List Entry) × AreOfFiles entries
             × HearsAll T.hears T.misses log.old entries log.new }
 
         // What is asked of the system for it.
-        ensures serves { ServesCount self.old.finder.folder.now self.old.is_torn
-            self.new.is_torn self.old.is_stopped self.old.«open» self.new.«open» result room.new
-            (S.calls self.old.finder.system) (S.calls self.new.finder.system) }
-        ensures folder { self.new.finder.folder ≡ self.old.finder.folder }
+        ensures serves { ServesCount (spool_folder self.old) (is_torn self.old) (is_torn self.new)
+            self.old.is_stopped (open_file self.old) (open_file self.new) result room.new
+            (S.calls (spool_system self.old)) (S.calls (spool_system self.new)) }
+        ensures folder { spool_folder self.new ≡ spool_folder self.old }
     {
         let read = self.read_on(room).unwrap_or(0);
         self.begin_count(count);

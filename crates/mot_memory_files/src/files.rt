@@ -1,6 +1,7 @@
 //! A folder in memory, for tests and for the simulation. By a plan and a seed, other programs change
 //! it between any two calls, and calls fail.
 ghost use Rattle.std.specs.Prelude.{◌≡◌, [], IfOk};
+ghost use Rattle.mot_memory_files.specs.Files.{calls_of};
 
 use crate::folder::{Removed, Version};
 use crate::state::{Memory, Plan};
@@ -17,7 +18,7 @@ pub struct MemorySystem {
 impl MemorySystem {
     /// An empty folder of this path, in which changes and faults come by this plan and this seed.
     pub fn new(alloc: Global, path: &str, seed: u64, plan: Plan) -> Result<MemorySystem, AllocError>
-        ensures { IfOk result (λ system. system.calls.all ≡ []) }
+        ensures { IfOk result (λ system. calls_of system ≡ []) }
     {
         Ok(MemorySystem {
             memory: Memory::new(alloc, path, seed, plan)?,
@@ -27,28 +28,28 @@ impl MemorySystem {
 
     /// An empty folder of this path, which only calls change, and in which none fails.
     pub fn calm(alloc: Global, path: &str) -> Result<MemorySystem, AllocError>
-        ensures { IfOk result (λ system. system.calls.all ≡ []) }
+        ensures { IfOk result (λ system. calls_of system ≡ []) }
     {
         MemorySystem::new(alloc, path, 0, Plan::calm())
     }
 
     /// From now on it goes by this plan.
     pub fn set_plan(&mut self, plan: Plan)
-        ensures { self.new.calls.all ≡ self.old.calls.all }
+        ensures { calls_of self.new ≡ calls_of self.old }
     {
         self.memory.plan = plan;
     }
 
     /// So many nanoseconds pass.
     pub fn pass(&mut self, nanos: u64)
-        ensures { self.new.calls.all ≡ self.old.calls.all }
+        ensures { calls_of self.new ≡ calls_of self.old }
     {
         self.memory.folder.clock = self.memory.folder.clock.wrapping_add(nanos);
     }
 
     /// Another program gives the name to a new file of these bytes.
     pub fn put(&mut self, name: &str, bytes: &[u8]) -> Result<(), AllocError>
-        ensures { self.new.calls.all ≡ self.old.calls.all }
+        ensures { calls_of self.new ≡ calls_of self.old }
     {
         let place = self.memory.folder.add(Kind::File, bytes, true)?;
         self.memory.folder.point(name, place)
@@ -56,21 +57,21 @@ impl MemorySystem {
 
     /// Another program gives the name to a new pipe, folder, or link that leads out of the folder.
     pub fn put_other(&mut self, name: &str, kind: Kind) -> Result<(), AllocError>
-        ensures { self.new.calls.all ≡ self.old.calls.all }
+        ensures { calls_of self.new ≡ calls_of self.old }
     {
         self.memory.place_other(name, kind)
     }
 
     /// Another program writes these bytes into the file of this name, in place.
     pub fn rewrite(&mut self, name: &str, bytes: &[u8]) -> Result<(), AllocError>
-        ensures { self.new.calls.all ≡ self.old.calls.all }
+        ensures { calls_of self.new ≡ calls_of self.old }
     {
         self.memory.folder.rewrite(name, bytes, true, false)
     }
 
     /// Another program removes the name.
     pub fn take_away(&mut self, name: &str)
-        ensures { self.new.calls.all ≡ self.old.calls.all }
+        ensures { calls_of self.new ≡ calls_of self.old }
     {
         self.memory.folder.forget(name);
     }
@@ -137,7 +138,7 @@ impl MemorySystem {
 }
 
 impl System for MemorySystem {
-    ghost calls = { λ system. system.calls.all };
+    ghost calls = { calls_of };
 
     fn look(&mut self, path: &str) -> Result<Seen, Fault> {
         let answer = self.memory.look(path, false);

@@ -1,5 +1,6 @@
 //! What an opening leaves beside a file that is no disk, or not one for what is asked.
 ghost use Rattle.std.specs.Prelude.{◌≡◌};
+ghost use Rattle.mot_endpoints.specs.Opened.{paths_of};
 
 use mot_endpoints::Host;
 use mot_numbers::Refusal;
@@ -7,7 +8,7 @@ use mot_numbers::Refusal;
 /// Takes away the empty file that the last opening has made beside a file, if that was refused so as it
 /// was found: no disk, a disk already, or too short.
 pub fn clear_unfit(host: &mut Host<'_>, refusal: Refusal)
-    ensures { host.new.paths.all ≡ host.old.paths.all }
+    ensures { paths_of host.new ≡ paths_of host.old }
 {
     if is_unfit(refusal) {
         host.clear_side();

@@ -1,6 +1,7 @@
 //! The program, of all its commands.
 ghost use Rattle.std.specs.Prelude.{◌≢◌, Some, map};
 ghost use Rattle.mot_cli.specs.Task.{IsTask, LackOption};
+ghost use Rattle.mot_endpoints.specs.Opened.{paths_of};
 ghost use Rattle.mot_numbers.specs.declared.refusal.Refusal.TheVariants.{BadNumber};
 ghost use Rattle.mot_outcome.specs.Outcome.{UsesFiles};
 ghost use Rattle.mot_server.specs.Program.{LooksFor, Ran, RunsTo, Uses};
@@ -81,7 +82,7 @@ pub fn run_program_on<'a, Y: System, S: AsStr, B: Start, R: Read, W: Write, E: W
     ensures lacking { LackOption (map S.text words.now) → result.refusal ≢ Some BadNumber }
 
     // Nothing was opened, made or removed but what the words name, each at most once.
-    ensures files { Uses (map S.text words.now) result host.old.paths.all host.new.paths.all }
+    ensures files { Uses (map S.text words.now) result (paths_of host.old) (paths_of host.new) }
 
     // The system was only looked at. A disk was made only of what was found free: no device that is
     // mounted or has a signature.

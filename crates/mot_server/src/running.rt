@@ -1,5 +1,6 @@
 //! Each command, by its task.
 ghost use Rattle.std.specs.Prelude.{◌≡◌};
+ghost use Rattle.mot_endpoints.specs.Opened.{paths_of};
 ghost use Rattle.mot_playout.specs.Attempts.{fault_of};
 ghost use Rattle.mot_server.specs.Inner.Coming.{ComesOut, whole_result};
 ghost use Rattle.mot_server.specs.Program.{LooksFor, UsesFor};
@@ -34,7 +35,7 @@ pub(crate) fn execute<'a, Y: System, B: Start, R: Read, W: Write, E: Write>(
         (R.remaining reader.old) (R.remaining reader.new)
         (W.contents writer.old) (W.contents writer.new) }
     ensures files { UsesFor (fault_of result.result) task.now result.disk
-        host.old.paths.all host.new.paths.all }
+        (paths_of host.old) (paths_of host.new) }
     ensures looked { LooksFor task.now result.disk (Y.calls system.old) (Y.calls system.new) }
 {
     match task {

@@ -1,7 +1,7 @@
 //! What a folder gave, look by look.
 ghost use Rattle.std.specs.Prelude.{◌≡◌, List, [], ◌∷◌, ◌++◌};
 ghost use Rattle.std.specs.Borrow.{ftrue};
-ghost use Rattle.mot_shelf.specs.Given.{Given};
+ghost use Rattle.mot_shelf.specs.Given.{Given, nothing};
 ghost use Rattle.mot_shelf.specs.Seen.{given_of};
 
 use crate::pairs::Pairs;
@@ -28,14 +28,7 @@ pub struct Seen {
 impl Seen {
     /// Nothing.
     pub fn nothing() -> Seen
-        ensures listed { result.listed.all ≡ [] }
-        ensures files { result.files.all ≡ [] }
-        ensures others { result.others.all ≡ [] }
-        ensures read { (result.read.all ≡ []) × (result.stamped.all ≡ [])
-            × (result.unchanged.all ≡ []) }
-        ensures missed { result.missed.all ≡ [] }
-        ensures kept { (result.kept.all ≡ []) × (result.kept_names.all ≡ []) }
-        ensures failed { result.failed.all ≡ [] }
+        ensures { given_of result ≡ nothing }
     {
         Seen {
             listed: Notes::new(),

@@ -14,6 +14,8 @@ ghost use Rattle.mot_shelf.specs.Calls.{IsAsked, IsUnasked, NamesAreKept, NamesA
 ghost use Rattle.mot_shelf.specs.Calls.{FolderIsClosed, FolderIsOpened, KindIsAsked};
 ghost use Rattle.mot_shelf.specs.Calls.{NamesAreRead, NamesAreUnread};
 ghost use Rattle.mot_shelf.specs.Seen.{given_of};
+ghost use Rattle.mot_shelf.specs.System.{reads_at_once, shelf_fault, shelf_gave, shelf_handle};
+ghost use Rattle.mot_shelf.specs.System.{shelf_path, shelf_system};
 
 use crate::{FileRead, LookNotes, Seen, Shelf};
 use mot_files::{
@@ -42,11 +44,11 @@ impl<'a, S: System + Drop> SystemShelf<'a, S> {
     /// The folder at this path, which gave nothing yet. Files are read `at_once`, or once their last
     /// change is two seconds ago.
     pub fn new(system: S, path: &'a str, at_once: bool) -> SystemShelf<'a, S>
-        ensures system { result.system ≡ system }
-        ensures path { result.path.now ≡ path.now }
-        ensures rule { result.at_once ≡ at_once }
-        ensures none { (result.listing ≡ None) × (result.fault ≡ None)
-            × (given_of result.seen ≡ nothing) }
+        ensures system { shelf_system result ≡ system }
+        ensures path { shelf_path result ≡ path.now }
+        ensures rule { reads_at_once result ≡ at_once }
+        ensures none { (shelf_handle result ≡ None) × (shelf_fault result ≡ None)
+            × (shelf_gave result ≡ nothing) }
     {
         SystemShelf {
             system,
@@ -60,25 +62,25 @@ impl<'a, S: System + Drop> SystemShelf<'a, S> {
 
     /// The system of files.
     pub fn into_system(self) -> S
-        ensures { result ≡ self.entry.system }
+        ensures { result ≡ shelf_system self.entry }
     {
         self.system
     }
 
     /// What it gave since the last look began.
     pub fn into_seen(self) -> Seen
-        ensures { result ≡ self.entry.seen }
+        ensures { given_of result ≡ shelf_gave self.entry }
     {
         self.seen
     }
 }
 
 impl<'a, S: System + Drop> Shelf for SystemShelf<'a, S> {
-    ghost path = { λ shelf. shelf.path.now };
+    ghost path = { shelf_path };
 
-    ghost gave = { λ shelf. given_of shelf.seen };
+    ghost gave = { shelf_gave };
 
-    ghost at_once = { λ shelf. shelf.at_once };
+    ghost at_once = { reads_at_once };
 
     fn shown(&self) -> &str {
         self.path
@@ -89,12 +91,12 @@ impl<'a, S: System + Drop> Shelf for SystemShelf<'a, S> {
     }
 
     fn begin(&mut self)
-        ensures same { self.new.path.now ≡ self.old.path.now }
-        ensures rule { self.new.at_once ≡ self.old.at_once }
-        ensures gave { given_of self.new.seen ≡ nothing }
-        ensures calls { FolderIsClosed self.old.listing (S.calls self.old.system)
-            (S.calls self.new.system) }
-        ensures anew { (self.new.listing ≡ None) × (self.new.fault ≡ None) }
+        ensures same { shelf_path self.new ≡ shelf_path self.old }
+        ensures rule { reads_at_once self.new ≡ reads_at_once self.old }
+        ensures gave { shelf_gave self.new ≡ nothing }
+        ensures calls { FolderIsClosed (shelf_handle self.old) (S.calls (shelf_system self.old))
+            (S.calls (shelf_system self.new)) }
+        ensures anew { (shelf_handle self.new ≡ None) × (shelf_fault self.new ≡ None) }
     {
         close_listing(&mut self.system, self.listing);
         self.listing = None;
@@ -103,19 +105,19 @@ impl<'a, S: System + Drop> Shelf for SystemShelf<'a, S> {
     }
 
     fn open(&mut self, alloc: Global) -> io::Result<()>
-        ensures same { self.new.path.now ≡ self.old.path.now }
-        ensures rule { self.new.at_once ≡ self.old.at_once }
+        ensures same { shelf_path self.new ≡ shelf_path self.old }
+        ensures rule { reads_at_once self.new ≡ reads_at_once self.old }
         ensures gave { MatchResult result
-            (λ _. given_of self.new.seen ≡ and_listed (given_of self.old.seen) self.old.path.now)
-            (λ _. given_of self.new.seen ≡ and_failed (given_of self.old.seen) self.old.path.now) }
+            (λ _. shelf_gave self.new ≡ and_listed (shelf_gave self.old) (shelf_path self.old))
+            (λ _. shelf_gave self.new ≡ and_failed (shelf_gave self.old) (shelf_path self.old)) }
         ensures calls { MatchResult result
-            (λ _. (handle : Handle) × (self.new.listing ≡ Some handle)
-            × FolderIsOpened self.old.path.now (Ok handle) (S.calls self.old.system)
-            (S.calls self.new.system))
-            (λ error. FolderIsOpened self.old.path.now (Err error) (S.calls self.old.system)
-            (S.calls self.new.system)) }
-        ensures fault { MatchResult result (λ _. self.new.fault ≡ self.old.fault)
-            (λ error. self.new.fault ≡ Some error) }
+            (λ _. (handle : Handle) × (shelf_handle self.new ≡ Some handle)
+            × FolderIsOpened (shelf_path self.old) (Ok handle) (S.calls (shelf_system self.old))
+            (S.calls (shelf_system self.new)))
+            (λ error. FolderIsOpened (shelf_path self.old) (Err error)
+            (S.calls (shelf_system self.old)) (S.calls (shelf_system self.new))) }
+        ensures fault { MatchResult result (λ _. shelf_fault self.new ≡ shelf_fault self.old)
+            (λ error. shelf_fault self.new ≡ Some error) }
     {
         match open_folder(&mut self.system, alloc, self.path) {
             Ok(handle) => {
@@ -132,23 +134,24 @@ impl<'a, S: System + Drop> Shelf for SystemShelf<'a, S> {
     }
 
     fn fault(&self) -> Option<io::Error>
-        ensures { result ≡ self.now.fault }
+        ensures { result ≡ shelf_fault self.now }
     {
         self.fault
     }
 
     fn names(&mut self, room: &mut [u8]) -> io::Result<usize>
-        ensures same { self.new.path.now ≡ self.old.path.now }
-        ensures rule { self.new.at_once ≡ self.old.at_once }
+        ensures same { shelf_path self.new ≡ shelf_path self.old }
+        ensures rule { reads_at_once self.new ≡ reads_at_once self.old }
         ensures fits { IfOk result (λ count. count ≤ length room.new) }
         ensures gave { MatchResult result
-            (λ count. given_of self.new.seen
-            ≡ and_listed (given_of self.old.seen) (take count room.new))
-            (λ _. given_of self.new.seen ≡ and_failed (given_of self.old.seen) self.old.path.now) }
-        ensures calls { IfOk result (λ count. NamesAreRead self.old.listing self.new.listing
-            room.new count (S.calls self.old.system) (S.calls self.new.system)) }
-        ensures refused { IfErr result (λ _. NamesAreUnread self.old.listing self.new.listing
-            (S.calls self.old.system) (S.calls self.new.system)) }
+            (λ count. shelf_gave self.new ≡ and_listed (shelf_gave self.old) (take count room.new))
+            (λ _. shelf_gave self.new ≡ and_failed (shelf_gave self.old) (shelf_path self.old)) }
+        ensures calls { IfOk result (λ count. NamesAreRead (shelf_handle self.old)
+            (shelf_handle self.new) room.new count
+            (S.calls (shelf_system self.old)) (S.calls (shelf_system self.new))) }
+        ensures refused { IfErr result (λ _. NamesAreUnread (shelf_handle self.old)
+            (shelf_handle self.new)
+            (S.calls (shelf_system self.old)) (S.calls (shelf_system self.new))) }
     {
         match next_names(&mut self.system, &mut self.listing, room) {
             Ok(count) => {
@@ -163,16 +166,15 @@ impl<'a, S: System + Drop> Shelf for SystemShelf<'a, S> {
     }
 
     fn is_file(&mut self, alloc: Global, name: &[u8]) -> io::Result<bool>
-        ensures same { self.new.path.now ≡ self.old.path.now }
-        ensures rule { self.new.at_once ≡ self.old.at_once }
+        ensures same { shelf_path self.new ≡ shelf_path self.old }
+        ensures rule { reads_at_once self.new ≡ reads_at_once self.old }
         ensures gave { MatchResult result
-            (λ is_file. given_of self.new.seen
-            ≡ and_asked (given_of self.old.seen) name.now is_file)
-            (λ _. given_of self.new.seen ≡ and_failed (given_of self.old.seen) name.now) }
-        ensures calls { IfOk result (λ is_file. IsAsked self.old.path.now name.now is_file
-            (S.calls self.old.system) (S.calls self.new.system)) }
-        ensures refused { IfErr result (λ _. IsUnasked self.old.path.now name.now
-            (S.calls self.old.system) (S.calls self.new.system)) }
+            (λ is_file. shelf_gave self.new ≡ and_asked (shelf_gave self.old) name.now is_file)
+            (λ _. shelf_gave self.new ≡ and_failed (shelf_gave self.old) name.now) }
+        ensures calls { IfOk result (λ is_file. IsAsked (shelf_path self.old) name.now is_file
+            (S.calls (shelf_system self.old)) (S.calls (shelf_system self.new))) }
+        ensures refused { IfErr result (λ _. IsUnasked (shelf_path self.old) name.now
+            (S.calls (shelf_system self.old)) (S.calls (shelf_system self.new))) }
     {
         let answer = is_regular(&mut self.system, alloc, self.path, name);
         match answer {
@@ -184,23 +186,23 @@ impl<'a, S: System + Drop> Shelf for SystemShelf<'a, S> {
     }
 
     fn kind(&mut self, alloc: Global, name: &[u8]) -> Option<Kind>
-        ensures same { self.new.path.now ≡ self.old.path.now }
-        ensures rule { self.new.at_once ≡ self.old.at_once }
-        ensures gave { given_of self.new.seen ≡ given_of self.old.seen }
-        ensures calls { IfSome result (λ kind. KindIsAsked self.old.path.now name.now kind
-            (S.calls self.old.system) (S.calls self.new.system)) }
+        ensures same { shelf_path self.new ≡ shelf_path self.old }
+        ensures rule { reads_at_once self.new ≡ reads_at_once self.old }
+        ensures gave { shelf_gave self.new ≡ shelf_gave self.old }
+        ensures calls { IfSome result (λ kind. KindIsAsked (shelf_path self.old) name.now kind
+            (S.calls (shelf_system self.old)) (S.calls (shelf_system self.new))) }
     {
         kind_of(&mut self.system, alloc, self.path, name)
     }
 
     fn is_unchanged(&mut self, alloc: Global, name: &[u8], stamp: &Stamp) -> bool
-        ensures same { self.new.path.now ≡ self.old.path.now }
-        ensures rule { self.new.at_once ≡ self.old.at_once }
+        ensures same { shelf_path self.new ≡ shelf_path self.old }
+        ensures rule { reads_at_once self.new ≡ reads_at_once self.old }
         ensures gave { MatchBool result
-            (given_of self.new.seen ≡ and_unchanged (given_of self.old.seen) name.now stamp.now)
-            (given_of self.new.seen ≡ given_of self.old.seen) }
-        ensures calls { result ≡ true → FileIsUnchanged self.old.path.now name.now stamp.now
-            (S.calls self.old.system) (S.calls self.new.system) }
+            (shelf_gave self.new ≡ and_unchanged (shelf_gave self.old) name.now stamp.now)
+            (shelf_gave self.new ≡ shelf_gave self.old) }
+        ensures calls { result ≡ true → FileIsUnchanged (shelf_path self.old) name.now stamp.now
+            (S.calls (shelf_system self.old)) (S.calls (shelf_system self.new)) }
     {
         let is_unchanged = is_stamped(&mut self.system, alloc, self.path, name, stamp);
         if is_unchanged {
@@ -210,20 +212,21 @@ impl<'a, S: System + Drop> Shelf for SystemShelf<'a, S> {
     }
 
     fn read(&mut self, alloc: Global, name: &[u8], most: u64) -> Result<FileRead, Unread>
-        ensures same { self.new.path.now ≡ self.old.path.now }
-        ensures rule { self.new.at_once ≡ self.old.at_once }
+        ensures same { shelf_path self.new ≡ shelf_path self.old }
+        ensures rule { reads_at_once self.new ≡ reads_at_once self.old }
         ensures gave { MatchResult result
-            (λ file. given_of self.new.seen
-            ≡ and_read (given_of self.old.seen) name.now file.bytes.items file.stamp)
-            (λ _. given_of self.new.seen ≡ and_missed (given_of self.old.seen) name.now) }
-        ensures young { self.old.at_once ≡ true → IfErr result (λ unread. unread ≢ Young) }
+            (λ file. shelf_gave self.new
+            ≡ and_read (shelf_gave self.old) name.now file.bytes.items file.stamp)
+            (λ _. shelf_gave self.new ≡ and_missed (shelf_gave self.old) name.now) }
+        ensures young { reads_at_once self.old ≡ true → IfErr result (λ unread. unread ≢ Young) }
         ensures long { IfErr result (λ unread.
             (count : ℕ) → unread ≡ TooLong count → most < count) }
         ensures calls { MatchResult result
-            (λ file. FileIsRead self.old.path.now name.now most self.old.at_once file.bytes.items
-            file.stamp (S.calls self.old.system) (S.calls self.new.system))
-            (λ unread. FileIsUnread self.old.path.now name.now most self.old.at_once unread
-            (S.calls self.old.system) (S.calls self.new.system)) }
+            (λ file. FileIsRead (shelf_path self.old) name.now most (reads_at_once self.old)
+            file.bytes.items file.stamp
+            (S.calls (shelf_system self.old)) (S.calls (shelf_system self.new)))
+            (λ unread. FileIsUnread (shelf_path self.old) name.now most (reads_at_once self.old)
+            unread (S.calls (shelf_system self.old)) (S.calls (shelf_system self.new))) }
     {
         match read_named(
             &mut self.system,
@@ -247,16 +250,16 @@ impl<'a, S: System + Drop> Shelf for SystemShelf<'a, S> {
     }
 
     fn keep(&mut self, alloc: Global, name: &[u8]) -> Result<(), Unread>
-        ensures same { self.new.path.now ≡ self.old.path.now }
-        ensures rule { self.new.at_once ≡ self.old.at_once }
+        ensures same { shelf_path self.new ≡ shelf_path self.old }
+        ensures rule { reads_at_once self.new ≡ reads_at_once self.old }
         ensures gave { MatchResult result
-            (λ _. given_of self.new.seen ≡ and_kept (given_of self.old.seen) name.now)
-            (λ _. given_of self.new.seen ≡ and_missed (given_of self.old.seen) name.now) }
+            (λ _. shelf_gave self.new ≡ and_kept (shelf_gave self.old) name.now)
+            (λ _. shelf_gave self.new ≡ and_missed (shelf_gave self.old) name.now) }
         ensures calls { MatchResult result
-            (λ _. FileIsKept self.old.path.now name.now (S.calls self.old.system)
-            (S.calls self.new.system))
-            (λ unread. FileIsUnkept self.old.path.now name.now unread (S.calls self.old.system)
-            (S.calls self.new.system)) }
+            (λ _. FileIsKept (shelf_path self.old) name.now (S.calls (shelf_system self.old))
+            (S.calls (shelf_system self.new)))
+            (λ unread. FileIsUnkept (shelf_path self.old) name.now unread
+            (S.calls (shelf_system self.old)) (S.calls (shelf_system self.new))) }
     {
         match keep_named(&mut self.system, alloc, self.path, name) {
             Ok(()) => {
@@ -271,19 +274,18 @@ impl<'a, S: System + Drop> Shelf for SystemShelf<'a, S> {
     }
 
     fn keep_names(&mut self) -> io::Result<()>
-        ensures same { self.new.path.now ≡ self.old.path.now }
-        ensures rule { self.new.at_once ≡ self.old.at_once }
+        ensures same { shelf_path self.new ≡ shelf_path self.old }
+        ensures rule { reads_at_once self.new ≡ reads_at_once self.old }
         ensures gave { MatchResult result
-            (λ _. given_of self.new.seen
-            ≡ and_kept_names (given_of self.old.seen) self.old.path.now)
-            (λ _. given_of self.new.seen ≡ and_failed (given_of self.old.seen) self.old.path.now) }
+            (λ _. shelf_gave self.new ≡ and_kept_names (shelf_gave self.old) (shelf_path self.old))
+            (λ _. shelf_gave self.new ≡ and_failed (shelf_gave self.old) (shelf_path self.old)) }
         ensures calls { MatchResult result
-            (λ _. NamesAreKept self.old.path.now (S.calls self.old.system)
-            (S.calls self.new.system))
-            (λ _. NamesAreUnkept self.old.path.now (S.calls self.old.system)
-            (S.calls self.new.system)) }
-        ensures fault { MatchResult result (λ _. self.new.fault ≡ self.old.fault)
-            (λ error. self.new.fault ≡ Some error) }
+            (λ _. NamesAreKept (shelf_path self.old) (S.calls (shelf_system self.old))
+            (S.calls (shelf_system self.new)))
+            (λ _. NamesAreUnkept (shelf_path self.old) (S.calls (shelf_system self.old))
+            (S.calls (shelf_system self.new))) }
+        ensures fault { MatchResult result (λ _. shelf_fault self.new ≡ shelf_fault self.old)
+            (λ error. shelf_fault self.new ≡ Some error) }
     {
         match sync_path(&mut self.system, self.path) {
             Ok(()) => {

@@ -1,7 +1,6 @@
 -- What tells of a disk on air, and what it does when it is told of events and updates.
 use Rattle.std.specs.Prelude.{◌≡◌, ◌++◌, ◌==◌, ℕ, Bool, true, false, not, if◌then◌else◌, List}
-use Rattle.std.specs.Prelude.{None, Option, option_map, string_bytes, vec_len}
-use Rattle.std.specs.Global.{Global}
+use Rattle.std.specs.Prelude.{None, Option, vec_len}
 use Rattle.std.specs.Io.KnownBytes.{Appends}
 use Rattle.mot_log.specs.Counters.{none_counted}
 use Rattle.mot_log.specs.Log.{LeavesOut, LogView, Logs, log_view}
@@ -9,9 +8,9 @@ use Rattle.mot_events.specs.declared.event.Event.{Event}
 use Rattle.mot_events.specs.declared.event.LookEvent.{LookEvent}
 use Rattle.mot_files.specs.Call.{Call}
 use Rattle.mot_repository.specs.Repository.{RepositoryView}
-use Rattle.mot_status.specs.Told.{Known, Place, Reports, counted_after, counted_before}
+use Rattle.mot_status.specs.Told.{Known, Place, Reports, calls_at, counted_after, counted_before}
 use Rattle.mot_status.specs.Told.{counted_end, ends_turn, is_due, is_new_look, known, logged_after}
-use Rattle.mot_status.specs.Told.{logged_before, logged_end, matter, next_after, path_of, place}
+use Rattle.mot_status.specs.Told.{logged_before, logged_end, matter, next_after, path_of, place_at}
 use Rattle.mot_status.specs.Told.{status_counted, status_line, turn_of, turn_packets}
 use Rattle.mot_status.specs.declared.reporter.Reporter.{Reporter}
 use Rattle.mot_status.specs.declared.reporter.Telling.{Telling}
@@ -43,9 +42,8 @@ teller calls contents r = record {
   next = r.next;
   size = r.size;
   changes = r.changes;
-  known = known r.last_change r.is_unwritten (option_map (λ f. calls f.system) r.status);
-  file = option_map (λ f. place f.path.now f.disk.now (option_map (string_bytes {Z = Global}) f.beside))
-      r.status;
+  known = known r.last_change r.is_unwritten (calls_at calls r.status);
+  file = place_at r.status;
 }
 
 -- nothing was told yet: of the log this is known
@@ -59,9 +57,8 @@ starts calls bytes telling = record {
   next = 0;
   size = None;
   changes = 0;
-  known = known 0 false (option_map (λ f. calls f.system) telling.status);
-  file = option_map (λ f. place f.path.now f.disk.now (option_map (string_bytes {Z = Global}) f.beside))
-      telling.status;
+  known = known 0 false (calls_at calls telling.status);
+  file = place_at telling.status;
 }
 
 -- it is told an event: that is in its log, and counted
@@ -126,3 +123,9 @@ pub record TellsEnd (old : TellerView) (view : RepositoryView) (turns : ℕ)
   pub status : let counters = counted_end old.has_begun old.log.counters in
       Reports old.file (matter old.disk view (turn_of new.size) counters events)
       (not (counters.changes == old.changes)) true old.known new.known
+  pub rest : new ≡ record old {
+    log = new.log;
+    size = new.size;
+    changes = (counted_end old.has_begun old.log.counters).changes;
+    known = new.known;
+  }

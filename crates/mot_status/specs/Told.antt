@@ -2,8 +2,9 @@
 use Rattle.std.specs.Prelude.{◌≡◌, ◌==◌, ◌-◌, ◌%◌, ◌+◌, ◌||◌, ◌∷◌, [], ◌++◌, Bool, IsErr, List}
 use Rattle.std.specs.Prelude.{MatchOption, None, Option, Result, Some, false, flat_map}
 use Rattle.std.specs.Prelude.{if◌then◌else◌, is_ok, min, nat_le, not, option_map, true, ℕ}
-use Rattle.mot_destinations.specs.Status.{WritesStatus}
+use Rattle.mot_destinations.specs.Status.{WritesStatus, status_beside, status_disk, status_system}
 use Rattle.mot_destinations.specs.declared.fault.PacketsFault.{PacketsFault}
+use Rattle.mot_destinations.specs.declared.status_file.StatusFile.{StatusFile}
 use Rattle.mot_log.specs.Counters.{counted}
 use Rattle.mot_log.specs.Look.{counted_look, logged_met, new_events}
 use Rattle.mot_metrics.specs.Status.{status_text}
@@ -109,8 +110,17 @@ pub record Place : Type 0 where
   pub disk : List ℕ
   pub beside : Option (List ℕ)
 
-abbrev pub place : (path disk : List ℕ) → (beside : Option (List ℕ)) → Place
-place path disk beside = record { path = path; disk = disk; beside = beside }
+abbrev pub place_of : {S : Type 0} → StatusFile S → Place
+place_of file =
+    record { path = file.path.now; disk = status_disk file; beside = status_beside file }
+
+abbrev pub place_at : {S : Type 0} → Option (StatusFile S) → Option Place
+place_at status = option_map place_of status
+
+-- the calls that were made for it
+abbrev pub calls_at : {S : Type 0} → (S → List Call) → Option (StatusFile S)
+    → Option (List Call)
+calls_at calls status = option_map (λ file. calls (status_system file)) status
 
 -- The text was handed to the file, or there was no memory to make it.
 pub data Tries (place : Place) (text : List ℕ) (result : Result (Unit {0}) PacketsFault)

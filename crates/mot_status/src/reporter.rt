@@ -1,19 +1,17 @@
 //! What is told of a disk while it is played: packets, turns, looks, the start and the end, and the
 //! status.
 ghost use Rattle.std.specs.Prelude.{◌≡◌, ◌++◌, ◌==◌, [], IfSome, List, None, false, flat_map, if◌then◌else◌, not};
-ghost use Rattle.std.specs.Prelude.{option_map, string_bytes, true, vec_len, ℕ};
+ghost use Rattle.std.specs.Prelude.{true, vec_len, ℕ};
 ghost use Rattle.std.specs.Io.KnownBytes.{Appends};
-ghost use Rattle.mot_log.specs.Counters.{counted, none_counted};
 ghost use Rattle.mot_log.specs.Look.{counted_look, logged_met, new_events};
-ghost use Rattle.mot_log.specs.Tally.{tally_of};
-ghost use Rattle.mot_log.specs.Text.{logged};
 ghost use Rattle.mot_status.specs.Measured.{IsMeasured};
-ghost use Rattle.mot_status.specs.Teller.{Hears, Misses, TellsAfter, TellsBefore, starts, teller};
-ghost use Rattle.mot_status.specs.Told.{Asks, AsksTime, Reports, WritesIf, counted_after};
+ghost use Rattle.mot_status.specs.Teller.{Hears, Misses, TellsAfter, TellsBefore, TellsEnd};
+ghost use Rattle.mot_status.specs.Teller.{starts, teller};
+ghost use Rattle.mot_status.specs.Told.{Asks, AsksTime, Reports, WritesIf, calls_at, counted_after};
 ghost use Rattle.mot_status.specs.Told.{counted_before, counted_end};
 ghost use Rattle.mot_status.specs.Told.{ends_turn, is_due, is_new_look, known, logged_after};
 ghost use Rattle.mot_status.specs.Told.{logged_before, logged_end, matter, next_after, path_of};
-ghost use Rattle.mot_status.specs.Told.{packet_counted, place, status_counted, status_line};
+ghost use Rattle.mot_status.specs.Told.{packet_counted, place_at, status_counted, status_line};
 ghost use Rattle.mot_status.specs.Told.{turn_of, turn_packets};
 
 use crate::clock::seconds_or;
@@ -79,14 +77,6 @@ impl<'a, S: System + Drop, W: Write + Drop> Reporter<'a, S, W> {
     /// Nothing was told. If there is no memory for a text or a line now, it is taken as that comes.
     pub fn new(alloc: Global, log: W, telling: Telling<'a, S>) -> Reporter<'a, S, W>
         ensures writer { result.log.writer ≡ log }
-        ensures levels { result.log.levels ≡ telling.entry.levels }
-        ensures counts { result.log.counters ≡ none_counted }
-        ensures whole { result.log.is_whole ≡ true }
-        ensures given { (result.disk ≡ telling.entry.disk)
-            × (result.status ≡ telling.entry.status) }
-        ensures none { (result.has_begun ≡ false) × (result.looks ≡ 0) × (result.next ≡ 0)
-            × (result.size ≡ None) × (result.changes ≡ 0) × (result.last_change ≡ 0)
-            × (result.is_unwritten ≡ false) }
         ensures starts { teller S.calls W.contents result
             ≡ starts S.calls (W.contents log) telling.entry }
     {
@@ -124,7 +114,7 @@ impl<'a, S: System + Drop, W: Write + Drop> Reporter<'a, S, W> {
     /// Tells what is due before an update: at the first that playing begins, and at each other one
     /// that a packet was taken since the last.
     #[inline(always)]
-    pub fn tell_before<D: Disk>(&mut self, server: &Server<D>, alloc: Global, moment: Moment)
+    fn tell_before<D: Disk>(&mut self, server: &Server<D>, alloc: Global, moment: Moment)
         ensures counts { self.new.log.counters
             ≡ counted_before self.old.has_begun (ends_turn moment) self.old.log.counters }
         ensures log { (self.new.log.levels ≡ self.old.log.levels)
@@ -193,40 +183,31 @@ impl<'a, S: System + Drop, W: Write + Drop> Reporter<'a, S, W> {
     /// Tells what is due after an update: what the last look met, if there was one since, and the
     /// status after a look and after each 1,000 packets.
     #[inline(always)]
-    pub fn tell_after<D: Disk, U: Facts>(&mut self, server: &Server<D>, alloc: Global, update: &U)
+    fn tell_after<D: Disk, U: Facts>(&mut self, server: &Server<D>, alloc: Global, update: &U)
         ensures counts { let same = ⟦<LookEvent as PartialEq>⟧.eq in
             self.new.log.counters ≡ status_counted self.old.is_unwritten self.new.is_unwritten
             (counted_after same self.old.looks (U.known update.now) self.old.log.counters) }
         ensures log { (self.new.log.levels ≡ self.old.log.levels)
             × (self.new.log.is_whole ≡ true → self.old.log.is_whole ≡ true) }
         ensures told { let same = ⟦<LookEvent as PartialEq>⟧.eq in
-            let file = option_map (λ f. place f.path.now f.disk.now
-            (option_map string_bytes f.beside))
-            self.old.status in
             self.new.log.is_whole ≡ true → (reason : List ℕ) × Appends
             (W.contents self.old.log.writer) (W.contents self.new.log.writer)
             (logged_after same self.old.log.levels self.old.looks (U.known update.now)
-            ++ status_line self.old.log.levels (path_of file)
+            ++ status_line self.old.log.levels (path_of (place_at self.old.status))
             self.old.is_unwritten self.new.is_unwritten reason) }
         ensures status { let same = ⟦<LookEvent as PartialEq>⟧.eq in
             let counters = counted_after same self.old.looks (U.known update.now) self.old.log.counters in
-            Reports (option_map (λ f. place f.path.now f.disk.now
-            (option_map string_bytes f.beside))
-            self.old.status)
+            Reports (place_at self.old.status)
             (matter self.old.disk.now server.now.view (turn_of self.new.size) counters
             (U.known update.now).events)
             (not (counters.changes == self.old.changes))
             (is_due self.old.next self.old.log.counters.packets
             (is_new_look self.old.looks (U.known update.now)))
             (known self.old.last_change self.old.is_unwritten
-            (option_map (λ f. S.calls f.system) self.old.status))
+            (calls_at S.calls self.old.status))
             (known self.new.last_change self.new.is_unwritten
-            (option_map (λ f. S.calls f.system) self.new.status)) }
-        ensures place { option_map (λ f. place f.path.now f.disk.now
-            (option_map string_bytes f.beside))
-            self.new.status
-            ≡ option_map (λ f. place f.path.now f.disk.now (option_map string_bytes f.beside))
-            self.old.status }
+            (calls_at S.calls self.new.status)) }
+        ensures place { place_at self.new.status ≡ place_at self.old.status }
         ensures same { let same = ⟦<LookEvent as PartialEq>⟧.eq in
             let packets = self.old.log.counters.packets in
             let is_new = is_new_look self.old.looks (U.known update.now) in
@@ -279,7 +260,7 @@ impl<'a, S: System + Drop, W: Write + Drop> Reporter<'a, S, W> {
     }
 
     /// Counts a look, and tells those of its events that the look before had not.
-    pub fn tell_look(&mut self, events: &[LookEvent], before: &[LookEvent])
+    fn tell_look(&mut self, events: &[LookEvent], before: &[LookEvent])
         ensures counts { let same = ⟦<LookEvent as PartialEq>⟧.eq in
             self.new.log.counters
             ≡ counted_look self.old.log.counters (new_events same before.now events.now) }
@@ -296,17 +277,12 @@ impl<'a, S: System + Drop, W: Write + Drop> Reporter<'a, S, W> {
 
     /// Notes when the last change was made, if there was one since the last call.
     fn note_changes(&mut self)
-        ensures asks { Asks (option_map (λ f. S.calls f.system) self.old.status)
-            (option_map (λ f. S.calls f.system) self.new.status)
+        ensures asks { Asks (calls_at S.calls self.old.status) (calls_at S.calls self.new.status)
             (AsksTime (not (self.old.log.counters.changes == self.old.changes))
             self.old.last_change self.new.last_change)
             (self.new.last_change ≡ self.old.last_change) }
         ensures changes { self.new.changes ≡ self.old.log.counters.changes }
-        ensures place { option_map (λ f. place f.path.now f.disk.now
-            (option_map string_bytes f.beside))
-            self.new.status
-            ≡ option_map (λ f. place f.path.now f.disk.now (option_map string_bytes f.beside))
-            self.old.status }
+        ensures place { place_at self.new.status ≡ place_at self.old.status }
         ensures same { self.new ≡ record self.old {
           status = self.new.status;
           changes = self.new.changes;
@@ -325,29 +301,20 @@ impl<'a, S: System + Drop, W: Write + Drop> Reporter<'a, S, W> {
             self.new.is_unwritten self.old.log.counters }
         ensures log { (self.new.log.levels ≡ self.old.log.levels)
             × (self.new.log.is_whole ≡ true → self.old.log.is_whole ≡ true) }
-        ensures told { let file = option_map (λ f. place f.path.now f.disk.now
-            (option_map string_bytes f.beside))
-            self.old.status in
-            self.new.log.is_whole ≡ true → (reason : List ℕ) × Appends
+        ensures told { self.new.log.is_whole ≡ true → (reason : List ℕ) × Appends
             (W.contents self.old.log.writer) (W.contents self.new.log.writer)
-            (status_line self.old.log.levels (path_of file)
+            (status_line self.old.log.levels (path_of (place_at self.old.status))
             self.old.is_unwritten self.new.is_unwritten reason) }
-        ensures status { WritesIf
-            (option_map (λ f. place f.path.now f.disk.now (option_map string_bytes f.beside))
-            self.old.status)
+        ensures status { WritesIf (place_at self.old.status)
             (matter self.old.disk.now server.now.view (turn_of self.new.size) self.old.log.counters
             events.now)
             (known self.old.last_change self.old.is_unwritten
-            (option_map (λ f. S.calls f.system) self.old.status))
+            (calls_at S.calls self.old.status))
             (known self.new.last_change self.new.is_unwritten
-            (option_map (λ f. S.calls f.system) self.new.status)) }
+            (calls_at S.calls self.new.status)) }
         ensures measured { IfSome self.new.size (λ m.
             IsMeasured self.old.size server.now.view m) }
-        ensures place { option_map (λ f. place f.path.now f.disk.now
-            (option_map string_bytes f.beside))
-            self.new.status
-            ≡ option_map (λ f. place f.path.now f.disk.now (option_map string_bytes f.beside))
-            self.old.status }
+        ensures place { place_at self.new.status ≡ place_at self.old.status }
         ensures same { self.new ≡ record self.old {
           log = self.new.log;
           status = self.new.status;
@@ -377,40 +344,45 @@ impl<'a, S: System + Drop, W: Write + Drop> Reporter<'a, S, W> {
         turns: u64,
         events: &[LookEvent],
     )
+        ensures ended { TellsEnd (teller S.calls W.contents self.old) server.now.view turns
+            events.now (teller S.calls W.contents self.new) }
+    {
+        self.end_turns(server, alloc, turns, events);
+    }
+
+    /// Tells how many turns and packets there were, and writes the status once more.
+    fn end_turns<D: Disk>(
+        &mut self,
+        server: &Server<D>,
+        alloc: Global,
+        turns: u64,
+        events: &[LookEvent],
+    )
         ensures counts { self.new.log.counters ≡ status_counted self.old.is_unwritten
             self.new.is_unwritten (counted_end self.old.has_begun self.old.log.counters) }
         ensures log { (self.new.log.levels ≡ self.old.log.levels)
             × (self.new.log.is_whole ≡ true → self.old.log.is_whole ≡ true) }
-        ensures told { let file = option_map (λ f. place f.path.now f.disk.now
-            (option_map string_bytes f.beside))
-            self.old.status in
-            self.new.log.is_whole ≡ true → (reason : List ℕ) × Appends
+        ensures told { self.new.log.is_whole ≡ true → (reason : List ℕ) × Appends
             (W.contents self.old.log.writer) (W.contents self.new.log.writer)
             (logged_end self.old.log.levels turns
             (counted_end self.old.has_begun self.old.log.counters).packets
-            ++ status_line self.old.log.levels (path_of file)
+            ++ status_line self.old.log.levels (path_of (place_at self.old.status))
             self.old.is_unwritten self.new.is_unwritten reason) }
         ensures status { let counters = counted_end self.old.has_begun self.old.log.counters in
-            Reports (option_map (λ f. place f.path.now f.disk.now
-            (option_map string_bytes f.beside))
-            self.old.status)
+            Reports (place_at self.old.status)
             (matter self.old.disk.now server.now.view (turn_of self.new.size) counters events.now)
             (not (counters.changes == self.old.changes)) true
             (known self.old.last_change self.old.is_unwritten
-            (option_map (λ f. S.calls f.system) self.old.status))
+            (calls_at S.calls self.old.status))
             (known self.new.last_change self.new.is_unwritten
-            (option_map (λ f. S.calls f.system) self.new.status)) }
-        ensures place { option_map (λ f. place f.path.now f.disk.now
-            (option_map string_bytes f.beside))
-            self.new.status
-            ≡ option_map (λ f. place f.path.now f.disk.now (option_map string_bytes f.beside))
-            self.old.status }
+            (calls_at S.calls self.new.status)) }
+        ensures place { place_at self.new.status ≡ place_at self.old.status }
         ensures same { self.new ≡ record self.old {
           log = self.new.log;
           status = self.new.status;
           text = self.new.text;
           size = self.new.size;
-          changes = self.new.changes;
+          changes = (counted_end self.old.has_begun self.old.log.counters).changes;
           last_change = self.new.last_change;
           is_unwritten = self.new.is_unwritten;
         } }
@@ -561,13 +533,10 @@ fn ask_time<S: System + Drop>(
     grew: bool,
     seconds: u64,
 ) -> u64
-    ensures asks { Asks (option_map (λ f. S.calls f.system) status.old)
-        (option_map (λ f. S.calls f.system) status.new) (AsksTime grew seconds result)
+    ensures asks { Asks (calls_at S.calls status.old) (calls_at S.calls status.new)
+        (AsksTime grew seconds result)
         (result ≡ seconds) }
-    ensures place { option_map (λ f. place f.path.now f.disk.now (option_map string_bytes f.beside))
-        status.new
-        ≡ option_map (λ f. place f.path.now f.disk.now (option_map string_bytes f.beside))
-        status.old }
+    ensures place { place_at status.new ≡ place_at status.old }
 {
     if !grew {
         return seconds;

@@ -1,9 +1,10 @@
 //! A try to write the status, and what the log has of it.
-ghost use Rattle.std.specs.Prelude.{◌≡◌, List, false, is_ok, not, option_map};
-ghost use Rattle.std.specs.Prelude.{string_bytes, true, ℕ};
+ghost use Rattle.std.specs.Prelude.{◌≡◌, List, false, is_ok, not};
+ghost use Rattle.std.specs.Prelude.{true, ℕ};
 ghost use Rattle.std.specs.Io.KnownBytes.{Appends};
+ghost use Rattle.mot_destinations.specs.Status.{status_beside, status_disk, status_system};
 ghost use Rattle.mot_metrics.specs.Status.{status_text};
-ghost use Rattle.mot_status.specs.Told.{Tries, place, status_counted, status_line};
+ghost use Rattle.mot_status.specs.Told.{Tries, place_of, status_counted, status_line};
 
 use mot_destinations::{PacketsFault, StatusFile};
 use mot_events::{Event, LookEvent, Tells};
@@ -22,13 +23,11 @@ pub(crate) fn hand<S: System + Drop>(
     counters: &Counters,
     events: &[LookEvent],
 ) -> Result<(), PacketsFault>
-    ensures tries { Tries
-        (place status.old.path.now status.old.disk.now (option_map string_bytes status.old.beside))
-        (status_text figures.now counters.now events.now) result
-        (S.calls status.old.system) (S.calls status.new.system) }
+    ensures tries { Tries (place_of status.old) (status_text figures.now counters.now events.now)
+        result (S.calls (status_system status.old)) (S.calls (status_system status.new)) }
     ensures path { status.new.path ≡ status.old.path }
-    ensures disk { status.new.disk ≡ status.old.disk }
-    ensures beside { status.new.beside ≡ status.old.beside }
+    ensures disk { status_disk status.new ≡ status_disk status.old }
+    ensures beside { status_beside status.new ≡ status_beside status.old }
 {
     match write_status(text, alloc, figures, counters, events) {
         Ok(()) => status.write(text.as_slice()),

@@ -3,6 +3,7 @@ ghost use Rattle.std.specs.Prelude.{◌≡◌, ◌∷◌, [], IfErr, MatchResult
 ghost use Rattle.std.specs.Result.{result_unwrap_or};
 ghost use Rattle.std.specs.Io.KnownBytes.{Appends};
 ghost use Rattle.disk_model.specs.Disk.{KeepsLength};
+ghost use Rattle.mot_endpoints.specs.Opened.{paths_of};
 ghost use Rattle.mot_log.specs.Text.{met_line};
 ghost use Rattle.mot_feed.specs.Feeding.{IsFeedFault};
 ghost use Rattle.mot_journal.specs.Image.{Standing};
@@ -11,6 +12,7 @@ ghost use Rattle.mot_outcome.specs.Outcome.{Concludes, Opens};
 ghost use Rattle.mot_playout.specs.Attempts.{fault_of};
 ghost use Rattle.mot_repository.specs.Repository.{Holds};
 ghost use Rattle.mot_shelf.specs.Seen.{given_of};
+ghost use Rattle.mot_shelf.specs.System.{shelf_path};
 ghost use Rattle.mot_sync_command.specs.Commands.{IsUnsynced, SyncsTask, SyncsTo, synced_with};
 ghost use Rattle.mot_sync_command.specs.Inner.Looked.{LooksAndTells};
 ghost use Rattle.mot_sync_command.specs.Syncing.{Syncs};
@@ -49,7 +51,7 @@ pub fn sync<'a, B: Start, W: Write>(
         folder.now all ending result.disk (W.contents log.old) (W.contents log.new))
         result.result result.disk (W.contents log.old) (W.contents log.new) }
     ensures opens { Opens (synced_with types.entry folder.now) path.now result.disk
-        host.old.paths.all host.new.paths.all }
+        (paths_of host.old) (paths_of host.new) }
 {
     match file_types(host, alloc, types) {
         Ok(types) => sync_file(host, alloc, path, folder, &types, rules, start, log),
@@ -72,7 +74,7 @@ fn sync_file<'a, B: Start, W: Write>(
         folder.now all ending (W.contents log.old) (W.contents log.new) result.disk)
         result.result result.disk (W.contents log.old) (W.contents log.new) }
     ensures opens { Opens ((codes "folder", folder.now) ∷ []) path.now result.disk
-        host.old.paths.all host.new.paths.all }
+        (paths_of host.old) (paths_of host.new) }
 {
     let shelf = host.folder(folder, rules.at_once);
     match host.disk(path, start) {
@@ -102,7 +104,7 @@ pub(crate) fn sync_shelf<Y: System + Drop, D: Disk, W: Write>(
     allows_empty: bool,
     log: &mut W,
 ) -> (Ended<D, bool>, Option<Cause>, Seen)
-    ensures { Syncs types.now allows_empty shelf.entry.path.now (given_of result.2)
+    ensures { Syncs types.now allows_empty (shelf_path shelf.entry) (given_of result.2)
         (D.state disk) (D.state result.0.disk) (result_unwrap_or result.0.result false)
         (fault_of result.0.result) (W.contents log.old) (W.contents log.new) }
 {

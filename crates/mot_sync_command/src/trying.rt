@@ -1,12 +1,14 @@
 //! What `sync` would do, tried on a copy of the disk.
 ghost use Rattle.std.specs.Prelude.{◌≡◌, ◌∷◌, [], codes, false};
 ghost use Rattle.std.specs.Result.{result_unwrap_or};
+ghost use Rattle.mot_endpoints.specs.Opened.{paths_of};
 ghost use Rattle.mot_sync_command.specs.Commands.{IsUnsynced, synced_with};
 ghost use Rattle.mot_sync_command.specs.Trying.{Tries, TriesTask, TriesTo};
 ghost use Rattle.mot_numbers.specs.declared.refusal.Refusal.TheVariants.{DeviceFault};
 ghost use Rattle.mot_outcome.specs.Outcome.{Concludes, Opens};
 ghost use Rattle.mot_playout.specs.Attempts.{fault_of};
 ghost use Rattle.mot_shelf.specs.Seen.{given_of};
+ghost use Rattle.mot_shelf.specs.System.{shelf_path};
 
 use crate::copying::copy_disk;
 use crate::syncing::sync_shelf;
@@ -39,7 +41,7 @@ pub fn try_sync<'a, B: Start, W: Write>(
         folder.now all ending result.disk (W.contents log.old) (W.contents log.new))
         result.result result.disk (W.contents log.old) (W.contents log.new) }
     ensures opens { Opens (synced_with types.entry folder.now) path.now result.disk
-        host.old.paths.all host.new.paths.all }
+        (paths_of host.old) (paths_of host.new) }
 {
     match file_types(host, alloc, types) {
         Ok(types) => try_file(host, alloc, path, folder, &types, rules, start, log),
@@ -62,7 +64,7 @@ fn try_file<'a, B: Start, W: Write>(
         folder.now all ending (W.contents log.old) (W.contents log.new) result.disk)
         result.result result.disk (W.contents log.old) (W.contents log.new) }
     ensures opens { Opens ((codes "folder", folder.now) ∷ []) path.now result.disk
-        host.old.paths.all host.new.paths.all }
+        (paths_of host.old) (paths_of host.new) }
 {
     let shelf = host.folder(folder, rules.at_once);
     match host.disk(path, start) {
@@ -83,7 +85,7 @@ fn try_shelf<Y: System + Drop, D: Disk, W: Write>(
     allows_empty: bool,
     log: &mut W,
 ) -> (Ended<D, bool>, Option<Cause>, Seen)
-    ensures { Tries types.now allows_empty shelf.entry.path.now (given_of result.2)
+    ensures { Tries types.now allows_empty (shelf_path shelf.entry) (given_of result.2)
         (D.state disk) (D.state result.0.disk) (result_unwrap_or result.0.result false)
         (fault_of result.0.result) (W.contents log.old) (W.contents log.new) }
 {

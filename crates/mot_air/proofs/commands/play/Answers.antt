@@ -20,9 +20,11 @@ use Rattle.std.proofs.KnownBytes.{Keeps-refl}
 use Rattle.mot_outcome.proofs.Laws.{concludes_more}
 use Rattle.mot_outcome.proofs.Laws.{begun_after, begun_first, opened_after}
 use Rattle.mot_air.proofs.commands.play.Goals as goal
-use Rattle.mot_endpoints.specs.Opened.{named}
+use Rattle.mot_destinations.specs.Packets.{writes_of}
+use Rattle.mot_endpoints.specs.Opened.{named, paths_of}
 use Rattle.mot_line_folder.specs.declared.folder.LineFolder.{LineFolder}
 use Rattle.mot_endpoints.specs.Types.{IsTyped}
+use Rattle.mot_line_folder.specs.Spool.{reads_of}
 use Rattle.mot_suffixes.specs.Types.{SuffixType}
 use Rattle.mot_numbers.specs.declared.refusal.Refusal.TheVariants.{DeviceFault, WriteFault}
 
@@ -53,18 +55,18 @@ asked task used old new w v h k all ending same held
         refused,
         whole,
         since_as (λ beside. PlaysAsked target (λ frame. tale_with (w frame) h (played_as task frame)
-            beside.looks.all beside.lines.notes.all refused) task ending (task.packets.now ∷ []) beside.taken.notes.all)
+            beside.looks.all (reads_of beside.lines) refused) task ending (task.packets.now ∷ []) (writes_of beside.taken))
             (λ beside. PlaysAsked target (λ frame. tale_with (v frame) k (played_as task frame)
-            beside.looks.all beside.lines.notes.all refused) task ending (task.packets.now ∷ []) beside.taken.notes.all)
+            beside.looks.all (reads_of beside.lines) refused) task ending (task.packets.now ∷ []) (writes_of beside.taken))
             (λ beside opened now plays. (
               plays.0,
               plays.1,
-              subst (λ x. PlaysInto target (tale_with x k (played_as task plays.0) beside.looks.all beside.lines.notes.all refused)
-                  (played_as task plays.0) ending (task.packets.now ∷ []) beside.taken.notes.all opened
+              subst (λ x. PlaysInto target (tale_with x k (played_as task plays.0) beside.looks.all (reads_of beside.lines) refused)
+                  (played_as task plays.0) ending (task.packets.now ∷ []) (writes_of beside.taken) opened
                   now) (same plays.0)
                   (subst (λ x. PlaysInto target (tale_with (w plays.0) x (played_as task plays.0)
-                  beside.looks.all beside.lines.notes.all refused) (played_as task plays.0) ending (task.packets.now ∷ [])
-                  beside.taken.notes.all opened now) held plays.2),
+                  beside.looks.all (reads_of beside.lines) refused) (played_as task plays.0) ending (task.packets.now ∷ [])
+                  (writes_of beside.taken) opened now) held plays.2),
             )) used so,
       ),
     )
@@ -138,8 +140,8 @@ returns-clause-ended g c =
 pub returns-in-Err-clause-opens : goal.returns-in-Err-clause-opens
 returns-in-Err-clause-opens g c =
     let task = c.args.task in
-    let old = c.args.host.now.paths.all in
-    let new = c.file_types.new.host.paths.all in
+    let old = paths_of c.args.host.now in
+    let new = paths_of c.file_types.new.host in
     subst (λ (f : _). Opens (played_with task) task.disk.now f.disk old new) (sym c.unbegun.ensures)
     (begun_first (named (codes "types") task.types) (named (codes "lines") task.lines
     ++ (named (codes "folder") task.folder ++ (named (codes "status") task.status
@@ -152,9 +154,9 @@ returns-in-Err-line_folder-clause-opens g c =
     let lines = named (codes "lines") task.lines in
     let others = named (codes "folder") task.folder ++ (named (codes "status") task.status
     ++ (codes "packets", task.packets.now) ∷ []) in
-    let old = c.args.host.now.paths.all in
-    let mid = c.file_types.new.host.paths.all in
-    let new = c.line_folder.new.host.paths.all in
+    let old = paths_of c.args.host.now in
+    let mid = paths_of c.file_types.new.host in
+    let new = paths_of c.line_folder.new.host in
     subst (λ (f : _). Opens (played_with task) task.disk.now f.disk old new)
     (sym c.unbegun-in-Err-line_folder.ensures)
     (begun_after types (lines ++ others) old mid new c.in-Ok.ensures.opens
@@ -169,13 +171,13 @@ returns-clause-opens g c =
     let status = named (codes "status") task.status in
     let packets = (codes "packets", task.packets.now) ∷ [] in
     let used = c.play_file.result.disk in
-    let first = c.file_types.new.host.paths.all in
-    let second = c.line_folder.new.host.paths.all in
-    let third = c.followed-folder.new.host.paths.all in
-    let fourth = c.status_file-status.new.host.paths.all in
-    let last = c.play_file.new.host.paths.all in
+    let first = paths_of c.file_types.new.host in
+    let second = paths_of c.line_folder.new.host in
+    let third = paths_of c.followed-folder.new.host in
+    let fourth = paths_of c.status_file-status.new.host in
+    let last = paths_of c.play_file.new.host in
     opened_after types (lines ++ (folder ++ (status ++ packets))) task.disk.now used
-    c.args.host.now.paths.all first last c.in-Ok.ensures.opens
+    (paths_of c.args.host.now) first last c.in-Ok.ensures.opens
     (opened_after lines (folder ++ (status ++ packets)) task.disk.now used first second last
     c.in-Ok-line_folder.ensures.opens
     (opened_after folder (status ++ packets) task.disk.now used second third last

@@ -16,6 +16,7 @@ use Rattle.mot_numbers.specs.declared.refusal.Refusal.{Refusal}
 use Rattle.mot_objects.specs.Carousel.{Carousel}
 use Rattle.mot_playout.specs.Attempts.{fault_of}
 use Rattle.mot_folder.specs.Looked.{Watch}
+use Rattle.mot_line_folder.specs.Spool.{reads_of}
 use Rattle.mot_shelf.specs.Given.{Given}
 use Rattle.mot_status.specs.Teller.{TellerView, starts}
 use Rattle.mot_update.proofs.Laws.{not_none}
@@ -54,7 +55,7 @@ returns-in-Ok g c =
           told.1.keeps.was_honest found.frame,
       subst (AirsIn _ (λ (how : Manner). watched c.args.airing.folder (λ followed. watch_in how
           (g.F.Shelf.path followed.shelf) followed.types.now followed.allows_empty)) _
-          out.beside.looks.all out.beside.lines.notes.all out.any_refused first ending before after
+          out.beside.looks.all (reads_of out.beside.lines) out.any_refused first ending before after
           start now (g.L.Write.contents c.air_so.result.1)) c.manner_of-how.ensures (
             told.0,
             plays_behind start mid now found.syncs found.calm (g.met.D.Disk.sound c.args.disk) _ how
@@ -106,7 +107,7 @@ returns-in-Err g c =
         unplayed _ how ending (g.O.Outlet.writes c.args.outlet.now) start now keeps none
             (none_told _ (watched c.args.airing.folder (λ followed. watch_in how
             (g.F.Shelf.path followed.shelf) followed.types.now followed.allows_empty)) reads how
-            out.beside.looks.all out.beside.lines.notes.all out.any_refused first is.given.0 is.given.1
+            out.beside.looks.all (reads_of out.beside.lines) out.any_refused first is.given.0 is.given.1
             is.refused),
         none_ends reads ending how.turns first (g.L.Write.contents c.args.log)
             (subst (λ e. e ≡ None → ⊥) (sym is.ended.0) (not_none refused.refusal)) refl,

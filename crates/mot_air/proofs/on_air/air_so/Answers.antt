@@ -6,6 +6,7 @@ use Rattle.mot_air.specs.declared.manner.Manner.{Manner}
 use Rattle.mot_air.specs.Telling.{EndsAs, Same, tale_told, watch_in, watched}
 use Rattle.mot_air.proofs.on_air.air_so.Goals as goal
 use Rattle.mot_folder.specs.Looked.{Watch}
+use Rattle.mot_line_folder.specs.Spool.{reads_of}
 use Rattle.mot_line_folder.specs.declared.folder.LineFolder.{LineFolder}
 use Rattle.mot_numbers.specs.declared.refusal.Refusal.{Refusal}
 use Rattle.mot_playout.specs.Attempts.{fault_of}
@@ -28,7 +29,7 @@ returns-in-Some g c =
     let log = c.play_and_answer.result.1 in
     subst (AirsSo _ (watched c.args.airing.folder (λ followed. watch_in c.args.how
     (g.F.Shelf.path followed.shelf) followed.types.now followed.allows_empty)) c.args.how
-    out.beside.looks.all out.beside.lines.notes.all out.any_refused _ (fault_of out.ended.result)
+    out.beside.looks.all (reads_of out.beside.lines) out.any_refused _ (fault_of out.ended.result)
     (g.O.Outlet.writes c.args.outlet.now) (g.O.Outlet.writes c.play_and_answer.new.outlet)
     (g.D.Disk.state c.args.disk) (g.D.Disk.state out.ended.disk) (g.L.Write.contents log))
     (sym (ap (λ (o : Option (LineFolder _)). option_map (λ l. (l.hand, l.every - 1)) o)
@@ -40,7 +41,7 @@ returns-in-None g c =
     let log = c.play_disk.result.1 in
     subst (AirsSo _ (watched c.args.airing.folder (λ followed. watch_in c.args.how
     (g.F.Shelf.path followed.shelf) followed.types.now followed.allows_empty)) c.args.how
-    out.beside.looks.all out.beside.lines.notes.all out.any_refused _ (fault_of out.ended.result)
+    out.beside.looks.all (reads_of out.beside.lines) out.any_refused _ (fault_of out.ended.result)
     (g.O.Outlet.writes c.args.outlet.now) (g.O.Outlet.writes c.play_disk.new.outlet)
     (g.D.Disk.state c.args.disk) (g.D.Disk.state out.ended.disk) (g.L.Write.contents log))
     (sym (ap (λ (o : Option (LineFolder _)). option_map (λ l. (l.hand, l.every - 1)) o)

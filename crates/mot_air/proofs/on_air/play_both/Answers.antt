@@ -14,8 +14,9 @@ use Rattle.mot_outcome.specs.Outcome.{Opens}
 use Rattle.mot_air.specs.Playing.{Tale}
 use Rattle.mot_air.specs.Telling.{tale_with, watch_in, watched}
 use Rattle.mot_line_folder.specs.declared.folder.LineFolder.{LineFolder}
-use Rattle.mot_destinations.specs.Packets.{IsTarget, begun_of, target_of}
+use Rattle.mot_destinations.specs.Packets.{IsTarget, begun_of, target_of, writes_of}
 use Rattle.mot_destinations.specs.declared.packets.Target.{Target}
+use Rattle.mot_line_folder.specs.Spool.{reads_of}
 use Rattle.mot_numbers.specs.declared.refusal.Refusal.TheVariants.{DeviceFault, WriteFault}
 use Rattle.mot_outcome.specs.Outcome.{OnFile}
 use Rattle.mot_outcome.specs.declared.used.Beside.{Beside}
@@ -40,9 +41,9 @@ played : (g : given.Over) (c : goal.After-of_file g)
     → begun_of c.args.opened ≡ c.args.airing.task.packets.now ∷ [] → IsFirst false c.args.disk.disk
     → PlaysAsked (target_of c.args.opened)
     (λ frame. tale frame c.play_into-end.result.beside.looks.all
-    c.play_into-end.result.beside.lines.notes.all c.play_into-end.result.any_refused)
+    (reads_of c.play_into-end.result.beside.lines) c.play_into-end.result.any_refused)
     c.args.airing.task (fault_of c.play_into-end.result.ended.result)
-    (begun_of c.args.opened) c.play_into-end.result.beside.taken.notes.all
+    (begun_of c.args.opened) (writes_of c.play_into-end.result.beside.taken)
     (begun_state c.args.disk) (begun_state c.play_into-end.result.ended.disk)
     → Concludes (λ r. (r ≡ DeviceFault) ⊎ (r ≡ WriteFault))
     (λ all ending. PlaysTo c.args.airing.task tale all ending (g.W.Write.contents c.args.writer.now)
@@ -61,11 +62,11 @@ played g c tale is_target begun is_first plays =
     let used = OfFile c.answered.result.disk.disk end.beside in
     let path = task.packets.now ∷ [] in
     let P = λ (b : Beside). PlaysAsked target
-    (λ frame. tale frame b.looks.all b.lines.notes.all end.any_refused) task
-    (fault_of ended.result) path b.taken.notes.all in
+    (λ frame. tale frame b.looks.all (reads_of b.lines) end.any_refused) task
+    (fault_of ended.result) path (writes_of b.taken) in
     let told = subst (λ (b : List (List ℕ)). PlaysAsked target
-    (λ frame. tale frame end.beside.looks.all end.beside.lines.notes.all end.any_refused) task
-    (fault_of ended.result) b end.beside.taken.notes.all first last) begun plays in
+    (λ frame. tale frame end.beside.looks.all (reads_of end.beside.lines) end.any_refused) task
+    (fault_of ended.result) b (writes_of end.beside.taken) first last) begun plays in
     subst (λ (f : _). Concludes (λ r. (r ≡ DeviceFault) ⊎ (r ≡ WriteFault))
     (λ all ending. PlaysTo task tale all ending old new f.disk) f.result f.disk old new)
     (sym c.of_file.ensures)
@@ -84,9 +85,9 @@ played g c tale is_target begun is_first plays =
             ∙ ap (λ (t : Target). is_all_done t end.any_refused) c.target-target.ensures),
         handed g c P (since_opened c.args.disk.disk ended.disk.disk (P end.beside)
             is_first ended.disk.begins
-            (into_keeps target (tale told.0 end.beside.looks.all end.beside.lines.notes.all
+            (into_keeps target (tale told.0 end.beside.looks.all (reads_of end.beside.lines)
             end.any_refused) (played_as task told.0) (fault_of ended.result) path
-            end.beside.taken.notes.all first last told.2) told),
+            (writes_of end.beside.taken) first last told.2) told),
       ),
     ))))
 

@@ -11,6 +11,8 @@ use Rattle.mot_air.specs.Telling.{tale_with, watch_in, watched}
 use Rattle.mot_line_folder.specs.declared.folder.LineFolder.{LineFolder}
 use Rattle.mot_outcome.proofs.Laws.{opened_none}
 use Rattle.mot_air.proofs.on_air.play_file.Goals as goal
+use Rattle.mot_endpoints.specs.Opened.{paths_of}
+use Rattle.mot_shelf.specs.System.{shelf_path}
 
 -- what was not begun
 unbegun_so : {S : Type 0} {start : Ghosts S} (IsEarly : Refusal → Type 0)
@@ -28,8 +30,8 @@ returns-in-Ok-clause-ended g c =
 pub returns-in-Ok-clause-opens : goal.returns-in-Ok-clause-opens
 returns-in-Ok-clause-opens g c =
     c.play_both.ensures.opens c.args.airing.task.disk.now
-    ((codes "packets", c.args.airing.task.packets.now) ∷ []) c.args.host.now.paths.all
-    c.open_both.new.host.paths.all c.in-Ok.ensures.opens
+    ((codes "packets", c.args.airing.task.packets.now) ∷ []) (paths_of c.args.host.now)
+    (paths_of c.open_both.new.host) c.in-Ok.ensures.opens
 
 pub returns-in-Err-clause-ended : goal.returns-in-Err-clause-ended
 returns-in-Err-clause-ended g c =
@@ -38,7 +40,7 @@ returns-in-Err-clause-ended g c =
     let used = c.in-Err.unbegun.disk in
     unbegun_so _ (λ all ending. PlaysTo task (λ frame. let how = played_as task frame in
     tale_with (watched c.args.airing.folder
-    (λ followed. watch_in how followed.shelf.path.now followed.types.now followed.allows_empty))
+    (λ followed. watch_in how (shelf_path followed.shelf) followed.types.now followed.allows_empty))
     (option_map (λ (lines : LineFolder _). (lines.hand, lines.every - 1)) c.args.airing.lines) how)
     all ending log log used) c.in-Err.unbegun.result used log
     c.in-Err.ensures.refused
@@ -46,5 +48,5 @@ returns-in-Err-clause-ended g c =
 pub returns-in-Err-clause-opens : goal.returns-in-Err-clause-opens
 returns-in-Err-clause-opens g c =
     opened_none ((codes "packets", c.args.airing.task.packets.now) ∷ [])
-    c.args.airing.task.disk.now c.in-Err.unbegun.disk c.args.host.now.paths.all
-    c.open_both.new.host.paths.all c.in-Err.ensures.refused.untouched c.in-Err.ensures.opens
+    c.args.airing.task.disk.now c.in-Err.unbegun.disk (paths_of c.args.host.now)
+    (paths_of c.open_both.new.host) c.in-Err.ensures.refused.untouched c.in-Err.ensures.opens

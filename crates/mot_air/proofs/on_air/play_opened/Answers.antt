@@ -1,4 +1,4 @@
-use Rattle.std.proofs.Common.{◌≡◌, ◌∙◌, ◌⊎◌, ◌-◌, true, List, ℕ, Result, Ok, Err, ap, inl, inr, subst, sym}
+use Rattle.std.proofs.Common.{◌≡◌, ◌∙◌, ◌⊎◌, ◌-◌, List, ℕ, Result, Ok, Err, ap, inl, inr, subst, sym}
 use Rattle.std.proofs.Common.{Option, Some}
 use Rattle.disk_model.specs.Disk.{State}
 use Rattle.mot_air.specs.Directory.{IsFrame}
@@ -12,10 +12,11 @@ use Rattle.mot_outcome.specs.declared.used.Beside.{Beside}
 use Rattle.mot_air.proofs.Behind.{frame_behind}
 use Rattle.mot_air.proofs.Retold.{plays_as, whoever}
 use Rattle.mot_air.proofs.on_air.play_opened.Goals as goal
-use Rattle.mot_destinations.specs.Packets.{begun_of, target_of}
+use Rattle.mot_destinations.specs.Packets.{IsPlaced, begun_of, target_of, writes_of}
 use Rattle.mot_destinations.specs.declared.packets.Target.{Target}
 use Rattle.mot_destinations.specs.declared.packets.Target.TheVariants.{File}
 use Rattle.mot_destinations.specs.declared.taken.Taken.{Taken}
+use Rattle.mot_line_folder.specs.Spool.{reads_of}
 use Rattle.mot_numbers.specs.declared.refusal.Refusal.{Refusal}
 use Rattle.mot_numbers.specs.declared.refusal.Refusal.TheVariants.{WriteFault}
 use Rattle.mot_playout.specs.Attempts.{fault_of}
@@ -60,19 +61,19 @@ returns-clause-played g c =
     tale_with (watched c.args.airing.folder (λ followed. watch_in how
     (g.F.Shelf.path followed.shelf) followed.types.now followed.allows_empty))
     (option_map (λ (lines : LineFolder _). (lines.hand, lines.every - 1)) c.args.airing.lines) how
-    b.looks.all b.lines.notes.all end.any_refused) c.args.airing.task ending
-    (begun_of c.args.opened) b.taken.notes.all (g.D.Disk.state c.args.disk)
+    b.looks.all (reads_of b.lines) end.any_refused) c.args.airing.task ending
+    (begun_of c.args.opened) (writes_of b.taken) (g.D.Disk.state c.args.disk)
     (g.D.Disk.state end.ended.disk)) (sym c.taking.ensures) (
       told.0,
       frame_placed c.args.airing.task.rate target told.0 _ _ end.ended.result
           c.placed-result.result.0 came told.1,
       placed target _ _ _ _ _ _ _ end.ended.result c.placed-result.result.0
-          (ap (λ (t : Taken). t.notes.all) c.hand_out.ensures ∙ c.placed-result.ensures.same) came
+          (ap writes_of c.hand_out.ensures ∙ c.placed-result.ensures.same) came
           (plays_as _ _ (whoever _ _ _ _ _ _ _ _ told.2.0) _ _ _ _ _ _ told.2.1),
     )
 
 pub returns-clause-placed : goal.returns-clause-placed
 returns-clause-placed g c = λ file none.
-    subst (λ (b : Beside). b.taken.is_placed ≡ true) (sym c.taking.ensures)
-    (subst (λ (t : Taken). t.is_placed ≡ true) (sym c.hand_out.ensures)
+    subst (λ (b : Beside). IsPlaced b.taken) (sym c.taking.ensures)
+    (subst (λ (t : Taken). IsPlaced t) (sym c.hand_out.ensures)
     (c.placed-result.ensures.placed file none))

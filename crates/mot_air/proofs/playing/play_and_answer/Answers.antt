@@ -3,6 +3,7 @@ use Rattle.mot_air.specs.Telling.{EndsLines, watch_in}
 use Rattle.mot_air.proofs.Retold.{ended_out, handed_out, lines_alone, lines_retold, plays_as}
 use Rattle.mot_air.proofs.playing.play_and_answer.Goals as goal
 use Rattle.mot_folder.specs.Looked.{so_far, watch}
+use Rattle.mot_line_folder.specs.Spool.{reads_of}
 use Rattle.mot_playout.specs.Attempts.{fault_of}
 use Rattle.mot_update.specs.Watching.{looks_known}
 
@@ -18,7 +19,7 @@ returns-in-Some g c =
     rw (c.in-Some.is) (
       told.0.teller,
       handed_out g.D.Disk.state _ how before after start ended out.ended c.looking.ensures.ended
-          (plays_as _ _ (lines_retold _ how out.beside.looks.all out.beside.lines.notes.all c.looks_at-update.result told.0
+          (plays_as _ _ (lines_retold _ how out.beside.looks.all (reads_of out.beside.lines) c.looks_at-update.result told.0
           (λ (u : _). watch (g.S.Shelf.path u.folder.shelf) u.folder.types.now u.folder.allows_empty
           u.every u.within)
           (λ (u : _). so_far u.left u.looks.all u.any_refused
@@ -31,7 +32,7 @@ returns-in-Some g c =
           (ap (λ (u : _). u.looks.all) told.1 ∙ ap (λ (l : _). l.all) (sym c.looking.ensures.looks))
           (ap (λ (u : _). u.any_refused) told.1 ∙ sym c.looking.ensures.refused)
           (c.args.lines.every - 1) c.args.lines.hand
-          (told.2 ∙ ap (λ (l : _). l.notes.all) (sym c.looking.ensures.lines)))
+          (told.2 ∙ ap reads_of (sym c.looking.ensures.lines)))
           how (fault_of ended.result) before after start (g.D.Disk.state ended.disk) told.3),
       ended_out ended out.ended (λ f. EndsLines f how.turns told.0.teller
           (g.L.Write.contents c.play_answering-ended.result.2)) c.looking.ensures.ended told.4,
@@ -49,9 +50,9 @@ returns-in-None g c =
     rw (c.in-None.is) (
       told.0.teller,
       handed_out g.D.Disk.state _ how before after start ended out.ended c.unwatched.ensures.ended
-          (plays_as _ _ (lines_alone _ how out.beside.looks.all out.beside.lines.notes.all _ told.0 c.unwatched.ensures.looks
+          (plays_as _ _ (lines_alone _ how out.beside.looks.all (reads_of out.beside.lines) _ told.0 c.unwatched.ensures.looks
           (sym c.unwatched.ensures.refused) (c.args.lines.every - 1) c.args.lines.hand
-          (told.2 ∙ ap (λ (l : _). l.notes.all) (sym c.unwatched.ensures.lines)))
+          (told.2 ∙ ap reads_of (sym c.unwatched.ensures.lines)))
           how (fault_of ended.result) before after start (g.D.Disk.state ended.disk) told.3),
       ended_out ended out.ended (λ f. EndsLines f how.turns told.0.teller
           (g.L.Write.contents c.play_answering-ended-in-None.result.2)) c.unwatched.ensures.ended told.4,

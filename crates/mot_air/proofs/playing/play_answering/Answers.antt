@@ -3,6 +3,7 @@ use Rattle.mot_air.specs.Inner.Fed.{disk_of, ending_of}
 use Rattle.mot_air.specs.Telling.{EndsLines}
 use Rattle.mot_air.proofs.Retold.{answered_retold, fed_out, plays_as, seen, told_out}
 use Rattle.mot_air.proofs.playing.play_answering.Goals as goal
+use Rattle.mot_line_folder.specs.Spool.{spool_gave}
 use Rattle.mot_status.specs.Teller.{teller}
 
 pub returns : goal.returns
@@ -16,14 +17,13 @@ returns g c =
     let last = c.feed_lines-fed.new.lines in
     let view = teller g.F.System.calls g.L.Write.contents in
     let made = c.lines_between-lines.ensures in (
-      seen last view (λ (s : _). s.lines.notes.all),
+      seen last view spool_gave,
       sym (c.into_parts-spool.ensures.update ∙ c.end_lines-ended.ensures.update),
-      ap (λ (l : _). l.notes.all) (sym (c.into_lines.ensures
-          ∙ ap (λ (s : _). s.lines) c.into_parts-spool.ensures.reader
-          ∙ c.end_lines-ended.ensures.lines)),
+      sym (c.into_lines.ensures ∙ ap spool_gave c.into_parts-spool.ensures.reader
+          ∙ c.end_lines-ended.ensures.lines),
       fed_out g.D.Disk.state _ how before after start fed ended c.end_lines-ended.ensures.ended
           (plays_as _ _ (answered_retold c.lines_between-lines.result last view
-          (λ (s : _). s.lines.notes.all) _ g.U.Facts.known g.U.Update.tells how
+          spool_gave _ g.U.Facts.known g.U.Update.tells how
           (c.args.lines.every - 1) c.args.update
           c.args.lines.hand made.every made.due made.unread made.hand
           (ap (λ (r : _). r.update) made.reported)

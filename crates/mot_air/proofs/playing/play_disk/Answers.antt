@@ -3,6 +3,7 @@ use Rattle.mot_air.specs.Telling.{EndsTelling, watch_in}
 use Rattle.mot_air.proofs.Retold.{ended_out, handed_out, looks_retold, none_retold, plays_as}
 use Rattle.mot_air.proofs.playing.play_disk.Goals as goal
 use Rattle.mot_folder.specs.Looked.{so_far, watch}
+use Rattle.mot_line_folder.specs.Spool.{reads_of}
 use Rattle.mot_playout.specs.Attempts.{fault_of}
 use Rattle.mot_update.specs.Watching.{looks_known}
 
@@ -18,7 +19,7 @@ returns-in-Some g c =
     rw (c.in-Some.is) (
       told.0,
       handed_out g.D.Disk.state _ how before after start ended out.ended c.looking.ensures.ended
-          (plays_as _ _ (looks_retold _ how out.beside.looks.all out.beside.lines.notes.all c.looks_at-update.result _
+          (plays_as _ _ (looks_retold _ how out.beside.looks.all (reads_of out.beside.lines) c.looks_at-update.result _
           (λ (u : _). watch (g.S.Shelf.path u.folder.shelf) u.folder.types.now u.folder.allows_empty
           u.every u.within)
           (λ (u : _). so_far u.left u.looks.all u.any_refused
@@ -29,7 +30,7 @@ returns-in-Some g c =
           out.any_refused c.looks_at-update.ensures.watch
           c.looks_at-update.ensures.none (ap (λ (l : _). l.all) (sym c.looking.ensures.looks))
           (sym c.looking.ensures.refused)
-          (ap (λ (l : _). l.notes.all) c.looking.ensures.lines ∙ c.new.ensures))
+          (ap reads_of c.looking.ensures.lines ∙ c.new.ensures))
           how (fault_of ended.result) before after start (g.D.Disk.state ended.disk) told.1),
       ended_out ended out.ended (λ f. EndsTelling f how.turns told.0
           (g.L.Write.contents c.play_telling-ended.result.2)) c.looking.ensures.ended told.2,
@@ -47,9 +48,9 @@ returns-in-None g c =
     rw (c.in-None.is) (
       told.0,
       handed_out g.D.Disk.state _ how before after start ended out.ended c.unwatched.ensures.ended
-          (plays_as _ _ (none_retold _ how out.beside.looks.all out.beside.lines.notes.all _ _ c.unwatched.ensures.looks
+          (plays_as _ _ (none_retold _ how out.beside.looks.all (reads_of out.beside.lines) _ _ c.unwatched.ensures.looks
           (sym c.unwatched.ensures.refused)
-          (ap (λ (l : _). l.notes.all) c.unwatched.ensures.lines ∙ c.new-in-None.ensures))
+          (ap reads_of c.unwatched.ensures.lines ∙ c.new-in-None.ensures))
           how (fault_of ended.result) before after start (g.D.Disk.state ended.disk) told.1),
       ended_out ended out.ended (λ f. EndsTelling f how.turns told.0
           (g.L.Write.contents c.play_telling-ended-in-None.result.2)) c.unwatched.ensures.ended told.2,

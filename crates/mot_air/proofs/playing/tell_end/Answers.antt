@@ -5,13 +5,7 @@ use Rattle.mot_air.proofs.playing.tell_end.Goals as goal
 
 pub returns-then-is_ok-clause-told : goal.returns-then-is_ok-clause-told
 returns-then-is_ok-clause-told g c = λ none.
-    let is = c.tell_end.ensures in
     let view = teller g.F.System.calls g.L.Write.contents in
     subst (λ (met : List LookEvent). TellsEnd (view c.args.reported.now.watch)
     c.args.server.now.view c.args.turns met (view c.tell_end.new.self)) c.events-events.ensures
-    (record {
-      counts = is.counts;
-      levels = is.log.0;
-      told = λ whole. let told = is.told whole in (is.log.1 whole, told.0, told.1);
-      status = is.status;
-    })
+    c.tell_end.ensures.ended

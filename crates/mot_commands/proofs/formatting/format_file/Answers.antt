@@ -6,6 +6,7 @@ use Rattle.mot_commands.specs.Commands.{FormatsFile, IsUnformatted, LooksFirst, 
 use Rattle.mot_outcome.proofs.Laws.{none_begun}
 use Rattle.mot_outcome.specs.Outcome.{Finishes}
 use Rattle.mot_commands.proofs.formatting.format_file.Goals as goal
+use Rattle.mot_endpoints.specs.Opened.{paths_of}
 
 pub returns-then-not-is_valid-clause-ended : goal.returns-then-not-is_valid-clause-ended
 returns-then-not-is_valid-clause-ended g c =
@@ -41,13 +42,13 @@ returns-in-None-clause-looked g c = (c.in-None.ensures.looks, inr c.in-None.ensu
 
 pub returns-then-not-is_valid-clause-files : goal.returns-then-not-is_valid-clause-files
 returns-then-not-is_valid-clause-files g c =
-    let paths = c.args.host.now.paths.all in
+    let paths = paths_of c.args.host.now in
     subst (λ (f : _). OpensOrMakes (fault_of f.result) c.args.path.now f.disk paths paths)
     (sym c.unbegun.ensures) (inl (none_begun [] paths))
 
 pub returns-in-Some-clause-files : goal.returns-in-Some-clause-files
 returns-in-Some-clause-files g c =
-    let paths = c.args.host.now.paths.all in
+    let paths = paths_of c.args.host.now in
     subst (λ (f : _). OpensOrMakes (fault_of f.result) c.args.path.now f.disk paths paths)
     (sym c.unbegun-in-Some.ensures) (inl (none_begun [] paths))
 

@@ -6,6 +6,7 @@ use Rattle.mot_commands.specs.Report.{Formats}
 use Rattle.disk_store.proofs.Laws.{since_opened}
 use Rattle.mot_commands.proofs.Ends.{Formats-keeps}
 use Rattle.mot_commands.proofs.formatting.format_free.Goals as goal
+use Rattle.mot_endpoints.specs.Opened.{paths_of}
 
 pub returns-in-Ok-clause-ended : goal.returns-in-Ok-clause-ended
 returns-in-Ok-clause-ended g c =
@@ -28,5 +29,5 @@ returns-in-Ok-clause-ended g c =
 pub returns-in-Ok-clause-files : goal.returns-in-Ok-clause-files
 returns-in-Ok-clause-files g c =
     subst (λ (f : _). OpensOrMakes (fault_of f.result) c.args.path.now f.disk
-    c.args.host.now.paths.all c.finish.new.host.paths.all) (sym c.finish.ensures.ended.1)
+    (paths_of c.args.host.now) (paths_of c.finish.new.host)) (sym c.finish.ensures.ended.1)
     (inl (c.finish.ensures.paths ∙ c.in-Ok.ensures.paths))

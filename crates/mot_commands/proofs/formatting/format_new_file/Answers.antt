@@ -11,6 +11,7 @@ use Rattle.disk_store.proofs.Laws.{since_made}
 use Rattle.mot_commands.proofs.Ends.{Formats-keeps}
 use Rattle.mot_commands.proofs.formatting.format_new_file.Goals as goal
 use Rattle.mot_commands.proofs.formatting.format_new_file.Goals.{then-is_unformatted, else-is_unformatted}
+use Rattle.mot_endpoints.specs.Opened.{paths_of}
 
 pub returns-clause-ended : goal.returns-clause-ended
 returns-clause-ended g c =
@@ -50,22 +51,22 @@ returns-clause-files g c =
     (length_of geometry) c.in-Ok.ensures.first (c.in-Ok.ensures.len ∙ c.length.ensures)
     last.begins (Formats-keeps geometry directory ending old new _ _ formats) formats in
     subst (λ (f : _). OpensOrMakes (fault_of f.result) c.args.path.now f.disk
-    c.args.host.now.paths.all c.if-is_unformatted.host.paths.all) (sym c.of_file.ensures)
+    (paths_of c.args.host.now) (paths_of c.if-is_unformatted.host)) (sym c.of_file.ensures)
     (elim c.if-is_unformatted.branch [
       | then-is_unformatted w ↦
           let removed : List (List ℕ × List ℕ) = (codes "removed", c.args.path.now) ∷ [] in
           inr (
             c.is_unformatted.ensures w.if-is_unformatted.true,
             made.begun,
-            ap (λ (h : _). h.paths.all) w.host-is ∙ w.take_away.ensures
+            ap paths_of w.host-is ∙ w.take_away.ensures
                 ∙ ap (λ l. l ++ removed) c.in-Ok.ensures.paths
-                ∙ append_assoc c.args.host.now.paths.all _ removed,
+                ∙ append_assoc (paths_of c.args.host.now) _ removed,
           )
-      | else-is_unformatted w ↦ inl (ap (λ (h : _). h.paths.all) w.host-is ∙ c.in-Ok.ensures.paths)
+      | else-is_unformatted w ↦ inl (ap paths_of w.host-is ∙ c.in-Ok.ensures.paths)
     ])
 
 pub returns-in-Err-clause-files : goal.returns-in-Err-clause-files
 returns-in-Err-clause-files g c =
     subst (λ (f : _). OpensOrMakes (fault_of f.result) c.args.path.now f.disk
-    c.args.host.now.paths.all c.make_disk.new.self.paths.all) (sym c.unopened.ensures)
+    (paths_of c.args.host.now) (paths_of c.make_disk.new.self)) (sym c.unopened.ensures)
     (inl (none_opened c.in-Err.ensures.paths))

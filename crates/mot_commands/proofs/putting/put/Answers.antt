@@ -5,7 +5,7 @@ use Rattle.mot_commands.specs.Asking.{Comes}
 use Rattle.mot_commands.specs.Putting.{PutsFiles, PutsTo, texts}
 use Rattle.mot_commands.proofs.Come.{comes-looked, comes-more, opened_behind}
 use Rattle.mot_commands.proofs.putting.put.Goals as goal
-use Rattle.mot_endpoints.specs.Opened.{named}
+use Rattle.mot_endpoints.specs.Opened.{named, paths_of}
 use Rattle.mot_endpoints.specs.Types.{IsUntyped}
 use Rattle.mot_numbers.specs.declared.refusal.Refusal.TheVariants.{DeviceFault}
 use Rattle.mot_outcome.specs.Outcome.{Opens}
@@ -38,13 +38,13 @@ returns-in-Err-clause-ended g c =
 pub returns-in-Ok-clause-files : goal.returns-in-Ok-clause-files
 returns-in-Ok-clause-files g c =
     opened_behind (named (codes "types") c.args.types) c.args.path.now c.put_files.result.disk
-    c.args.host.now.paths.all c.file_types.new.host.paths.all c.put_files.new.host.paths.all
+    (paths_of c.args.host.now) (paths_of c.file_types.new.host) (paths_of c.put_files.new.host)
     c.in-Ok.ensures.opens c.put_files.ensures.files
 
 pub returns-in-Err-clause-files : goal.returns-in-Err-clause-files
 returns-in-Err-clause-files g c =
     subst (λ (f : _). Opens (named (codes "types") c.args.types) c.args.path.now f.disk
-    c.args.host.now.paths.all c.file_types.new.host.paths.all) (sym c.unbegun.ensures)
+    (paths_of c.args.host.now) (paths_of c.file_types.new.host)) (sym c.unbegun.ensures)
     c.in-Err.ensures.opens
 
 pub returns-in-Ok-clause-looked : goal.returns-in-Ok-clause-looked

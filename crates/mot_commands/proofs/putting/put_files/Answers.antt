@@ -8,6 +8,7 @@ use Rattle.mot_commands.specs.Asking.{Comes}
 use Rattle.mot_commands.specs.Putting.{PutsEach, PutsTo, texts}
 use Rattle.mot_commands.proofs.On.{puts-on}
 use Rattle.mot_commands.proofs.putting.put_files.Goals as goal
+use Rattle.mot_endpoints.specs.Opened.{paths_of}
 use Rattle.mot_numbers.specs.declared.refusal.Refusal.TheVariants.{DeviceFault}
 use Rattle.mot_outcome.proofs.Laws.{none_opened}
 use Rattle.mot_outcome.specs.Outcome.{IsUntouched, Opens}
@@ -47,14 +48,14 @@ returns-in-Err-clause-ended g c =
 
 pub returns-in-Ok-clause-files : goal.returns-in-Ok-clause-files
 returns-in-Ok-clause-files g c =
-    subst (λ (f : _). Opens [] c.args.path.now f.disk c.args.host.now.paths.all
-    c.finish.new.host.paths.all) (sym c.finish.ensures.ended.1)
+    subst (λ (f : _). Opens [] c.args.path.now f.disk (paths_of c.args.host.now)
+    (paths_of c.finish.new.host)) (sym c.finish.ensures.ended.1)
     (c.finish.ensures.paths ∙ c.in-Ok.ensures.paths)
 
 pub returns-in-Err-clause-files : goal.returns-in-Err-clause-files
 returns-in-Err-clause-files g c =
-    subst (λ (f : _). Opens [] c.args.path.now f.disk c.args.host.now.paths.all
-    c.disk.new.self.paths.all) (sym c.unopened.ensures) (none_opened c.in-Err.ensures.paths)
+    subst (λ (f : _). Opens [] c.args.path.now f.disk (paths_of c.args.host.now)
+    (paths_of c.disk.new.self)) (sym c.unopened.ensures) (none_opened c.in-Err.ensures.paths)
 
 pub returns-in-Ok-clause-unbegun : goal.returns-in-Ok-clause-unbegun
 returns-in-Ok-clause-unbegun g c =

@@ -8,6 +8,7 @@ use Rattle.mot_copy_command.proofs.Lifts.{syncs_of}
 use Rattle.mot_numbers.specs.declared.refusal.Refusal.TheVariants.{DeviceFault}
 use Rattle.mot_outcome.specs.Outcome.{Finishes}
 use Rattle.mot_copy_command.proofs.copying.copy_file.Goals as goal
+use Rattle.mot_endpoints.specs.Opened.{paths_of}
 
 pub returns-clause-ended : goal.returns-clause-ended
 returns-clause-ended g c =
@@ -32,12 +33,12 @@ pub returns-clause-files : goal.returns-clause-files
 returns-clause-files g c =
     let end = c.copy_disk-ended.result in
     subst (λ before. ComesToCopy (fault_of end.0.result) c.args.task.now.new.now end.1 before
-    c.copy_disk-ended.new.host.paths.all) c.in-Ok.ensures.paths c.copy_disk-ended.ensures.files
+    (paths_of c.copy_disk-ended.new.host)) c.in-Ok.ensures.paths c.copy_disk-ended.ensures.files
 
 pub returns-in-Err-clause-files : goal.returns-in-Err-clause-files
 returns-in-Err-clause-files g c =
     subst (λ (f : _). OpensTwo (fault_of f.result) c.args.task.now.disk.now c.args.task.now.new.now
-    f.disk c.args.host.now.paths.all c.disk.new.self.paths.all) (sym c.unopened.ensures)
+    f.disk (paths_of c.args.host.now) (paths_of c.disk.new.self)) (sym c.unopened.ensures)
     c.in-Err.ensures.paths
 
 pub returns-in-Err-clause-looked : goal.returns-in-Err-clause-looked

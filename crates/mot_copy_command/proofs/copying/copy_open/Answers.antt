@@ -9,6 +9,7 @@ use Rattle.mot_copy_command.specs.Inner.{CopiesView}
 use Rattle.mot_copy_command.proofs.Lifts.{Known, comes_kept, opened_view}
 use Rattle.mot_copy_command.proofs.copying.copy_open.Goals as goal
 use Rattle.mot_copy_command.proofs.copying.copy_open.Goals.{then-is_refused, else-is_refused}
+use Rattle.mot_endpoints.specs.Opened.{paths_of}
 
 pub returns-after-is_refused-clause-reads : goal.returns-after-is_refused-clause-reads
 returns-after-is_refused-clause-reads g c =
@@ -55,14 +56,14 @@ returns-after-is_refused-clause-files g c =
     copies in
     let end = c.end_of.result in
     let path = c.args.task.now.new.now in
-    let before = c.args.host.now.paths.all in
-    let come : c.if-is_refused.host.paths.all ≡ before ++ (codes "disk", path) ∷ [] =
+    let before = paths_of c.args.host.now in
+    let come : paths_of c.if-is_refused.host ≡ before ++ (codes "disk", path) ∷ [] =
     elim c.if-is_refused.branch [
-      | then-is_refused w ↦ ap (λ (h : _). h.paths.all) w.host-is ∙ w.clear_side.ensures
+      | then-is_refused w ↦ ap paths_of w.host-is ∙ w.clear_side.ensures
           ∙ c.in-Ok.ensures.paths
-      | else-is_refused w ↦ ap (λ (h : _). h.paths.all) w.host-is ∙ c.in-Ok.ensures.paths
+      | else-is_refused w ↦ ap paths_of w.host-is ∙ c.in-Ok.ensures.paths
     ] in
-    subst (λ (r : _). ComesToCopy (fault_of r) path end.1 before c.if-is_refused.host.paths.all)
+    subst (λ (r : _). ComesToCopy (fault_of r) path end.1 before (paths_of c.if-is_refused.host))
     (sym c.end_of.ensures.made)
     (comes_kept view geometry ids ending old new mid now last.disk refl path end.1
     c.end_of.ensures.some c.end_of.ensures.to since.begun before _ come)

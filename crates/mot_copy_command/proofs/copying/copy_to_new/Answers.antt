@@ -9,6 +9,7 @@ use Rattle.mot_copy_command.specs.Inner.{CopiesView}
 use Rattle.mot_copy_command.proofs.Lifts.{Known, comes_copied, comes_removed, made_view}
 use Rattle.mot_copy_command.proofs.copying.copy_to_new.Goals as goal
 use Rattle.mot_copy_command.proofs.copying.copy_to_new.Goals.{then-is_refused, else-is_refused}
+use Rattle.mot_endpoints.specs.Opened.{paths_of}
 use Rattle.mot_numbers.specs.Geometry.{length_of}
 
 pub returns-clause-reads : goal.returns-clause-reads
@@ -56,17 +57,17 @@ returns-clause-files g c =
     c.in-Ok.ensures.first (c.in-Ok.ensures.len ∙ c.length.ensures) last.begins copies.keeps copies in
     let end = c.end_of.result in
     let path = c.args.task.now.new.now in
-    let before = c.args.host.now.paths.all in
-    subst (λ (r : _). ComesToCopy (fault_of r) path end.1 before c.if-is_refused.host.paths.all)
+    let before = paths_of c.args.host.now in
+    subst (λ (r : _). ComesToCopy (fault_of r) path end.1 before (paths_of c.if-is_refused.host))
     (sym c.end_of.ensures.made) (elim c.if-is_refused.branch [
       | then-is_refused w ↦
           let removed : List (List ℕ × List ℕ) = (codes "removed", path) ∷ [] in
           comes_removed view geometry ids ending old new mid now last.disk refl path end.1
           c.end_of.ensures.some c.end_of.ensures.to (c.is_refused.ensures.refused w.if-is_refused.true)
           since.begun before _
-          (ap (λ (h : _). h.paths.all) w.host-is ∙ w.take_away.ensures
+          (ap paths_of w.host-is ∙ w.take_away.ensures
           ∙ ap (λ l. l ++ removed) c.in-Ok.ensures.paths ∙ append_assoc before _ removed)
       | else-is_refused w ↦ comes_copied ending path end.1 c.end_of.ensures.some
           (c.is_refused.ensures.copied w.if-is_refused.false) before _
-          (ap (λ (h : _). h.paths.all) w.host-is ∙ c.in-Ok.ensures.paths)
+          (ap paths_of w.host-is ∙ c.in-Ok.ensures.paths)
     ])

@@ -12,6 +12,7 @@ use Rattle.mot_cli.specs.declared.task.Task.{Task}
 use Rattle.mot_numbers.specs.declared.refusal.Refusal.{Refusal}
 use Rattle.mot_numbers.specs.declared.refusal.Refusal.TheVariants.{BadNumber, WriteFault}
 use Rattle.disk_store.specs.declared.file.start.Start.{Ghosts}
+use Rattle.mot_endpoints.specs.Opened.{paths_of}
 use Rattle.mot_outcome.proofs.Laws.{explained}
 use Rattle.mot_outcome.specs.Outcome.{IsUntouched, Prints, UsesFiles}
 use Rattle.mot_outcome.specs.Outcome.ComesTo.{no_task, wrong}
@@ -185,7 +186,7 @@ returns-clause-files g c =
     let name = c.in-Some.name.now in
     let rows = rows_of (found_of c.in-Some.rest.now) in
     let task = c.in-Ok-task_of.task in
-    subst (λ (e : _). Uses words e c.args.host.now.paths.all c.execute-finished.new.host.paths.all)
+    subst (λ (e : _). Uses words e (paths_of c.args.host.now) (paths_of c.execute-finished.new.host))
     (sym c.conclude.ensures)
     (asked task ((AskBy-matched motcar_app words IsTask motcar_simple c.in-Ok.matches name rows
     c.in-Ok.ensures.matches c.in-Some.ensures.name c.in-Some.ensures.rows task).1

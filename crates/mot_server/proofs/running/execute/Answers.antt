@@ -16,6 +16,7 @@ use Rattle.mot_commands.specs.Commands.{LooksFirst, MigratesFile, OpensOrMakes, 
 use Rattle.mot_commands.specs.Commands.{GetsFile, ListsFile, ServesMemory, WithdrawsFile}
 use Rattle.mot_commands.specs.Putting.{PutsFiles, texts}
 use Rattle.mot_copy_command.specs.Command.{CopiesFile, LooksAtNew, OpensTwo}
+use Rattle.mot_endpoints.specs.Opened.{paths_of}
 use Rattle.mot_endpoints.specs.Types.{IsUntyped}
 use Rattle.mot_numbers.specs.declared.refusal.Refusal.{Refusal}
 use Rattle.mot_numbers.specs.declared.refusal.Refusal.TheVariants.{DeviceFault}
@@ -169,8 +170,8 @@ returns-in-Inspect-clause-ended g c =
 
 pub returns-in-Serve-clause-files : goal.returns-in-Serve-clause-files
 returns-in-Serve-clause-files g c =
-    let old = c.args.host.now.paths.all in
-    let new = c.serve_file.new.host.paths.all in
+    let old = paths_of c.args.host.now in
+    let new = paths_of c.serve_file.new.host in
     let done = c.whole-in-Serve.result in
     subst (λ (t : Task). UsesFor (fault_of done.result) t done.disk old new) (sym c.in-Serve.is)
     (subst (λ (w : _). Opens [] c.in-Serve.path.now w.disk old new) (sym c.whole-in-Serve.ensures)
@@ -178,8 +179,8 @@ returns-in-Serve-clause-files g c =
 
 pub returns-in-Check-clause-files : goal.returns-in-Check-clause-files
 returns-in-Check-clause-files g c =
-    let old = c.args.host.now.paths.all in
-    let new = c.check_file.new.host.paths.all in
+    let old = paths_of c.args.host.now in
+    let new = paths_of c.check_file.new.host in
     let done = c.whole-in-Check.result in
     subst (λ (t : Task). UsesFor (fault_of done.result) t done.disk old new) (sym c.in-Check.is)
     (subst (λ (w : _). Opens [] c.in-Check.path.now w.disk old new) (sym c.whole-in-Check.ensures)
@@ -187,8 +188,8 @@ returns-in-Check-clause-files g c =
 
 pub returns-in-Migrate-clause-files : goal.returns-in-Migrate-clause-files
 returns-in-Migrate-clause-files g c =
-    let old = c.args.host.now.paths.all in
-    let new = c.migrate_file.new.host.paths.all in
+    let old = paths_of c.args.host.now in
+    let new = paths_of c.migrate_file.new.host in
     let done = c.whole-in-Migrate.result in
     subst (λ (t : Task). UsesFor (fault_of done.result) t done.disk old new) (sym c.in-Migrate.is)
     (subst (λ (w : _). Opens [] c.in-Migrate.path.now w.disk old new) (sym c.whole-in-Migrate.ensures)
@@ -196,8 +197,8 @@ returns-in-Migrate-clause-files g c =
 
 pub returns-in-Export-clause-files : goal.returns-in-Export-clause-files
 returns-in-Export-clause-files g c =
-    let old = c.args.host.now.paths.all in
-    let new = c.export_file.new.host.paths.all in
+    let old = paths_of c.args.host.now in
+    let new = paths_of c.export_file.new.host in
     let done = c.whole-in-Export.result in
     subst (λ (t : Task). UsesFor (fault_of done.result) t done.disk old new) (sym c.in-Export.is)
     (subst (λ (w : _). Opens [] c.in-Export.path.now w.disk old new) (sym c.whole-in-Export.ensures)
@@ -205,8 +206,8 @@ returns-in-Export-clause-files g c =
 
 pub returns-in-Inspect-clause-files : goal.returns-in-Inspect-clause-files
 returns-in-Inspect-clause-files g c =
-    let old = c.args.host.now.paths.all in
-    let new = c.inspect_file.new.host.paths.all in
+    let old = paths_of c.args.host.now in
+    let new = paths_of c.inspect_file.new.host in
     let done = c.whole-in-Inspect.result in
     subst (λ (t : Task). UsesFor (fault_of done.result) t done.disk old new) (sym c.in-Inspect.is)
     (subst (λ (w : _). Opens [] c.in-Inspect.disk.now w.disk old new) (sym c.whole-in-Inspect.ensures)
@@ -214,14 +215,14 @@ returns-in-Inspect-clause-files g c =
 
 pub returns-in-Memory-clause-files : goal.returns-in-Memory-clause-files
 returns-in-Memory-clause-files g c =
-    let old = c.args.host.now.paths.all in
+    let old = paths_of c.args.host.now in
     subst (λ (t : Task). UsesFor (fault_of c.whole.result.result) t c.whole.result.disk old old)
     (sym c.in-Memory.is) refl
 
 pub returns-in-Format-clause-files : goal.returns-in-Format-clause-files
 returns-in-Format-clause-files g c =
-    let old = c.args.host.now.paths.all in
-    let new = c.format_file.new.host.paths.all in
+    let old = paths_of c.args.host.now in
+    let new = paths_of c.format_file.new.host in
     let done = c.whole-in-Format.result in
     subst (λ (t : Task). UsesFor (fault_of done.result) t done.disk old new) (sym c.in-Format.is)
     (subst (λ (w : _). OpensOrMakes (fault_of w.result) c.in-Format.path.now w.disk old new)
@@ -232,12 +233,12 @@ returns-in-Format-clause-files g c =
 pub returns-in-Play-clause-files : goal.returns-in-Play-clause-files
 returns-in-Play-clause-files g c =
     subst (λ (t : Task). UsesFor (fault_of c.play.result.result) t c.play.result.disk
-    c.args.host.now.paths.all c.play.new.host.paths.all) (sym c.in-Play.is) c.play.ensures.opens
+    (paths_of c.args.host.now) (paths_of c.play.new.host)) (sym c.in-Play.is) c.play.ensures.opens
 
 pub returns-in-Sync-clause-files : goal.returns-in-Sync-clause-files
 returns-in-Sync-clause-files g c =
     subst (λ (t : Task). UsesFor (fault_of c.sync.result.result) t c.sync.result.disk
-    c.args.host.now.paths.all c.sync.new.host.paths.all) (sym c.in-Sync.is) c.sync.ensures.opens
+    (paths_of c.args.host.now) (paths_of c.sync.new.host)) (sym c.in-Sync.is) c.sync.ensures.opens
 
 pub returns-in-Memory-clause-looked : goal.returns-in-Memory-clause-looked
 returns-in-Memory-clause-looked g c =
@@ -363,12 +364,12 @@ returns-in-PutFiles-clause-looked g c =
 pub returns-in-PutFiles-clause-files : goal.returns-in-PutFiles-clause-files
 returns-in-PutFiles-clause-files g c =
     subst (λ (t : Task). UsesFor (fault_of c.put.result.result) t c.put.result.disk
-    c.args.host.now.paths.all c.put.new.host.paths.all) (sym c.in-PutFiles.is) c.put.ensures.files
+    (paths_of c.args.host.now) (paths_of c.put.new.host)) (sym c.in-PutFiles.is) c.put.ensures.files
 
 pub returns-in-WithdrawNames-clause-files : goal.returns-in-WithdrawNames-clause-files
 returns-in-WithdrawNames-clause-files g c =
     subst (λ (t : Task). UsesFor (fault_of c.withdraw_file.result.result) t
-    c.withdraw_file.result.disk c.args.host.now.paths.all c.withdraw_file.new.host.paths.all)
+    c.withdraw_file.result.disk (paths_of c.args.host.now) (paths_of c.withdraw_file.new.host))
     (sym c.in-WithdrawNames.is) c.withdraw_file.ensures.files
 
 pub returns-in-WithdrawNames-clause-looked : goal.returns-in-WithdrawNames-clause-looked
@@ -379,8 +380,8 @@ returns-in-WithdrawNames-clause-looked g c =
 
 pub returns-in-ListObjects-clause-files : goal.returns-in-ListObjects-clause-files
 returns-in-ListObjects-clause-files g c =
-    let old = c.args.host.now.paths.all in
-    let new = c.list_file.new.host.paths.all in
+    let old = paths_of c.args.host.now in
+    let new = paths_of c.list_file.new.host in
     let done = c.whole-in-ListObjects.result in
     subst (λ (t : Task). UsesFor (fault_of done.result) t done.disk old new) (sym c.in-ListObjects.is)
     (subst (λ (w : _). Opens [] c.in-ListObjects.path.now w.disk old new) (sym c.whole-in-ListObjects.ensures)
@@ -388,8 +389,8 @@ returns-in-ListObjects-clause-files g c =
 
 pub returns-in-GetBody-clause-files : goal.returns-in-GetBody-clause-files
 returns-in-GetBody-clause-files g c =
-    let old = c.args.host.now.paths.all in
-    let new = c.get_file.new.host.paths.all in
+    let old = paths_of c.args.host.now in
+    let new = paths_of c.get_file.new.host in
     let done = c.whole-in-GetBody.result in
     subst (λ (t : Task). UsesFor (fault_of done.result) t done.disk old new) (sym c.in-GetBody.is)
     (subst (λ (w : _). Opens [] c.in-GetBody.disk.now w.disk old new) (sym c.whole-in-GetBody.ensures)
@@ -398,7 +399,7 @@ returns-in-GetBody-clause-files g c =
 pub returns-in-TrySync-clause-files : goal.returns-in-TrySync-clause-files
 returns-in-TrySync-clause-files g c =
     subst (λ (t : Task). UsesFor (fault_of c.try_sync.result.result) t c.try_sync.result.disk
-    c.args.host.now.paths.all c.try_sync.new.host.paths.all) (sym c.in-TrySync.is) c.try_sync.ensures.opens
+    (paths_of c.args.host.now) (paths_of c.try_sync.new.host)) (sym c.in-TrySync.is) c.try_sync.ensures.opens
 
 pub returns-in-TrySync-clause-looked : goal.returns-in-TrySync-clause-looked
 returns-in-TrySync-clause-looked g c =
@@ -433,8 +434,8 @@ returns-in-Copy-clause-ended g c =
 
 pub returns-in-Copy-clause-files : goal.returns-in-Copy-clause-files
 returns-in-Copy-clause-files g c =
-    let old = c.args.host.now.paths.all in
-    let new = c.copy_file.new.host.paths.all in
+    let old = paths_of c.args.host.now in
+    let new = paths_of c.copy_file.new.host in
     let done = c.whole-in-Copy.result in
     let copied = c.in-Copy.copied in
     subst (λ (t : Task). UsesFor (fault_of done.result) t done.disk old new) (sym c.in-Copy.is)

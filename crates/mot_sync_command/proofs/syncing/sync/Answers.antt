@@ -6,23 +6,23 @@ use Rattle.mot_outcome.proofs.Laws.{begun_first, opened_after}
 use Rattle.mot_sync_command.proofs.syncing.sync.Goals as goal
 use Rattle.mot_sync_command.specs.Commands.{IsUnsynced, SyncsTask, SyncsTo}
 use Rattle.mot_outcome.specs.Outcome.{Concludes}
-use Rattle.mot_endpoints.specs.Opened.{named}
+use Rattle.mot_endpoints.specs.Opened.{named, paths_of}
 use Rattle.mot_numbers.specs.declared.refusal.Refusal.TheVariants.{DeviceFault}
 use Rattle.mot_outcome.specs.Outcome.{Opens}
 
 pub returns-in-Ok-clause-opens : goal.returns-in-Ok-clause-opens
 returns-in-Ok-clause-opens g c =
     opened_after (named (codes "types") c.args.types) ((codes "folder", c.args.folder.now) ∷ [])
-    c.args.path.now c.sync_file.result.disk c.args.host.now.paths.all
-    c.file_types.new.host.paths.all c.sync_file.new.host.paths.all c.in-Ok.ensures.opens
+    c.args.path.now c.sync_file.result.disk (paths_of c.args.host.now)
+    (paths_of c.file_types.new.host) (paths_of c.sync_file.new.host) c.in-Ok.ensures.opens
     c.sync_file.ensures.opens
 
 pub returns-in-Err-clause-opens : goal.returns-in-Err-clause-opens
 returns-in-Err-clause-opens g c =
     let types = named (codes "types") c.args.types in
     let others = (codes "folder", c.args.folder.now) ∷ [] in
-    let old = c.args.host.now.paths.all in
-    let new = c.file_types.new.host.paths.all in
+    let old = paths_of c.args.host.now in
+    let new = paths_of c.file_types.new.host in
     subst (λ (f : _). Opens (types ++ others) c.args.path.now f.disk old new)
     (sym c.unbegun.ensures)
     (begun_first types others old new c.in-Err.ensures.opens)

@@ -5,18 +5,17 @@ use Rattle.mot_sync_command.proofs.syncing.sync_shelf.Goals as goal
 use Rattle.mot_playout.specs.Attempts.{fault_of}
 use Rattle.mot_shelf.specs.Given.{Given}
 use Rattle.mot_shelf.specs.Seen.{given_of}
-use Rattle.mot_shelf.specs.declared.seen.Seen.{Seen}
+use Rattle.mot_shelf.specs.System.{shelf_gave, shelf_path}
 use Rattle.mot_suffixes.specs.Types.{SuffixType}
 
 -- the types, what is allowed, the path and what was seen are those that are told
 told : (P : List SuffixType → Bool → List ℕ → Given → Type 0) (t u : List SuffixType) (a b : Bool)
-    (p q : List ℕ) (g h : Seen) → t ≡ u → a ≡ b → p ≡ q → h ≡ g → P t a p (given_of g)
-    → P u b q (given_of h)
+    (p q : List ℕ) (g h : Given) → t ≡ u → a ≡ b → p ≡ q → h ≡ g → P t a p g → P u b q h
 told P t u a b p q g h types allows path seen is =
-    subst (λ (x : List SuffixType). P x b q (given_of h)) types
-    (subst (λ (x : Bool). P t x q (given_of h)) allows
-    (subst (λ (x : List ℕ). P t a x (given_of h)) path
-    (subst (λ (x : Seen). P t a p (given_of x)) (sym seen) is)))
+    subst (λ (x : List SuffixType). P x b q h) types
+    (subst (λ (x : Bool). P t x q h) allows
+    (subst (λ (x : List ℕ). P t a x h) path
+    (subst (λ (x : Given). P t a p x) (sym seen) is)))
 
 pub returns : goal.returns
 returns g c =
@@ -26,7 +25,8 @@ returns g c =
     (g.D.Disk.state ended.disk) (result_unwrap_or ended.result false) (fault_of ended.result)
     (g.W.Write.contents c.args.log.now) (g.W.Write.contents c.sync_disk-ended.new.log))
     folder.types.now c.args.types.now folder.allows_empty c.args.allows_empty
-    folder.shelf.path.now c.args.shelf.path.now
-    c.sync_disk-ended.new.folder.shelf.seen c.into_seen.result c.new-folder.ensures.types
-    c.new-folder.ensures.allows (ap (λ (s : _). s.path.now) c.new-folder.ensures.shelf)
+    (shelf_path folder.shelf) (shelf_path c.args.shelf)
+    (shelf_gave c.sync_disk-ended.new.folder.shelf) (given_of c.into_seen.result)
+    c.new-folder.ensures.types c.new-folder.ensures.allows
+    (ap shelf_path c.new-folder.ensures.shelf)
     c.into_seen.ensures c.sync_disk-ended.ensures

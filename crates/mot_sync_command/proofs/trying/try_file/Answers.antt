@@ -3,6 +3,7 @@ use Rattle.std.specs.Prelude.{codes}
 use Rattle.std.specs.Result.{result_unwrap_or}
 use Rattle.disk_store.specs.Begun.{begun_state}
 use Rattle.disk_store.proofs.Laws.{since_opened}
+use Rattle.mot_endpoints.specs.Opened.{paths_of}
 use Rattle.mot_outcome.specs.Outcome.{Concludes}
 use Rattle.mot_sync_command.specs.Trying.{Tries, TriesTo}
 use Rattle.mot_outcome.proofs.Laws.{concludes_so}
@@ -14,6 +15,7 @@ use Rattle.mot_outcome.specs.declared.used.UsedDisk.TheVariants.{OfFile}
 use Rattle.mot_playout.specs.Attempts.{fault_of}
 use Rattle.mot_shelf.specs.Given.{Given}
 use Rattle.mot_shelf.specs.Seen.{given_of}
+use Rattle.mot_shelf.specs.System.{shelf_path}
 use Rattle.mot_shelf.specs.declared.seen.Seen.{Seen}
 
 -- the path and what was seen are those that are told
@@ -45,21 +47,21 @@ returns-in-Ok-clause-ended g c =
     (λ start now. Tries types allows path (given_of seen) start now all ending old new)
     opens.first ended.disk.begins c.try_shelf-ended.ensures.0.keeps
     (told (λ pa gi. Tries types allows pa gi (begun_state c.in-Ok.disk) (begun_state ended.disk) all
-    ending old new) c.folder-shelf.result.path.now path c.try_shelf-ended.result.2 seen
+    ending old new) (shelf_path c.folder-shelf.result) path c.try_shelf-ended.result.2 seen
     c.folder-shelf.ensures.path c.folder.ensures c.try_shelf-ended.ensures)))
 
 pub returns-in-Ok-clause-opens : goal.returns-in-Ok-clause-opens
 returns-in-Ok-clause-opens g c =
     let folder = (codes "folder", c.args.folder.now) ∷ [] in
-    subst (λ (f : _). Opens folder c.args.path.now f.disk c.args.host.now.paths.all
-    c.disk.new.self.paths.all) (sym c.of_file.ensures)
-    (opened_whole folder [] ((codes "disk", c.args.path.now) ∷ []) c.args.host.now.paths.all
-    c.folder-shelf.new.self.paths.all c.disk.new.self.paths.all c.folder-shelf.ensures.paths
+    subst (λ (f : _). Opens folder c.args.path.now f.disk (paths_of c.args.host.now)
+    (paths_of c.disk.new.self)) (sym c.of_file.ensures)
+    (opened_whole folder [] ((codes "disk", c.args.path.now) ∷ []) (paths_of c.args.host.now)
+    (paths_of c.folder-shelf.new.self) (paths_of c.disk.new.self) c.folder-shelf.ensures.paths
     c.in-Ok.ensures.paths)
 
 pub returns-in-Err-clause-opens : goal.returns-in-Err-clause-opens
 returns-in-Err-clause-opens g c =
     let folder = (codes "folder", c.args.folder.now) ∷ [] in
-    subst (λ (f : _). Opens folder c.args.path.now f.disk c.args.host.now.paths.all
-    c.disk.new.self.paths.all) (sym c.unopened.ensures)
+    subst (λ (f : _). Opens folder c.args.path.now f.disk (paths_of c.args.host.now)
+    (paths_of c.disk.new.self)) (sym c.unopened.ensures)
     (folder, [], refl, c.in-Err.ensures.paths ∙ c.folder-shelf.ensures.paths)

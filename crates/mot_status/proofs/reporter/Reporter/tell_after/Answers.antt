@@ -1,5 +1,5 @@
-use Rattle.std.proofs.Common.{◌∙◌, Global, ap, option_map, string_bytes, sym}
-use Rattle.mot_status.specs.Told.{path_of, place}
+use Rattle.std.proofs.Common.{◌∙◌, ap, sym}
+use Rattle.mot_status.specs.Told.{path_of, place_at}
 use Rattle.mot_status.specs.declared.reporter.Reporter.{Reporter}
 use Rattle.mot_status.proofs.Joined.{joined}
 use Rattle.mot_status.proofs.reporter.Reporter.tell_after.Goals as goal
@@ -10,8 +10,7 @@ returns-then-is_due-clause-told g c = λ whole.
     let first = c.tell_looked.new.self in
     let noted = c.note_changes.new.self in
     let contents = g.W.Write.contents in
-    let path = λ (r : Reporter g.row.S.Denot g.row.W.Denot). path_of (option_map (λ f.
-    place f.path.now f.disk.now (option_map (string_bytes {Z = Global}) f.beside)) r.status) in
+    let path = λ (r : Reporter g.row.S.Denot g.row.W.Denot). path_of (place_at r.status) in
     let is = c.note_changes.ensures.same in
     let was = c.tell_looked.ensures.same in
     let whole_first =

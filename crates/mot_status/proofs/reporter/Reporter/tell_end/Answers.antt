@@ -1,29 +1,18 @@
-use Rattle.std.proofs.Common.{◌∙◌, Global, ap, option_map, string_bytes, sym}
-use Rattle.mot_status.specs.Told.{path_of, place}
-use Rattle.mot_status.specs.declared.reporter.Reporter.{Reporter}
-use Rattle.mot_status.proofs.Joined.{joined}
+use Rattle.std.proofs.Common.{ap, refl}
+use Rattle.mot_status.specs.Teller.{teller}
+use Rattle.mot_status.proofs.Rest.{rest_is}
 use Rattle.mot_status.proofs.reporter.Reporter.tell_end.Goals as goal
 
-pub returns-clause-told : goal.returns-clause-told
-returns-clause-told g c = λ whole.
-    let old = c.args.self.now in
-    let first = c.tell_ended.new.self in
-    let noted = c.note_changes.new.self in
-    let contents = g.W.Write.contents in
-    let path = λ (r : Reporter g.row.S.Denot g.row.W.Denot). path_of (option_map (λ f.
-    place f.path.now f.disk.now (option_map (string_bytes {Z = Global}) f.beside)) r.status) in
-    let is = c.note_changes.ensures.same in
-    let was = c.tell_ended.ensures.same in
-    let whole_first =
-    sym (ap (λ (r : Reporter g.row.S.Denot g.row.W.Denot). r.log.is_whole) is)
-    ∙ c.tell_status.ensures.log.1 whole in
-    joined (contents old.log.writer) (contents first.log.writer) (contents noted.log.writer)
-    (contents c.tell_status.new.self.log.writer) _ (path old) (path noted) old.log.levels
-    noted.log.levels old.is_unwritten c.tell_status.new.self.is_unwritten noted.is_unwritten
-    (c.tell_ended.ensures.told whole_first) (c.tell_status.ensures.told whole)
-    (ap (λ (r : Reporter g.row.S.Denot g.row.W.Denot). contents r.log.writer) is)
-    (ap (λ (r : Reporter g.row.S.Denot g.row.W.Denot). r.log.levels) is
-    ∙ c.tell_ended.ensures.log.0)
-    (ap path_of c.note_changes.ensures.place ∙ ap path was)
-    (ap (λ (r : Reporter g.row.S.Denot g.row.W.Denot). r.is_unwritten) is
-    ∙ ap (λ (r : Reporter g.row.S.Denot g.row.W.Denot). r.is_unwritten) was)
+pub returns : goal.returns
+returns g c =
+    let is = c.end_turns.ensures in
+    let view = teller g.S.System.calls g.W.Write.contents in record {
+      ended = record {
+        counts = is.counts;
+        levels = is.log.0;
+        told = λ whole. let told = is.told whole in (is.log.1 whole, told.0, told.1);
+        status = is.status;
+        rest = rest_is (view c.args.self.now) _ (view c.end_turns.new.self)
+            (ap view is.same) is.place refl;
+      };
+    }

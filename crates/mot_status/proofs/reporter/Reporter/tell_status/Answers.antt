@@ -1,16 +1,15 @@
-use Rattle.std.proofs.Common.{◌∙◌, Bool, Bor, Global, List, Option, ap, option_map}
-use Rattle.std.proofs.Common.{is_ok, not, string_bytes, subst, sym, ℕ}
+use Rattle.std.proofs.Common.{◌∙◌, Bool, Bor, List, Option, ap}
+use Rattle.std.proofs.Common.{is_ok, not, subst, sym, ℕ}
 use Rattle.std.specs.Io.KnownBytes.{Appends}
 use Rattle.mot_destinations.specs.declared.status_file.StatusFile.{StatusFile}
-use Rattle.mot_status.specs.Told.{path_of, place, status_line}
+use Rattle.mot_status.specs.Told.{path_of, place_at, status_line}
 use Rattle.mot_status.proofs.reporter.Reporter.tell_status.Goals as goal
 
 pub returns-clause-told : goal.returns-clause-told
 returns-clause-told g c = λ whole.
     let old = c.args.self.now in
     let told = c.tell_written-self.ensures.told whole in
-    let path = λ (o : Option (StatusFile g.row.S.Denot)). path_of (option_map (λ f.
-    place f.path.now f.disk.now (option_map (string_bytes {Z = Global}) f.beside)) o) in
+    let path = λ (o : Option (StatusFile g.row.S.Denot)). path_of (place_at o) in
     let grows = λ (p : List ℕ) (is : Bool). Appends (g.W.Write.contents old.log.writer)
     (g.W.Write.contents c.tell_written-self.new.log.writer)
     (status_line old.log.levels p old.is_unwritten is told.0) in

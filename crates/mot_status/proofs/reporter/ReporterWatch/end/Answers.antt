@@ -1,16 +1,7 @@
-use Rattle.std.proofs.Common.{◌≡◌, ◌∙◌, Option, ap, refl, sym}
-use Rattle.mot_status.specs.Teller.{TellerView, teller}
-use Rattle.mot_status.specs.Told.{Place}
+use Rattle.std.proofs.Common.{ap, refl}
+use Rattle.mot_status.specs.Teller.{teller}
+use Rattle.mot_status.proofs.Rest.{rest_is}
 use Rattle.mot_status.proofs.reporter.ReporterWatch.end.Goals as goal
-
-abbrev with_file : TellerView → Option Place → TellerView
-with_file t file = record t { file = file }
-
--- but for the file it is so, and the file is at the same place
-rest_is : (old then new : TellerView) → new ≡ with_file then new.file → new.file ≡ old.file
-    → then.file ≡ old.file → new ≡ then
-rest_is old then new same place kept =
-    same ∙ ap (with_file then) (place ∙ sym kept)
 
 pub returns : goal.returns
 returns g c =
