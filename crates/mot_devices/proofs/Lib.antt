@@ -1,5 +1,6 @@
 mod Cut
-mod Found
+mod Holders
 mod Looks
 mod ReadsOn
 mod Rows
+mod Uses

@@ -1,10 +1,13 @@
 -- Reads of what is open, one after the other.
 use Rattle.std.proofs.Common.{◌≡◌, ◌∙◌, ℕ, Bool, true, List, [], ◌∷◌, ◌++◌, Ok, Err, Result, ap}
 use Rattle.std.proofs.Common.{append_assoc, append-nil, length, refl, sym}
-use Rattle.std.specs.Prelude.{IfOk}
-use Rattle.mot_devices.specs.Inner.Reading.{IsFirst, IsMore}
-use Rattle.mot_devices.specs.Looking.{OnlyLooks, WasRead, last_read}
-use Rattle.mot_files.specs.Call.{Call, closed, opened, read_of}
+use Rattle.std.specs.Prelude.{IfErr, IfOk}
+use Rattle.mot_devices.specs.Inner.Reading.{IsFailed, IsFirst, IsMore, IsRefusedRead, IsUnreadFor}
+use Rattle.mot_devices.specs.Looking.{WasRead, last_read}
+use Rattle.mot_devices.specs.Looking.IsUnread.{failed}
+use Rattle.mot_devices.specs.declared.reading.NotRead.{NotRead}
+use Rattle.mot_devices.specs.declared.reading.NotRead.TheVariants.{NoMemory, Refused}
+use Rattle.mot_files.specs.Call.{Call, closed, failed_read, opened, read_of}
 use Rattle.mot_files.specs.Reading.{joined, reads}
 use Rattle.mot_files.specs.declared.system.Handle.{Handle}
 use Rattle.mot_files.specs.declared.system.How.{How}
@@ -76,33 +79,31 @@ closes_ok whole items path way h most old opening inner new begun close (Ok v) f
     closes path way h most (whole v) (items v) old opening inner new begun first close
 closes_ok whole items path way h most old opening inner new begun close (Err e) first = tt
 
--- what was read before further calls, and behind earlier ones
-pub reads_before : (path : List ℕ) (way : How) (most : ℕ) (whole : Bool) (bytes : List ℕ)
-    (a b c : List Call) → WasRead path way most whole bytes a b → OnlyLooks b c
-    → WasRead path way most whole bytes a c
-reads_before path way most whole bytes a b c was on = record {
-  first = was.first;
-  last = was.last ++ on.more;
-  handle = was.handle;
-  chunks = was.chunks;
-  given = was.given;
-  enough = was.enough;
-  calls = on.calls ∙ ap (λ l. l ++ on.more) was.calls ∙ append_assoc _ was.last on.more;
-}
+-- a read that was refused, behind those that gave bytes
+pub fails : (h : Handle) (chunks : List (List ℕ)) (why : NotRead) (old mid new : List Call)
+    → mid ≡ old ++ reads h chunks → IsRefusedRead h why mid new → IsFailed h why old new
+fails h chunks (Refused fault) old mid new here refused =
+    (chunks, refused ∙ ap (λ l. l ++ failed_read h fault ∷ []) here)
+fails h chunks NoMemory old mid new here refused = tt
 
-pub reads_behind : (path : List ℕ) (way : How) (most : ℕ) (whole : Bool) (bytes : List ℕ)
-    (a b c : List Call) → OnlyLooks a b → WasRead path way most whole bytes b c
-    → WasRead path way most whole bytes a c
-reads_behind path way most whole bytes a b c on was = record {
-  first = on.more ++ was.first;
-  last = was.last;
-  handle = was.handle;
-  chunks = was.chunks;
-  given = was.given;
-  enough = was.enough;
-  calls = was.calls ∙ ap (λ l. (((l ++ was.first) ++ (opened path way (Ok was.handle)
-      ∷ reads was.handle was.chunks)) ++ last_read whole was.handle) ++ was.last) on.calls
-      ∙ ap (λ l. ((l ++ (opened path way (Ok was.handle)
-      ∷ reads was.handle was.chunks)) ++ last_read whole was.handle) ++ was.last)
-      (append_assoc a on.more was.first);
-}
+-- what was not read of what was opened, once it was closed
+unread : (path : List ℕ) (way : How) (h : Handle) (why : NotRead)
+    (old opening inner new : List Call) → opening ≡ old ++ opened path way (Ok h) ∷ [] → new ≡ inner ++ closed h ∷ []
+    → IsFailed h why opening inner → IsUnreadFor path way why old new
+unread path way h (Refused fault) old opening inner new begun close (chunks, calls) =
+    failed fault h chunks (close
+    ∙ ap (λ l. l ++ closed h ∷ []) (calls
+    ∙ ap (λ l. (l ++ reads h chunks) ++ failed_read h fault ∷ []) begun)
+    ∙ append_assoc _ (failed_read h fault ∷ []) (closed h ∷ [])
+    ∙ ap (λ l. l ++ failed_read h fault ∷ closed h ∷ [])
+    (append_assoc old (opened path way (Ok h) ∷ []) (reads h chunks)))
+unread path way h NoMemory old opening inner new begun close is = tt
+
+pub unread_err : {V : Type 0} (path : List ℕ) (way : How) (h : Handle)
+    (old opening inner new : List Call) → opening ≡ old ++ opened path way (Ok h) ∷ []
+    → new ≡ inner ++ closed h ∷ [] → (r : Result V NotRead)
+    → IfErr r (λ why. IsFailed h why opening inner)
+    → IfErr r (λ why. IsUnreadFor path way why old new)
+unread_err path way h old opening inner new begun close (Ok v) is = tt
+unread_err path way h old opening inner new begun close (Err why) is =
+    unread path way h why old opening inner new begun close is

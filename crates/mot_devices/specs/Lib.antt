@@ -4,3 +4,5 @@ pub mod Mounts
 pub mod Number
 pub mod Parts
 pub mod Signatures
+pub mod Tables
+pub mod Uses

@@ -17,10 +17,11 @@ pub struct ShortName {
 }
 
 impl ShortName {
+    ghost use Rattle.mot_devices.specs.Tables.{short_bytes};
+
     /// Of a name of these bytes.
     pub fn of(name: &[u8]) -> ShortName
-        ensures len { result.len ≡ min (length name.now) LONGEST }
-        ensures bytes { take result.len result.bytes ≡ take result.len name.now }
+        ensures { short_bytes result ≡ take LONGEST name.now }
     {
         let mut bytes = [0; LONGEST];
         let len = copy(name, &mut bytes);
@@ -30,11 +31,11 @@ impl ShortName {
 
 /// Copies as many first bytes of a name as the room has, and answers how many.
 fn copy(name: &[u8], room: &mut [u8]) -> usize
-    ensures len { result ≡ min (length name.now) (length room.old) }
+    ensures len { result ≡ min (length room.old) (length name.now) }
     ensures room { length room.new ≡ length room.old }
     ensures bytes { take result room.new ≡ take result name.now }
 {
-    let len = name.len().min(room.len());
+    let len = room.len().min(name.len());
     room[..len].copy_from_slice(&name[..len]);
     len
 }

@@ -1,14 +1,20 @@
 //! Whether what a path names is a block device in use.
 #![tactic(auto, using(crate::proofs::Looks::looks_on, crate::proofs::Looks::looks_one, crate::proofs::Looks::looks_none))]
 
-ghost use Rattle.std.specs.Prelude.{IfNone, OnOk};
-ghost use Rattle.mot_devices.specs.Looking.{AsksHolders, IsFree, IsFreeDevice, IsUnmounted};
-ghost use Rattle.mot_devices.specs.Looking.{IsUnsigned, OnlyLooks};
+ghost use Rattle.std.specs.Prelude.{◌≡◌, IfErr, IfNone, IfSome, None, OnOk};
+ghost use Rattle.mot_devices.specs.Inner.Uses.{IsIdle};
+ghost use Rattle.mot_devices.specs.Looking.{OnlyLooks};
+ghost use Rattle.mot_devices.specs.Uses.{BeginsWith, IsBusy, IsFree, IsFreeDevice, IsMounted};
+ghost use Rattle.mot_devices.specs.Uses.{IsSigned, IsUsed, IsUsedDevice, MountsAt};
+ghost use Rattle.mot_devices.specs.declared.device_use.DeviceUse.TheVariants.{Unseen};
+ghost use Rattle.std.specs.IoError.{error_kind};
+ghost use Rattle.std.specs.declared.io.Error.{Error};
+ghost use Rattle.std.specs.declared.io.ErrorKind.TheVariants.{OutOfMemory};
 
 use crate::device_use::DeviceUse;
 use crate::mounts::find_mount;
 use crate::number::Numbers;
-use crate::reading::read_first;
+use crate::reading::{NotRead, read_first};
 use crate::short_name::ShortName;
 use crate::signature::signature_of;
 use crate::tables::{holder_of, is_swap, numbers_of};
@@ -23,16 +29,20 @@ pub const MOST: usize = 1 << 26;
 pub const HEAD: usize = 65_608;
 
 /// What uses the block device that the path names; `None` if it is free, or if the path names none.
-/// Nothing is changed by this. A device is free if it is not mounted, has no signature, and is no
-/// swap and held by no other device as far as the system tells these two.
+/// Nothing is changed by this. A device is free if neither it nor a partition of it is mounted or a
+/// swap, no other device stands on it, and it has no signature. Its partitions, the swaps and what
+/// stands on it are known as far as the system lets their tables be read.
 pub fn use_of<S: System>(system: &mut S, alloc: Global, path: &str) -> Option<DeviceUse>
     ensures looks { OnlyLooks (S.calls system.old) (S.calls system.new) }
     ensures free { IfNone result (IsFree path.now (S.calls system.old) (S.calls system.new)) }
+    ensures used { IfSome result (λ found. IsUsed path.now found (S.calls system.old)
+        (S.calls system.new)) }
 {
     let seen = match system.follow(path) {
         Ok(seen) => seen,
         Err(Fault::Absent(_)) => return None,
-        Err(fault) => return Some(DeviceUse::Unseen(fault.error())),
+        Err(Fault::Busy) => return Some(DeviceUse::Unseen(Fault::Busy.error())),
+        Err(Fault::System(error)) => return Some(DeviceUse::Unseen(error)),
     };
     let Some(number) = seen.block else {
         return None;
@@ -51,7 +61,10 @@ fn look_at_device<S: System>(
     number: u64,
 ) -> Result<(), DeviceUse>
     ensures looks { OnlyLooks (S.calls system.old) (S.calls system.new) }
-    ensures free { OnOk result (IsFreeDevice path.now number (S.calls system.old) (S.calls system.new)) }
+    ensures free { OnOk result (IsFreeDevice path.now number (S.calls system.old)
+        (S.calls system.new)) }
+    ensures used { IfErr result (λ found. IsUsedDevice path.now number found (S.calls system.old)
+        (S.calls system.new)) }
 {
     let numbers = match numbers_of(system, alloc, number) {
         Ok(numbers) => numbers,
@@ -63,8 +76,10 @@ fn look_at_device<S: System>(
 }
 
 /// Why nothing was found without memory.
-fn no_memory() -> DeviceUse {
-    DeviceUse::Unseen(io::Error::from(ErrorKind::OutOfMemory))
+fn no_memory() -> DeviceUse
+    ensures { (error : Error) × (result ≡ Unseen error) × (error_kind error ≡ OutOfMemory) }
+{
+    DeviceUse::Unseen(NotRead::NoMemory.error())
 }
 
 /// Refuses devices that are mounted.
@@ -74,12 +89,14 @@ fn refuse_mounted<S: System>(
     numbers: &Numbers,
 ) -> Result<(), DeviceUse>
     ensures looks { OnlyLooks (S.calls system.old) (S.calls system.new) }
-    ensures free { OnOk result (IsUnmounted numbers.now.own.items numbers.now.others.items
+    ensures free { OnOk result (MountsAt numbers.now.own.items numbers.now.others.items None
         (S.calls system.old) (S.calls system.new)) }
+    ensures used { IfErr result (λ found. IsMounted numbers.now.own.items numbers.now.others.items
+        found (S.calls system.old) (S.calls system.new)) }
 {
     let mounts = match read_first(system, alloc, "/proc/self/mountinfo", How::Read, MOST) {
         Ok(mounts) => mounts,
-        Err(error) => return Err(DeviceUse::Unknown(error)),
+        Err(why) => return Err(DeviceUse::Unknown(why.error())),
     };
     if !mounts.is_whole {
         return Err(DeviceUse::Unknown(io::Error::from(ErrorKind::FileTooLarge)));
@@ -98,7 +115,10 @@ fn refuse_held<S: System>(
     number: u64,
 ) -> Result<(), DeviceUse>
     ensures looks { OnlyLooks (S.calls system.old) (S.calls system.new) }
-    ensures held { OnOk result (AsksHolders number (S.calls system.old) (S.calls system.new)) }
+    ensures free { OnOk result (IsIdle numbers.now.own.items numbers.now.others.items number
+        (S.calls system.old) (S.calls system.new)) }
+    ensures used { IfErr result (λ found. IsBusy numbers.now.own.items numbers.now.others.items
+        number found (S.calls system.old) (S.calls system.new)) }
 {
     match is_swap(system, alloc, numbers) {
         Ok(false) => {}
@@ -115,11 +135,14 @@ fn refuse_held<S: System>(
 /// Refuses a device whose first bytes have a signature.
 fn refuse_signature<S: System>(system: &mut S, alloc: Global, path: &str) -> Result<(), DeviceUse>
     ensures looks { OnlyLooks (S.calls system.old) (S.calls system.new) }
-    ensures free { OnOk result (IsUnsigned path.now (S.calls system.old) (S.calls system.new)) }
+    ensures free { OnOk result (BeginsWith path.now None (S.calls system.old)
+        (S.calls system.new)) }
+    ensures used { IfErr result (λ found. IsSigned path.now found (S.calls system.old)
+        (S.calls system.new)) }
 {
     let head = match read_first(system, alloc, path, How::Read, HEAD) {
         Ok(head) => head,
-        Err(error) => return Err(DeviceUse::Unseen(error)),
+        Err(why) => return Err(DeviceUse::Unseen(why.error())),
     };
     match signature_of(&head.bytes) {
         Some(signature) => Err(DeviceUse::HasSignature(signature)),

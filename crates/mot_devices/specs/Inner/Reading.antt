@@ -1,9 +1,12 @@
 -- Reading what is open.
 use Rattle.std.specs.Prelude.{◌≡◌, ◌≤◌, ℕ, Bool, false, List, [], ◌∷◌, ◌++◌, length}
-use Rattle.mot_devices.specs.Looking.{last_read}
-use Rattle.mot_files.specs.Call.{Call, read_of}
+use Rattle.mot_devices.specs.Looking.{IsUnread, last_read}
+use Rattle.mot_devices.specs.declared.reading.NotRead.{NotRead}
+use Rattle.mot_devices.specs.declared.reading.NotRead.TheVariants.{NoMemory, Refused}
+use Rattle.mot_files.specs.Call.{Call, failed_read, read_of}
 use Rattle.mot_files.specs.Reading.{joined, reads}
 use Rattle.mot_files.specs.declared.system.Handle.{Handle}
+use Rattle.mot_files.specs.declared.system.How.{How}
 
 -- one read gave so many further bytes
 pub record IsMore (handle : Handle) (count : ℕ) (before after : List ℕ) (old new : List Call) :
@@ -20,3 +23,19 @@ pub record IsFirst (handle : Handle) (most : ℕ) (whole : Bool) (bytes : List �
   pub given : bytes ≡ joined chunks
   pub enough : whole ≡ false → most ≤ length bytes
   pub calls : new ≡ old ++ reads handle chunks ++ last_read whole handle
+
+-- a read of what is open was refused; or there was no memory for what it gave
+abbrev pub IsRefusedRead : Handle → NotRead → (old new : List Call) → Type 0
+IsRefusedRead handle (Refused fault) old new = new ≡ old ++ failed_read handle fault ∷ []
+IsRefusedRead handle NoMemory old new = Unit {0}
+
+-- reads gave bytes, up to one that was refused; or there was no memory for them
+abbrev pub IsFailed : Handle → NotRead → (old new : List Call) → Type 0
+IsFailed handle (Refused fault) old new = (chunks : List (List ℕ))
+    × (new ≡ old ++ reads handle chunks ++ failed_read handle fault ∷ [])
+IsFailed handle NoMemory old new = Unit {0}
+
+-- what the path names was not read; or there was no memory for it
+abbrev pub IsUnreadFor : (path : List ℕ) → How → NotRead → (old new : List Call) → Type 0
+IsUnreadFor path way (Refused fault) old new = IsUnread path way old new
+IsUnreadFor path way NoMemory old new = Unit {0}

@@ -1,6 +1,7 @@
 use Rattle.std.proofs.Common.{Err, Ok, refl}
-use Rattle.mot_devices.proofs.Looks.{asks_before, asks_one, looks_on, looks_one}
-use Rattle.mot_devices.proofs.ReadsOn.{closes_ok}
+use Rattle.mot_devices.proofs.Looks.{looks_on, looks_one}
+use Rattle.mot_devices.proofs.ReadsOn.{closes_ok, unread_err}
+use Rattle.mot_devices.specs.Looking.IsUnread.{unopened}
 use Rattle.mot_files.specs.Call.{opened}
 use Rattle.mot_devices.proofs.reading.read_first.Goals as goal
 
@@ -11,20 +12,15 @@ returns-clause-read g c =
     (g.S.System.calls c.read_open-first.new.system) (g.S.System.calls c.close.new.self)
     c.in-Ok.ensures c.close.ensures c.read_open-first.result c.read_open-first.ensures.read
 
-pub returns-in-Err-clause-asks : goal.returns-in-Err-clause-asks
-returns-in-Err-clause-asks g c =
-    asks_one c.args.path.now c.args.how (Err c.in-Err.fault) (g.S.System.calls c.args.system.now)
-    (g.S.System.calls c.open.new.self) c.in-Err.ensures
+pub returns-in-Err-clause-unread : goal.returns-in-Err-clause-unread
+returns-in-Err-clause-unread g c = unopened c.in-Err.fault c.in-Err.ensures
 
-pub returns-clause-asks : goal.returns-clause-asks
-returns-clause-asks g c =
-    asks_before c.args.path.now c.args.how (g.S.System.calls c.args.system.now)
-    (g.S.System.calls c.open.new.self) (g.S.System.calls c.close.new.self)
-    (asks_one c.args.path.now c.args.how (Ok c.in-Ok.handle) (g.S.System.calls c.args.system.now)
-    (g.S.System.calls c.open.new.self) c.in-Ok.ensures)
-    (looks_on (g.S.System.calls c.open.new.self) (g.S.System.calls c.read_open-first.new.system)
-    (g.S.System.calls c.close.new.self) c.read_open-first.ensures.looks
-    (looks_one _ _ _ c.close.ensures refl))
+pub returns-clause-unread : goal.returns-clause-unread
+returns-clause-unread g c =
+    unread_err c.args.path.now c.args.how c.in-Ok.handle (g.S.System.calls c.args.system.now)
+    (g.S.System.calls c.open.new.self) (g.S.System.calls c.read_open-first.new.system)
+    (g.S.System.calls c.close.new.self) c.in-Ok.ensures c.close.ensures c.read_open-first.result
+    c.read_open-first.ensures.failed
 
 pub returns-in-Err-clause-looks : goal.returns-in-Err-clause-looks
 returns-in-Err-clause-looks g c =

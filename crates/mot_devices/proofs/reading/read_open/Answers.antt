@@ -1,12 +1,19 @@
 use Rattle.std.proofs.Common.{◌≡◌, ◌∙◌, ◌+◌, ap, arith, length, length-append}
 use Rattle.mot_devices.proofs.Looks.{looks_on}
-use Rattle.mot_devices.proofs.ReadsOn.{ends, goes_on}
+use Rattle.mot_devices.proofs.ReadsOn.{ends, fails, goes_on}
 use Rattle.mot_devices.proofs.reading.read_open.Goals as goal
 
 pub returns-in-Err-clause-looks : goal.returns-in-Err-clause-looks
 returns-in-Err-clause-looks g c =
     looks_on (g.S.System.calls c.args.system.now) (g.S.System.calls c.loop-handle.system)
     (g.S.System.calls c.read_more.new.system) c.loop-handle.invariant.looks c.in-Err.ensures.looks
+
+pub returns-in-Err-clause-failed : goal.returns-in-Err-clause-failed
+returns-in-Err-clause-failed g c =
+    let kept = c.loop-handle.invariant.read in
+    fails c.args.handle kept.0 c.in-Err.why (g.S.System.calls c.args.system.now)
+    (g.S.System.calls c.loop-handle.system) (g.S.System.calls c.read_more.new.system) kept.2
+    c.in-Err.ensures.failed
 
 pub returns-then-count-eq0-clause-looks : goal.returns-then-count-eq0-clause-looks
 returns-then-count-eq0-clause-looks g c =

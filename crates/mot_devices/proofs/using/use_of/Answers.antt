@@ -1,8 +1,8 @@
 use Rattle.std.proofs.Common.{Err, Ok, refl, subst}
 use Rattle.mot_devices.proofs.Looks.{looks_on, looks_one}
-use Rattle.mot_devices.specs.Looking.{IsFreeDevice}
-use Rattle.mot_devices.specs.Looking.IsFree.{device, no_device}
-use Rattle.mot_files.specs.declared.system.Fault.TheVariants.{Absent}
+use Rattle.mot_devices.specs.Uses.{IsFreeDevice, IsUsed, IsUsedDevice}
+use Rattle.mot_devices.specs.Uses.IsFree.{device, no_device}
+use Rattle.mot_files.specs.declared.system.Fault.TheVariants.{Absent, Busy, System}
 use Rattle.mot_devices.proofs.using.use_of.Goals as goal
 
 pub returns-in-Err-Absent-clause-free : goal.returns-in-Err-Absent-clause-free
@@ -38,11 +38,23 @@ returns-in_default-clause-looks g c =
 
 pub returns-in-Err-clause-looks : goal.returns-in-Err-clause-looks
 returns-in-Err-clause-looks g c =
-    looks_one (g.S.System.calls c.args.system.now) (g.S.System.calls c.follow.new.self) _
-    c.in-Err.ensures refl
-
-pub returns-in-Err-look_at_device-clause-looks : goal.returns-in-Err-look_at_device-clause-looks
-returns-in-Err-look_at_device-clause-looks g c =
     looks_on (g.S.System.calls c.args.system.now) (g.S.System.calls c.follow.new.self)
     (g.S.System.calls c.look_at_device.new.system) (looks_one _ _ _ c.in-Ok.ensures refl)
     c.look_at_device.ensures.looks
+
+pub returns-in-Err-Busy-clause-used : goal.returns-in-Err-Busy-clause-used
+returns-in-Err-Busy-clause-used g c =
+    IsUsed.unseen Busy c.error.result refl (λ none. none)
+    (rw c.in-Err-Busy.field-0-is at c.in-Err-Busy.ensures)
+
+pub returns-in-Err-System-clause-used : goal.returns-in-Err-System-clause-used
+returns-in-Err-System-clause-used g c =
+    IsUsed.unseen (System c.in-Err-System.error) _ refl (λ none. none)
+    (rw c.in-Err-System.field-0-is at c.in-Err-System.ensures)
+
+pub returns-in-Err-clause-used : goal.returns-in-Err-clause-used
+returns-in-Err-clause-used g c =
+    IsUsed.device c.in-Ok.seen c.in-Some.number c.in-Some.is
+    (subst (λ (l : _). IsUsedDevice c.args.path.now c.in-Some.number c.in-Err.found l
+    (g.S.System.calls c.look_at_device.new.system)) c.in-Ok.ensures
+    c.in-Err.ensures.used)
