@@ -18,12 +18,15 @@ def word(*words):
 class Loops:
     """What a case has that attaches files as block devices."""
 
-    def attach(self, image, size, *options):
-        """A loop device of a new image of zeros; it is gone with the test."""
-        with open(image, "wb") as file:
-            file.truncate(size)
+    def attach(self, image, size, *options, head=b""):
+        """A loop device of a new image that has these first bytes and then zeros; it is gone with the test.
+
+        Nothing else detaches it: its number may be that of another test's device by then.
+        """
+        image.write_bytes(head)
+        os.truncate(image, size)
         device = word("losetup", "--find", "--show", *options, image)
-        self.addCleanup(subprocess.run, ["losetup", "--detach", device], check=False, capture_output=True)
+        self.addCleanup(word, "losetup", "--detach", device)
         return device
 
     @contextlib.contextmanager

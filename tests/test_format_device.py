@@ -120,22 +120,20 @@ class FormatDevice(Loops, Case):
     def test_a_partition(self):
         """A device whose partition is mounted is in use."""
         entry = b"\0\0\0\0\x83\0\0\0" + (2_048).to_bytes(4, "little") + (16 * MIB // 512).to_bytes(4, "little")
-        self.put(446, entry + bytes(48) + b"\x55\xaa")
+        self.image = self.room / "partitioned"
+        self.device = self.attach(self.image, 20 * MIB, "--partscan", head=bytes(446) + entry + bytes(48) + b"\x55\xaa")
         self.expect_refused("a partition table", self.signed("it has a partition table or a file system (MBR, FAT or NTFS)"))
-        word("losetup", "--detach", self.device)
-        device = word("losetup", "--find", "--show", "--partscan", self.image)
-        self.addCleanup(subprocess.run, ["losetup", "--detach", device], check=False, capture_output=True)
-        part = pathlib.Path(f"{device}p1")
+        part = pathlib.Path(f"{self.device}p1")
         if not part.exists():
             # (a system that reads no such table by itself is told of the partition)
-            subprocess.run(["partx", "--add", device], check=False, capture_output=True)
+            subprocess.run(["partx", "--add", self.device], check=False, capture_output=True)
         if not part.exists() or shutil.which("mkfs.ext4") is None:
             self.leave_out("a partition", "its node is not made here, or no mkfs.ext4")
             return
         word("mkfs.ext4", "-q", part)
         with self.mounted(part) as folder:
             at = f"it, or a partition of it, is mounted at {folder}; unmount it first"
-            self.expect_refused("the device of a mounted one", at, device)
+            self.expect_refused("the device of a mounted one", at)
             self.expect_refused("a mounted one", at, part)
 
     def test_a_swap(self):
