@@ -1,7 +1,23 @@
 """The empty file beside a disk: an opening that finds no disk leaves none."""
 from .program import Case, refused
 
-COMMANDS = ("check", "serve", "migrate", "list", "export", "inspect")
+# Each command of a disk that is there, and the words behind the disk.
+COMMANDS = (
+    ("check",),
+    ("serve",),
+    ("migrate",),
+    ("list",),
+    ("export",),
+    ("inspect",),
+    ("get", "name"),
+    ("withdraw", "name"),
+    ("put", "logo.png"),
+    ("copy", "new"),
+    ("sync", "objects"),
+    ("sync", "objects", "--dry-run"),
+    ("play", "-"),
+    ("play", "packets", "--turns", "1"),
+)
 
 
 class Beside(Case):
@@ -17,12 +33,12 @@ class Beside(Case):
     def test_what_is_no_disk(self):
         self.write("text", b"no disk")
         wanted = refused(17, "NotFormatted", "text: no motcar disk: 7 bytes, and the head alone has 64")
-        for command in COMMANDS:
-            self.expect_none(f"{command} of a text", wanted, command, "text")
+        for command, *words in COMMANDS:
+            self.expect_none(f"{command} {words} of a text", wanted, command, "text", *words)
         self.write("zeros", bytes(90_000))
         wanted = refused(17, "NotFormatted", "zeros: no motcar disk: it does not begin with MOTCAR01")
-        for command in COMMANDS:
-            self.expect_none(f"{command} of zeros", wanted, command, "zeros")
+        for command, *words in COMMANDS:
+            self.expect_none(f"{command} {words} of zeros", wanted, command, "zeros", *words)
 
     def test_what_is_too_short(self):
         self.write("short", bytes(63))
@@ -38,12 +54,12 @@ class Beside(Case):
         held = disk.read_bytes()
         (self.room / "disk-wal").unlink()
         self.write("disk", held[:1_000])
-        for command in COMMANDS:
-            ended = self.motcar(command, "disk")
+        for command, *words in COMMANDS:
+            ended = self.motcar(command, "disk", *words)
             number = ended[2].split()[1] if ended[2] else b""
-            self.expect(f"{command} is refused", True, ended[0] == 1)
+            self.expect(f"{command} {words} is refused", True, ended[0] == 1)
             if number in (b"17", b"19"):
-                self.expect(f"{command}: nothing stands beside it", ["disk"], self.names())
+                self.expect(f"{command} {words}: nothing stands beside it", ["disk"], self.names())
 
     def test_a_disk_already(self):
         self.new_disk("disk")

@@ -8,6 +8,7 @@ ghost use Rattle.mot_air.specs.Telling.{watch_in, watched};
 ghost use Rattle.mot_endpoints.specs.Opened.{named, paths_of};
 ghost use Rattle.mot_outcome.specs.Outcome.{Opens};
 ghost use Rattle.mot_shelf.specs.System.{shelf_path};
+ghost use Rattle.mot_playout.specs.Attempts.{fault_of};
 
 use crate::on_air::{Airing, play_file};
 use crate::playing::Followed;
@@ -36,8 +37,8 @@ pub fn play<'a, B: Start, W: Write, E: Write>(
     ensures ended { Concludes (IsUnplayed task.entry) (λ all ending. PlaysTask task.entry all ending
         result.disk (W.contents writer.old) (W.contents writer.new))
         result.result result.disk (W.contents writer.old) (W.contents writer.new) }
-    ensures opens { Opens (played_with task.entry) task.entry.disk.now result.disk
-        (paths_of host.old) (paths_of host.new) }
+    ensures opens { Opens (played_with task.entry) task.entry.disk.now
+        (fault_of result.result) result.disk (paths_of host.old) (paths_of host.new) }
 {
     let PlayTask { disk, packets, .. } = task;
     let types = match file_types(host, alloc, task.types) {

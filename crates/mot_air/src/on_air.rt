@@ -33,7 +33,7 @@ use mot_events::LookEvent;
 use mot_files::{HostSystem, System};
 use mot_line_folder::LineFolder;
 use mot_numbers::Refusal;
-use mot_outcome::Finished;
+use mot_outcome::{Finished, clear_after};
 use mot_packets::Outlet;
 use mot_shelf::{Shelf, SystemShelf};
 use mot_status::Telling;
@@ -82,10 +82,15 @@ pub(crate) fn play_file<'a, B: Start, Y: System + Drop, W: Write, E: Write>(
         all ending (W.contents writer.old) (W.contents writer.new) result.disk)
         result.result result.disk (W.contents writer.old) (W.contents writer.new) }
     ensures opens { Opens ((codes "packets", airing.entry.task.packets.now) ∷ [])
-        airing.entry.task.disk.now result.disk (paths_of host.old) (paths_of host.new) }
+        airing.entry.task.disk.now (fault_of result.result) result.disk
+        (paths_of host.old) (paths_of host.new) }
 {
     match open_both(host, airing.task, start) {
-        Ok((opened, disk)) => play_both(alloc, disk, opened, airing, writer, errors),
+        Ok((opened, disk)) => {
+            let finished = play_both(alloc, disk, opened, airing, writer, errors);
+            clear_after(host, &finished.result);
+            finished
+        }
         Err(unbegun) => unbegun,
     }
 }
@@ -111,8 +116,8 @@ fn open_both<'a, B: Start>(
     ensures opens { MatchResult result
         (λ _. paths_of host.new ≡ paths_of host.old
         ++ (codes "packets", task.entry.packets.now) ∷ (codes "disk", task.entry.disk.now) ∷ [])
-        (λ _. BeginsTo ((codes "packets", task.entry.packets.now) ∷ [])
-        (paths_of host.old) (paths_of host.new)) }
+        (λ unbegun. Opens ((codes "packets", task.entry.packets.now) ∷ []) task.entry.disk.now
+        (fault_of unbegun.result) unbegun.disk (paths_of host.old) (paths_of host.new)) }
 {
     let mut opened = match host.packets(task.packets, task.disk, task.turns) {
         Ok(opened) => opened,
@@ -148,7 +153,7 @@ fn play_both<B: Start, P: System + Drop, F: Shelf + Drop, Y: System + Drop, W: W
         result.result result.disk (W.contents writer.old) (W.contents writer.new) }
     ensures opens { (path : Text) (others before after : List (Text × Text))
         → after ≡ before ++ (others ++ (codes "disk", path) ∷ [])
-        → Opens others path result.disk before after }
+        → Opens others path (fault_of result.result) result.disk before after }
 {
     let target = opened.target();
     let end = play_into(alloc, disk, opened, airing, writer, errors);

@@ -1,7 +1,7 @@
 -- What the result of a part says that is that of the whole.
-use Rattle.std.proofs.Common.{◌≡◌, ◌∙◌, ◌++◌, ℕ, Bool, List, [], ◌∷◌, Option, Result, Ok, Err, ap, append-nil}
-use Rattle.std.proofs.Common.{append_assoc, inl, inr, refl}
-use Rattle.std.specs.Prelude.{IsErrAnd, codes, false}
+use Rattle.std.proofs.Common.{◌≡◌, ◌++◌, ℕ, Bool, List, [], Option, Result, Ok, Err, append-nil}
+use Rattle.std.proofs.Common.{inl, inr, subst}
+use Rattle.std.specs.Prelude.{IsErrAnd, false}
 use Rattle.std.specs.Borrow.{Bor}
 use Rattle.std.specs.Result.{result_unwrap_or}
 use Rattle.clap.specs.Words.{Text}
@@ -12,10 +12,10 @@ use Rattle.mot_endpoints.specs.Types.{IsTyped}
 use Rattle.mot_files.specs.Call.{Call}
 use Rattle.mot_numbers.specs.declared.refusal.Refusal.{Refusal}
 use Rattle.mot_numbers.specs.declared.refusal.Refusal.TheVariants.{DeviceFault}
+use Rattle.mot_outcome.proofs.Laws.{opened_after}
 use Rattle.mot_outcome.specs.Outcome.{IsUntold, IsUntouched, Opens}
 use Rattle.mot_outcome.specs.declared.used.Finished.{Finished}
 use Rattle.mot_outcome.specs.declared.used.UsedDisk.{UsedDisk}
-use Rattle.mot_outcome.specs.declared.used.UsedDisk.TheVariants.{InMemory, OfCopy, OfFile, Untouched}
 use Rattle.mot_playout.specs.Attempts.{fault_of}
 use Rattle.mot_suffixes.specs.Types.{SuffixType}
 
@@ -23,10 +23,6 @@ early_more : {P Q : Refusal → Type 0} (result : Result Bool Refusal) → ((r :
     → IsErrAnd result P → IsErrAnd result Q
 early_more (Ok all) more p = p
 early_more (Err r) more p = more r p
-
-empty_first : {A : Type 0} (xs ys : List A) → xs ++ ys ≡ [] → xs ≡ []
-empty_first [] ys e = refl
-empty_first (x ∷ xs) ys e = absurd (cc)
 
 module _ {S : Type 0} {start : Ghosts S} where
   pub comes-more : (IsEarly IsFirst : Refusal → Type 0)
@@ -69,17 +65,9 @@ module _ {S : Type 0} {start : Ghosts S} where
   )
 
   -- the disk, and what was opened before it
-  pub opened_behind : (first : List (Text × Text)) (path : Text) (used : UsedDisk S start)
-      (before mid after : List (Text × Text)) → mid ≡ before ++ first → Opens [] path used mid after
-      → Opens first path used before after
-  opened_behind first path (Untouched value) before mid after came is = (
-    first,
-    [],
-    append-nil first,
-    is.3 ∙ ap (λ l. mid ++ l) (empty_first is.0 is.1 is.2) ∙ append-nil mid ∙ came,
-  )
-  opened_behind first path (InMemory disk value) before mid after came is = is
-  opened_behind first path (OfCopy from to) before mid after came is = is
-  opened_behind first path (OfFile disk beside) before mid after came is =
-      is ∙ ap (λ l. l ++ (codes "disk", path) ∷ []) came
-      ∙ append_assoc before first ((codes "disk", path) ∷ [])
+  pub opened_behind : (first : List (Text × Text)) (path : Text) (ending : Option Refusal)
+      (used : UsedDisk S start) (before mid after : List (Text × Text)) → mid ≡ before ++ first
+      → Opens [] path ending used mid after → Opens first path ending used before after
+  opened_behind first path ending used before mid after came is =
+      subst (λ (l : List (Text × Text)). Opens l path ending used before after) (append-nil first)
+      (opened_after first [] path ending used before mid after came is)

@@ -1,6 +1,6 @@
 -- What the commands that serve, make, check and migrate a disk do.
 use Rattle.std.specs.Prelude.{ℕ, ◌≡◌, ◌⊎◌, Bool, true, List, [], ◌∷◌, ◌++◌, Option, Some}
-use Rattle.std.specs.Prelude.{codes}
+use Rattle.std.specs.Prelude.{codes, false}
 use Rattle.clap.specs.Words.{Text}
 use Rattle.disk_store.specs.Beginning.{HasFirstCalls, SinceMade, SinceOpened}
 use Rattle.disk_store.specs.File.{file_state}
@@ -12,6 +12,7 @@ use Rattle.mot_devices.specs.Uses.{IsFree}
 use Rattle.mot_export.specs.Exporting.{Exports}
 use Rattle.mot_export.specs.Inspecting.{Inspects}
 use Rattle.mot_files.specs.Call.{Call}
+use Rattle.mot_endpoints.specs.Opened.{in_vain}
 use Rattle.mot_commands.specs.Asking.{WithdrawsEach}
 use Rattle.mot_commands.specs.Report.{Checks, Formats, Migrates}
 use Rattle.mot_commands.specs.Serving.{Serves}
@@ -22,7 +23,7 @@ use Rattle.mot_numbers.specs.declared.geometry.Geometry.{Geometry}
 use Rattle.mot_numbers.specs.declared.refusal.Refusal.{Refusal}
 use Rattle.mot_numbers.specs.declared.refusal.Refusal.TheVariants.{BadGeometry, DeviceFault}
 use Rattle.mot_numbers.specs.declared.refusal.Refusal.TheVariants.{OutOfMemory}
-use Rattle.mot_outcome.specs.Outcome.{IsUntouched, OnFile, OnOpened, Opens}
+use Rattle.mot_outcome.specs.Outcome.{IsUntouched, OnFile, OnOpened}
 use Rattle.mot_outcome.specs.declared.used.UsedDisk.{UsedDisk}
 use Rattle.mot_outcome.specs.declared.used.UsedDisk.TheVariants.{InMemory}
 
@@ -100,17 +101,32 @@ module _ {S : Type 0} {start : Ghosts S} where
   WithdrawsFile names all ending used old new = OnFile (λ disk beside. SinceOpened
       (λ first now. WithdrawsEach file_state names disk all ending old new first) disk) used
 
-  -- its calls are those of a file that was made, and not opened
-  abbrev pub IsMade : UsedDisk S start → Type 0
-  IsMade = OnFile (λ disk beside. HasFirstCalls true disk)
+  -- its calls are those of a file that was made, or that was opened
+  abbrev pub IsBegun : (is_new : Bool) → UsedDisk S start → Type 0
+  IsBegun is_new = OnFile (λ disk beside. HasFirstCalls is_new disk)
 
-  -- which files `format` comes to that ended so: only one that was made here and could not be
-  -- formatted is removed
-  abbrev pub OpensOrMakes : (ending : Option Refusal) → Text → UsedDisk S start
-      → (before after : List (Text × Text)) → Type 0
-  OpensOrMakes ending path used before after = Opens [] path used before after
-      ⊎ ((ending ≡ Some DeviceFault) × IsMade used
-      × (after ≡ before ++ (codes "disk", path) ∷ (codes "removed", path) ∷ []))
+  -- A new file is made at the path, or that is tried in vain. It is removed again only if it could
+  -- not be formatted.
+  pub data MakesFile (ending : Option Refusal) (path : Text) (used : UsedDisk S start)
+      (before after : List (Text × Text)) : Type 0 where
+    unmade : IsUntouched used → ending ≡ Some DeviceFault
+        → after ≡ before ++ in_vain (codes "disk") path ∷ []
+        → MakesFile ending path used before after
+    made : IsBegun true used → after ≡ before ++ (codes "disk", path) ∷ []
+        → MakesFile ending path used before after
+    removed : IsBegun true used → ending ≡ Some DeviceFault
+        → after ≡ before ++ (codes "disk", path) ∷ (codes "removed", path) ∷ []
+        → MakesFile ending path used before after
+
+  -- which files `format` comes to that ended so: the one of its path is opened; or that is tried in
+  -- vain, and only then it is made
+  pub data OpensOrMakes (ending : Option Refusal) (path : Text) (used : UsedDisk S start)
+      (before after : List (Text × Text)) : Type 0 where
+    unbegun : IsUntouched used → after ≡ before → OpensOrMakes ending path used before after
+    opened : IsBegun false used → after ≡ before ++ (codes "disk", path) ∷ []
+        → OpensOrMakes ending path used before after
+    unopened : MakesFile ending path used (before ++ in_vain (codes "disk") path ∷ []) after
+        → OpensOrMakes ending path used before after
 
   -- which calls `format` makes of the system beside those on its disk: that is made only if what its
   -- path names was found free, and that changed nothing

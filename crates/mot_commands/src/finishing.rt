@@ -7,7 +7,7 @@ ghost use Rattle.mot_outcome.specs.declared.used.UsedDisk.TheVariants.{OfFile};
 use disk_store::{BegunFile, Start, WasThere};
 use mot_ending::Ended;
 use mot_endpoints::Host;
-use mot_outcome::{Beside, Finished, clear_unfit};
+use mot_outcome::{Beside, Finished, clear_after};
 
 /// A task ended on this disk, beside which nothing was done. What the opening has made beside its
 /// file is taken away if that is no disk, or not one for what was asked.
@@ -23,8 +23,6 @@ pub(crate) fn finish<S: Start, T>(
     }) }
     ensures paths { paths_of host.new ≡ paths_of host.old }
 {
-    if let Err(refusal) = &ended.result {
-        clear_unfit(host, *refusal);
-    }
+    clear_after(host, &ended.result);
     Finished::of_file(ended, Beside::nothing(), None)
 }

@@ -6,7 +6,7 @@ ghost use Rattle.mot_numbers.specs.declared.refusal.Refusal.TheVariants.{DeviceF
 ghost use Rattle.mot_outcome.specs.Outcome.{Prints};
 ghost use Rattle.mot_commands.specs.Commands.{FormatsFile, IsUnformatted, LooksFirst};
 ghost use Rattle.mot_outcome.specs.Outcome.{Finishes};
-ghost use Rattle.mot_commands.specs.Commands.{OpensOrMakes};
+ghost use Rattle.mot_commands.specs.Commands.{MakesFile, OpensOrMakes};
 ghost use Rattle.mot_commands.specs.Report.{Formats, formatted_line};
 ghost use Rattle.mot_endpoints.specs.Opened.{paths_of};
 
@@ -97,7 +97,7 @@ fn format_new_file<S: Start, W: Write>(
     ensures ended { Finishes (IsUnformatted geometry) (λ ending used.
         FormatsFile geometry directory ending used (W.contents writer.old) (W.contents writer.new))
         result (W.contents writer.old) (W.contents writer.new) }
-    ensures files { OpensOrMakes (fault_of result.result) path.now result.disk
+    ensures files { MakesFile (fault_of result.result) path.now result.disk
         (paths_of host.old) (paths_of host.new) }
 {
     let mut disk = match host.make_disk(path, geometry.length(), unopened.start) {

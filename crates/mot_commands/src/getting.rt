@@ -37,7 +37,8 @@ pub fn get_file<S: Start, W: Write>(
     ensures ended { Finishes (λ r. r ≡ DeviceFault) (λ ending used.
         GetsFile name.now ending used (W.contents writer.old) (W.contents writer.new))
         result (W.contents writer.old) (W.contents writer.new) }
-    ensures files { Opens [] path.now result.disk (paths_of host.old) (paths_of host.new) }
+    ensures files { Opens [] path.now (fault_of result.result) result.disk
+        (paths_of host.old) (paths_of host.new) }
 {
     match host.disk(path, start) {
         Ok(disk) => {

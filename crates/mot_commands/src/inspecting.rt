@@ -4,6 +4,7 @@ ghost use Rattle.mot_commands.specs.Commands.{InspectsFile};
 ghost use Rattle.mot_endpoints.specs.Opened.{paths_of};
 ghost use Rattle.mot_numbers.specs.declared.refusal.Refusal.TheVariants.{DeviceFault};
 ghost use Rattle.mot_outcome.specs.Outcome.{Finishes, Opens};
+ghost use Rattle.mot_playout.specs.Attempts.{fault_of};
 
 use crate::finishing::finish;
 use disk_store::Start;
@@ -25,7 +26,8 @@ pub fn inspect_file<B: Start, W: Write>(
     ensures ended { Finishes (λ r. r ≡ DeviceFault) (λ ending used.
         InspectsFile rate ending used (W.contents writer.old) (W.contents writer.new))
         result (W.contents writer.old) (W.contents writer.new) }
-    ensures files { Opens [] path.now result.disk (paths_of host.old) (paths_of host.new) }
+    ensures files { Opens [] path.now (fault_of result.result) result.disk
+        (paths_of host.old) (paths_of host.new) }
 {
     match host.disk(path, start) {
         Ok(disk) => {

@@ -48,7 +48,8 @@ pub fn put<Y: System, S: Start, W: Write, E: Write>(
         (λ all ending used. PutsFiles types.entry (texts files.now) all ending used
         (W.contents writer.old) (W.contents writer.new) (Y.calls system.old) (Y.calls system.new))
         result (W.contents writer.old) (W.contents writer.new) }
-    ensures files { Opens (named (codes "types") types.entry) path.now result.disk
+    ensures files { Opens (named (codes "types") types.entry) path.now
+        (fault_of result.result) result.disk
         (paths_of host.old) (paths_of host.new) }
     ensures looked { PutLooks types.entry (texts files.now) result.disk
         (Y.calls system.old) (Y.calls system.new) }
@@ -77,7 +78,8 @@ fn put_files<Y: System, S: Start, W: Write, E: Write>(
         (texts files.now) all ending (W.contents writer.old) (W.contents writer.new)
         (Y.calls system.old) (Y.calls system.new) used)
         result (W.contents writer.old) (W.contents writer.new) }
-    ensures files { Opens [] path.now result.disk (paths_of host.old) (paths_of host.new) }
+    ensures files { Opens [] path.now (fault_of result.result) result.disk
+        (paths_of host.old) (paths_of host.new) }
     ensures unbegun { IsUntouched result.disk → Y.calls system.new ≡ Y.calls system.old }
 {
     match host.disk(path, start) {

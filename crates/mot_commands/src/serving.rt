@@ -73,7 +73,8 @@ pub fn serve_file<S: Start, R: Read, W: Write>(
         (λ ending used. ServesFile ending used (R.remaining reader.old) (R.remaining reader.new)
         (W.contents writer.old) (W.contents writer.new))
         result (W.contents writer.old) (W.contents writer.new) }
-    ensures files { Opens [] path.now result.disk (paths_of host.old) (paths_of host.new) }
+    ensures files { Opens [] path.now (fault_of result.result) result.disk
+        (paths_of host.old) (paths_of host.new) }
 {
     match host.disk(path, start) {
         Ok(disk) => {

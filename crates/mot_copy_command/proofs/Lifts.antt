@@ -13,7 +13,9 @@ use Rattle.disk_store.specs.declared.file.SecondDisk.{SecondDisk}
 use Rattle.disk_store.specs.declared.file.start.Start.{Ghosts}
 use Rattle.mot_cli.specs.Options.{geometry_over}
 use Rattle.mot_cli.specs.declared.options.Options.{Options}
-use Rattle.mot_copy_command.specs.Command.{ComesToCopy, CopiesTo, IsRefused, LooksAtCopy}
+use Rattle.mot_copy_command.specs.Command.{ComesToCopy, CopiesTo, IsRefused, LooksAtCopy, MakesCopy}
+use Rattle.mot_copy_command.specs.Command.ComesToCopy.{opened}
+use Rattle.mot_copy_command.specs.Command.MakesCopy.{made as copy_made, removed as copy_removed}
 use Rattle.mot_copy_command.specs.Command.IsUncopied.{no_file}
 use Rattle.mot_copy_command.specs.Copying.{Copies, TellsCopy}
 use Rattle.mot_copy_command.specs.Copying.TellsCopy.{made, refused}
@@ -151,10 +153,20 @@ module _ {S : Type 0} {origin : Ghosts S} {T : Type 0} {other : Ghosts T} (view 
       × (s.calls ≡ disk.calls)) → IsRefused ending → HasFirstCalls true disk
       → (before after : List (Text × Text))
       → after ≡ before ++ (codes "disk", path) ∷ (codes "removed", path) ∷ []
-      → ComesToCopy ending path second before after
+      → MakesCopy ending path second before after
   comes_removed path None some same refusal begun before after is = absurd (cc)
   comes_removed path (Some second) some same refusal begun before after is =
-      inr (refusal, second_begun true second same.0 same.1 same.2 begun, is)
+      copy_removed (second_begun true second same.0 same.1 same.2 begun) refusal is
+
+  -- one that was made and copied to stays
+  pub comes_copied : (path : Text) (second : Option (SecondDisk S origin)) → IsSome second
+      → IfSome second (λ s. (s.file ≡ disk.file) × (s.failures ≡ disk.failures)
+      × (s.calls ≡ disk.calls)) → (IsRefused ending → ⊥) → HasFirstCalls true disk
+      → (before after : List (Text × Text)) → after ≡ before ++ (codes "disk", path) ∷ []
+      → MakesCopy ending path second before after
+  comes_copied path None some same copied begun before after is = absurd (cc)
+  comes_copied path (Some second) some same copied begun before after is =
+      copy_made (second_begun true second same.0 same.1 same.2 begun) copied is
 
   -- one that was there stays
   pub comes_kept : (path : Text) (second : Option (SecondDisk S origin)) → IsSome second
@@ -163,15 +175,7 @@ module _ {S : Type 0} {origin : Ghosts S} {T : Type 0} {other : Ghosts T} (view 
       → after ≡ before ++ (codes "disk", path) ∷ [] → ComesToCopy ending path second before after
   comes_kept path None some same begun before after is = absurd (cc)
   comes_kept path (Some second) some same begun before after is =
-      inl (is, inl (second_begun false second same.0 same.1 same.2 begun))
-
--- one that was copied to
-pub comes_copied : {S : Type 0} {origin : Ghosts S} (ending : Option Refusal) (path : Text)
-    (second : Option (SecondDisk S origin)) → IsSome second → (IsRefused ending → ⊥)
-    → (before after : List (Text × Text)) → after ≡ before ++ (codes "disk", path) ∷ []
-    → ComesToCopy ending path second before after
-comes_copied ending path None some copied before after is = absurd (cc)
-comes_copied ending path (Some second) some copied before after is = inl (is, inr copied)
+      opened (second_begun false second same.0 same.1 same.2 begun) is
 
 -- what the system was asked for it
 pub looks_at : {S : Type 0} {origin : Ghosts S} (path : Text) (second : Option (SecondDisk S origin))

@@ -1,5 +1,6 @@
 -- What the command `copy` does.
 use Rattle.std.specs.Prelude.{◌≡◌, ◌≢◌, ◌⊎◌, ℕ, true, List, [], ◌∷◌, ◌++◌, Option, Some, None, codes, false}
+use Rattle.std.specs.Prelude.{IsSomeAnd}
 use Rattle.std.specs.Io.KnownBytes.{Keeps}
 use Rattle.clap.specs.Words.{Text}
 use Rattle.disk_model.specs.Disk.{OnlySyncs, State}
@@ -13,6 +14,7 @@ use Rattle.mot_copy_command.specs.Copying.{Copies}
 use Rattle.mot_devices.specs.Looking.{OnlyLooks}
 use Rattle.mot_devices.specs.Uses.{IsFree}
 use Rattle.mot_ending.specs.Opening.{IsUnopened, OfStanding}
+use Rattle.mot_endpoints.specs.Opened.{in_vain}
 use Rattle.mot_files.specs.Call.{Call}
 use Rattle.mot_numbers.specs.Geometry.{IsValid, length_of}
 use Rattle.mot_numbers.specs.declared.geometry.Geometry.{Geometry}
@@ -55,16 +57,27 @@ module _ {S : Type 0} {start : Ghosts S} where
       ⊎ SinceSecondMade (length_of g) (Copies (λ P. OfStanding P start now) start.failures now.failures g
       ids ending old new) disk))
 
-  -- The file of the copy was come to by this path. It is removed if it was made, and the copying was
-  -- refused; else it stays.
-  abbrev pub ComesToCopy : Option Refusal → Text → Option (SecondDisk S start)
-      → (before after : List (Text × Text)) → Type 0
-  ComesToCopy ending path None before after = after ≡ before
-  ComesToCopy ending path (Some disk) before after =
-      ((after ≡ before ++ (codes "disk", path) ∷ [])
-      × (HasSecondCalls false disk ⊎ (IsRefused ending → ⊥)))
-      ⊎ (IsRefused ending × HasSecondCalls true disk
-      × (after ≡ before ++ (codes "disk", path) ∷ (codes "removed", path) ∷ []))
+  -- A new file is made for the copy, or that is tried in vain. It is removed again exactly if the
+  -- copying was refused.
+  pub data MakesCopy (ending : Option Refusal) (path : Text) (copy : Option (SecondDisk S start))
+      (before after : List (Text × Text)) : Type 0 where
+    unmade : copy ≡ None → ending ≡ Some DeviceFault
+        → after ≡ before ++ in_vain (codes "disk") path ∷ []
+        → MakesCopy ending path copy before after
+    made : IsSomeAnd copy (HasSecondCalls true) → (IsRefused ending → ⊥)
+        → after ≡ before ++ (codes "disk", path) ∷ [] → MakesCopy ending path copy before after
+    removed : IsSomeAnd copy (HasSecondCalls true) → IsRefused ending
+        → after ≡ before ++ (codes "disk", path) ∷ (codes "removed", path) ∷ []
+        → MakesCopy ending path copy before after
+
+  -- the file of the copy is opened, and stays; or that is tried in vain, and only then it is made
+  pub data ComesToCopy (ending : Option Refusal) (path : Text)
+      (copy : Option (SecondDisk S start)) (before after : List (Text × Text)) : Type 0 where
+    unbegun : copy ≡ None → after ≡ before → ComesToCopy ending path copy before after
+    opened : IsSomeAnd copy (HasSecondCalls false) → after ≡ before ++ (codes "disk", path) ∷ []
+        → ComesToCopy ending path copy before after
+    unopened : MakesCopy ending path copy (before ++ in_vain (codes "disk") path ∷ []) after
+        → ComesToCopy ending path copy before after
 
   -- the system was only looked at, and what the path names was found free if it was opened or made
   abbrev pub LooksAtCopy : Text → Option (SecondDisk S start) → (old new : List Call) → Type 0
@@ -83,7 +96,8 @@ module _ {S : Type 0} {start : Ghosts S} where
       → (before after : List (Text × Text)) → Type 0
   OpensTwo ending path new (OfCopy from to) before after =
       ComesToCopy ending new to (before ++ (codes "disk", path) ∷ []) after
-  OpensTwo ending path new (Untouched value) before after = after ≡ before
+  OpensTwo ending path new (Untouched value) before after = (ending ≡ Some DeviceFault)
+      × (after ≡ before ++ in_vain (codes "disk") path ∷ [])
   OpensTwo ending path new used before after = ⊥
 
   abbrev pub LooksAtNew : (new : Text) → UsedDisk S start → (before after : List Call) → Type 0

@@ -6,7 +6,7 @@ ghost use Rattle.disk_store.specs.File.{file_state};
 ghost use Rattle.disk_store.specs.Second.{IsLeftOf};
 ghost use Rattle.mot_cli.specs.Options.{geometry_over};
 ghost use Rattle.mot_copy_command.specs.Command.{ComesToCopy, CopiesFile, CopiesTo, IsRefused};
-ghost use Rattle.mot_copy_command.specs.Command.{LooksAtCopy, LooksAtNew, OpensTwo};
+ghost use Rattle.mot_copy_command.specs.Command.{LooksAtCopy, LooksAtNew, MakesCopy, OpensTwo};
 ghost use Rattle.mot_copy_command.specs.Copying.{Copies, refusal_of};
 ghost use Rattle.mot_copy_command.specs.Inner.{CopiesView, OfView};
 ghost use Rattle.mot_endpoints.specs.Opened.{paths_of};
@@ -200,7 +200,7 @@ fn copy_to_new<S: Start, W: Write>(
     ensures ended { CopiesView repository.view geometry.now task.now.after
         (fault_of result.0.result) result.1 (W.contents writer.old) (W.contents writer.new)
         (file_state repository.disk.disk) (file_state result.0.disk.disk) }
-    ensures files { ComesToCopy (fault_of result.0.result) task.now.new.now result.1
+    ensures files { MakesCopy (fault_of result.0.result) task.now.new.now result.1
         (paths_of host.old) (paths_of host.new) }
 {
     let mut to = match host.make_disk(task.new, geometry.length(), unopened.start) {

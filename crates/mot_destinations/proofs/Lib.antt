@@ -1,2 +1,2 @@
-mod Opening
+pub mod Laws
 mod Wrote

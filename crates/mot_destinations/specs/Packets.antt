@@ -1,15 +1,17 @@
 -- What packets go to, and how it is opened. Each relation goes from the calls that were made before
 -- to those that were made then.
 use Rattle.std.specs.Prelude.{ℕ, ◌≡◌, ◌≢◌, ◌↔◌, List, [], ◌∷◌, ◌++◌, codes, Option, Some, None}
-use Rattle.std.specs.Prelude.{Bool, true, false, Result, Ok, Err, nat_lt, if◌then◌else◌}
+use Rattle.std.specs.Prelude.{Bool, true, false, Result, Ok, Err, nat_lt, ◌==◌, if◌then◌else◌}
 use Rattle.std.specs.Prelude.{string_bytes}
 use Rattle.mot_destinations.specs.Names.{IsOfDisk, folder_of}
-use Rattle.mot_destinations.specs.Placing.{Begins, TakesAway, is_answer_of, told_as, told_of}
+use Rattle.mot_destinations.specs.Placing.{Begins, IsOfMemory, TakesAway, is_answer_of, told_as}
+use Rattle.mot_destinations.specs.Placing.{told_of}
 use Rattle.mot_destinations.specs.declared.fault.Cause.{Cause}
 use Rattle.mot_destinations.specs.declared.fault.PacketsFault.{PacketsFault}
 use Rattle.mot_destinations.specs.declared.new_file.NewPlace.{NewPlace}
 use Rattle.mot_destinations.specs.declared.packets.Destination.{Destination}
 use Rattle.mot_destinations.specs.declared.packets.OpenPackets.{OpenPackets}
+use Rattle.mot_destinations.specs.declared.packets.Opening.{Opening}
 use Rattle.mot_destinations.specs.declared.packets.PacketWriter.{PacketWriter}
 use Rattle.mot_destinations.specs.declared.packets.Place.{Place}
 use Rattle.mot_destinations.specs.declared.packets.Target.{Target}
@@ -157,6 +159,18 @@ pub record BeginsBeside (path disk : List ℕ) (handle : Handle) (place : NewPla
   pub its_beside : string_bytes place.beside ≡ path ++ codes ".new"
   pub begun : Begins (string_bytes place.beside) disk (Ok handle) old new
 
+-- or none is: there is no memory for its name, or it can't be begun there
+pub data BeginsNone (path disk : List ℕ) (fault : PacketsFault) (old new : List Call) : Type 0 where
+  no_memory : IsOfMemory fault → new ≡ old → BeginsNone path disk fault old new
+  unbegun : Begins (path ++ codes ".new") disk (Err fault) old new
+      → BeginsNone path disk fault old new
+
+-- why no file is written at a place: turns without an end are asked for, or none
+abbrev pub fault_of_turns : Place → (turns : Option ℕ) → Option PacketsFault
+fault_of_turns Place.Nothing None = Some PacketsFault.NoPipe
+fault_of_turns place None = Some PacketsFault.EndlessFile
+fault_of_turns place (Some count) = if count == 0 then Some PacketsFault.NoTurns else None
+
 -- What was opened to take packets. What is neither a pipe nor a character device is not opened
 -- itself.
 pub data OpensInto (path disk : List ℕ) (handle : Handle) (old new : List Call) :
@@ -169,6 +183,44 @@ pub data OpensInto (path disk : List ℕ) (handle : Handle) (old new : List Call
   file : (inner : List Call) (found : Place) (place : NewPlace) → found ≢ Place.Stream
       → IsPlace path disk (Ok found) old inner → BeginsBeside path disk handle place inner new
       → OpensInto path disk handle old new (Destination.File place)
+
+-- what was opened, by which path, and where packets go that are written to it
+abbrev pub opened_path : Opening → List ℕ
+opened_path opening = opening.path.now
+
+abbrev pub opened_handle : Opening → Handle
+opened_handle opening = opening.handle
+
+abbrev pub opened_to : Opening → Destination
+opened_to opening = opening.destination
+
+abbrev pub opened_so : Result Opening Cause → Result (Handle × Destination) Cause
+opened_so (Ok opening) = Ok (opened_handle opening, opened_to opening)
+opened_so (Err cause) = Err cause
+
+-- What a path names is opened to take packets of so many turns; or it is refused: by what the
+-- system said, or by what stands there, or because no turns are asked for that end.
+pub data OpensPackets (path disk : List ℕ) (turns : Option ℕ)
+    (result : Result (Handle × Destination) Cause) (old new : List Call) : Type 0 where
+  ready : (handle : Handle) (destination : Destination) → result ≡ Ok (handle, destination)
+      → IsTarget path (target_in destination)
+      → (target_in destination ≡ File → (turns ≢ None) × (turns ≢ Some 0))
+      → OpensInto path disk handle old new destination
+      → OpensPackets path disk turns result old new
+  no_output : (fault : PacketsFault) → result ≡ Err (Cause.Packets fault) → path ≡ codes "-"
+      → OpensOutput path (Err fault) old new → OpensPackets path disk turns result old new
+  no_place : (fault : PacketsFault) → result ≡ Err (Cause.Packets fault) → path ≢ codes "-"
+      → IsPlace path disk (Err fault) old new → OpensPackets path disk turns result old new
+  no_stream : (fault : PacketsFault) (inner : List Call) → result ≡ Err (Cause.Packets fault)
+      → path ≢ codes "-" → IsPlace path disk (Ok Place.Stream) old inner
+      → OpensStream path (Err fault) inner new → OpensPackets path disk turns result old new
+  no_turns : (fault : PacketsFault) (found : Place) → result ≡ Err (Cause.Packets fault)
+      → path ≢ codes "-" → found ≢ Place.Stream → IsPlace path disk (Ok found) old new
+      → fault_of_turns found turns ≡ Some fault → OpensPackets path disk turns result old new
+  no_file : (fault : PacketsFault) (found : Place) (inner : List Call)
+      → result ≡ Err (Cause.NewFile fault) → path ≢ codes "-" → found ≢ Place.Stream
+      → IsPlace path disk (Ok found) old inner → BeginsNone path disk fault inner new
+      → OpensPackets path disk turns result old new
 
 -- a new file is synced and renamed, and then the folder in which it stands is synced
 abbrev pub PlacesNew : Handle → NewPlace → Result (Unit {0}) Fault → (old new : List Call) → Type 0

@@ -2,6 +2,9 @@
 -- relation goes from the calls that were made before to those that were made then.
 use Rattle.std.specs.Prelude.{◌≡◌, ◌≢◌, ℕ, Bool, true, false, List, [], ◌∷◌, ◌++◌, Result, Ok, Err}
 use Rattle.std.specs.Prelude.{◌==◌, ◌&&◌, if◌then◌else◌}
+use Rattle.std.specs.IoError.{error_kind}
+use Rattle.std.specs.declared.io.Error.{Error}
+use Rattle.std.specs.declared.io.ErrorKind.{ErrorKind}
 use Rattle.mot_destinations.specs.declared.fault.PacketsFault.{PacketsFault}
 use Rattle.mot_files.specs.Call.{Call, closed, followed, locked, looked, looked_at, opened, removed}
 use Rattle.mot_files.specs.Placing.{Holds}
@@ -18,6 +21,11 @@ abbrev pub told_as : Fault → PacketsFault
 told_as (Absent error) = PacketsFault.System error
 told_as Busy = PacketsFault.InUse
 told_as (System error) = PacketsFault.System error
+
+-- packets are not written for want of memory
+abbrev pub IsOfMemory : PacketsFault → Type 0
+IsOfMemory fault = (error : Error) × (fault ≡ PacketsFault.System error)
+    × (error_kind error ≡ ErrorKind.OutOfMemory)
 
 -- what is answered, by what the system says
 abbrev pub told_of : {A : Type 0} → Result A Fault → Result A PacketsFault

@@ -323,6 +323,10 @@ impl From<Fault> for PacketsFault {
 }
 
 impl From<AllocError> for PacketsFault {
+    ghost use Rattle.mot_destinations.specs.Placing.{IsOfMemory};
+
+    ghost from_gives = { λ error fault. IsOfMemory fault };
+
     fn from(_error: AllocError) -> PacketsFault {
         PacketsFault::System(io::Error::from(io::ErrorKind::OutOfMemory))
     }

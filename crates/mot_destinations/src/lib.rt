@@ -11,6 +11,6 @@ mod taken;
 pub use beside::{SUFFIX, folder_of, leads_to};
 pub use fault::{Cause, LinesFault, NewDiskFault, PacketsFault, TypesFault, Unbegun};
 pub use new_file::NewPlace;
-pub use packets::{Destination, OUTPUT, OpenPackets, PacketWriter, Target, open_packets};
+pub use packets::{Destination, OUTPUT, OpenPackets, Opening, PacketWriter, Target, open_packets};
 pub use status_file::StatusFile;
 pub use taken::Taken;

@@ -1,7 +1,9 @@
 //! What the packets of `play` go to.
 ghost use Rattle.std.specs.Prelude.{◌≡◌, ◌≢◌, ◌≤◌, ◌↔◌, ◌∷◌, ◌++◌, ℕ, [], None, Some, IfOk, IsTrue};
 ghost use Rattle.std.specs.Prelude.{MatchResult, OnOk, Ok, Result, length, take};
-ghost use Rattle.mot_destinations.specs.Packets.{BeginsBeside, IsAnswer, IsPlace, IsPlaced};
+ghost use Rattle.mot_destinations.specs.Packets.{BeginsBeside, BeginsNone, IsAnswer, IsPlace};
+ghost use Rattle.mot_destinations.specs.Packets.{IsPlaced, OpensPackets, fault_of_turns};
+ghost use Rattle.mot_destinations.specs.Packets.{opened_handle, opened_path, opened_so, opened_to};
 ghost use Rattle.mot_destinations.specs.Packets.{IsReason, IsTakenAway, IsTarget, OpensInto};
 ghost use Rattle.mot_destinations.specs.Packets.{OpensOutput, OpensStream, TakesItsPlace};
 ghost use Rattle.mot_destinations.specs.Packets.{TakesPlace, TellsWhy, begun_of, destination_of};
@@ -60,6 +62,32 @@ pub enum Destination<'a> {
     File(NewPlace<'a>),
 }
 
+/// What a path names, as it was opened to take packets. Only `open_packets` makes one.
+#[derive(Drop)]
+pub struct Opening<'a> {
+    path: &'a str,
+    /// What is written to.
+    handle: Handle,
+    /// Where the packets go.
+    destination: Destination<'a>,
+}
+
+impl<'a> Opening<'a> {
+    fn of(path: &'a str, handle: Handle, destination: Destination<'a>) -> Opening<'a>
+        ensures { result ≡ record {
+          path = path.entry;
+          handle = handle;
+          destination = destination.entry;
+        } }
+    {
+        Opening {
+            path,
+            handle,
+            destination,
+        }
+    }
+}
+
 /// What was opened to take packets.
 #[derive(Drop)]
 pub struct OpenPackets<'a, S: System + Drop> {
@@ -70,13 +98,18 @@ pub struct OpenPackets<'a, S: System + Drop> {
 }
 
 impl<'a, S: System + Drop> OpenPackets<'a, S> {
-    /// What was opened by this path, to which nothing was written.
-    fn of(system: S, handle: Handle, path: &str, destination: Destination<'a>) -> OpenPackets<'a, S>
-        ensures destination { result.destination ≡ destination.entry }
-        ensures begun { begun_of result ≡ path.now ∷ [] }
-        ensures handle { result.writer.handle ≡ handle }
-        ensures system { result.writer.system ≡ system }
+    /// What was opened, in this system of files. Nothing was written to it.
+    pub fn new(system: S, opening: Opening<'a>) -> OpenPackets<'a, S>
+        ensures destination { destination_of result ≡ opened_to opening.entry }
+        ensures begun { begun_of result ≡ opened_path opening.entry ∷ [] }
+        ensures handle { writer_handle result.writer ≡ opened_handle opening.entry }
+        ensures system { writer_system result.writer ≡ system }
     {
+        let Opening {
+            path,
+            handle,
+            destination,
+        } = opening;
         OpenPackets {
             writer: PacketWriter {
                 system,
@@ -188,40 +221,52 @@ fn put_in_place<S: System>(
 /// is locked, so that no other program of ours writes to it. A file is written only if some turns
 /// are asked for: so a pipe that is not there is refused. The disk itself is refused, and so are a
 /// terminal and every block device: no multiplexer reads one, and it may hold a file system.
-pub fn open_packets<'a, S: System + Drop>(
-    system: S,
+pub fn open_packets<'a, S: System>(
+    system: &mut S,
     alloc: Global,
     path: &'a str,
     disk: &str,
     turns: Option<u32>,
-) -> Result<OpenPackets<'a, S>, Cause>
-    ensures target { IfOk result (λ opened. IsTarget path.now (target_of opened)) }
-    ensures begun { IfOk result (λ opened. begun_of opened ≡ path.now ∷ []) }
-    ensures turns { IfOk result (λ opened. target_of opened ≡ Target.File
-        → (turns ≢ None) × (turns ≢ Some 0)) }
-    ensures calls { IfOk result (λ opened. OpensInto path.now disk.now
-        (writer_handle opened.writer) (S.calls system) (S.calls (writer_system opened.writer))
-        (destination_of opened)) }
+) -> Result<Opening<'a>, Cause>
+    ensures path { IfOk result (λ opening. opened_path opening ≡ path.now) }
+    ensures calls { OpensPackets path.now disk.now turns (opened_so result)
+        (S.calls system.old) (S.calls system.new) }
 {
-    let mut system = system;
     if path == OUTPUT {
-        let handle = open_output(&mut system, path)?;
-        return Ok(OpenPackets::of(system, handle, path, Destination::Output));
+        return match open_output(system, path) {
+            Ok(handle) => Ok(Opening::of(path, handle, Destination::Output)),
+            Err(fault) => Err(Cause::Packets(fault)),
+        };
     }
-    let fault = match (place_at(&mut system, path, disk)?, turns) {
-        (Place::Stream, _) => {
-            let handle = open_stream(&mut system, path)?;
-            return Ok(OpenPackets::of(system, handle, path, Destination::Stream));
-        }
-        (Place::Nothing, None) => PacketsFault::NoPipe,
-        (Place::File, None) => PacketsFault::EndlessFile,
-        (_, Some(0)) => PacketsFault::NoTurns,
-        (_, Some(_)) => {
-            let (handle, place) = new_file(&mut system, alloc, path, disk)?;
-            return Ok(OpenPackets::of(system, handle, path, Destination::File(place)));
-        }
+    let place = match place_at(system, path, disk) {
+        Ok(place) => place,
+        Err(fault) => return Err(Cause::Packets(fault)),
     };
-    Err(Cause::Packets(fault))
+    if let Place::Stream = place {
+        return match open_stream(system, path) {
+            Ok(handle) => Ok(Opening::of(path, handle, Destination::Stream)),
+            Err(fault) => Err(Cause::Packets(fault)),
+        };
+    }
+    if let Some(fault) = fault_of_turns(place, turns) {
+        return Err(Cause::Packets(fault));
+    }
+    match new_file(system, alloc, path, disk) {
+        Ok((handle, place)) => Ok(Opening::of(path, handle, Destination::File(place))),
+        Err(fault) => Err(Cause::NewFile(fault)),
+    }
+}
+
+/// Why no file is written at a place that is none of a stream, by the turns that are asked for.
+fn fault_of_turns(place: Place, turns: Option<u32>) -> Option<PacketsFault>
+    ensures { result ≡ fault_of_turns place turns }
+{
+    match (place, turns) {
+        (Place::Nothing, None) => Some(PacketsFault::NoPipe),
+        (_, None) => Some(PacketsFault::EndlessFile),
+        (_, Some(0)) => Some(PacketsFault::NoTurns),
+        (_, Some(_)) => None,
+    }
 }
 
 /// A new file for the path.
@@ -230,16 +275,18 @@ fn new_file<'a, S: System>(
     alloc: Global,
     path: &'a str,
     disk: &str,
-) -> Result<(Handle, NewPlace<'a>), Cause>
-    ensures { IfOk result (λ made. BeginsBeside path.now disk.now made.0 made.1
-        (S.calls system.old) (S.calls system.new)) }
+) -> Result<(Handle, NewPlace<'a>), PacketsFault>
+    ensures { MatchResult result
+        (λ made. BeginsBeside path.now disk.now made.0 made.1
+        (S.calls system.old) (S.calls system.new))
+        (λ fault. BeginsNone path.now disk.now fault (S.calls system.old) (S.calls system.new)) }
 {
     let Ok(beside) = format!(in alloc; "{path}{SUFFIX}") else {
-        return Err(Cause::NewFile(PacketsFault::from(AllocError)));
+        return Err(PacketsFault::from(AllocError));
     };
     match begin(system, beside.as_str(), disk) {
         Ok(handle) => Ok((handle, NewPlace { path, beside })),
-        Err(fault) => Err(Cause::NewFile(fault)),
+        Err(fault) => Err(fault),
     }
 }
 

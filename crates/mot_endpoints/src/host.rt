@@ -1,12 +1,14 @@
 //! What a program has of the system to come to its files by: no path is opened, made as a disk or
 //! removed but through it.
-ghost use Rattle.std.specs.Prelude.{◌≡◌, ◌≢◌, ◌≤◌, ◌∷◌, ◌++◌, [], None, Ok, Some, IfOk, MatchResult};
+ghost use Rattle.std.specs.Prelude.{◌≡◌, ◌≢◌, ◌≤◌, ◌∷◌, ◌++◌, [], Err, IfErr, List, None, Ok, Some, IfOk, MatchResult};
 ghost use Rattle.std.specs.Prelude.{codes, false, length, true};
 ghost use Rattle.disk_store.specs.Beginning.{IsFirst};
 ghost use Rattle.disk_store.specs.File.{file_state};
 ghost use Rattle.mot_endpoints.specs.LinePlaces.{ChecksLines};
-ghost use Rattle.mot_endpoints.specs.Opened.{paths_of};
-ghost use Rattle.mot_destinations.specs.Packets.{IsTarget, OpensInto, begun_of, destination_of};
+ghost use Rattle.mot_endpoints.specs.Opened.{noted, paths_of};
+ghost use Rattle.mot_destinations.specs.Packets.{IsTarget, OpensInto, OpensPackets, begun_of};
+ghost use Rattle.mot_destinations.specs.Packets.{destination_of};
+ghost use Rattle.mot_files.specs.Call.{Call};
 ghost use Rattle.mot_destinations.specs.Packets.{target_of, writer_handle, writer_system};
 ghost use Rattle.mot_destinations.specs.Status.{status_disk, status_system};
 ghost use Rattle.mot_files.specs.Host.{calls_of};
@@ -31,7 +33,8 @@ pub struct Host<'a> {
     rt: &'a HostRuntime,
     /// The empty file that stands beside the one that was opened or made last as a disk.
     side: Option<SideFile>,
-    /// What it came to so far, in order: as what, and by which path.
+    /// What it came to so far, in order: as what, and by which path. What it tried in vain is noted,
+    /// too: as no such thing.
     paths: Pairs,
 }
 
@@ -61,14 +64,20 @@ impl<'a> Host<'a> {
         start: S,
     ) -> Result<BegunFile<S, WasThere>, Unopened<S>>
         ensures first { IfOk result (λ file. IsFirst false file.disk) }
-        ensures paths { MatchResult result
-            (λ _. paths_of self.new ≡ paths_of self.old ++ (codes "disk", path.now) ∷ [])
-            (λ _. paths_of self.new ≡ paths_of self.old) }
+        ensures paths { paths_of self.new
+            ≡ paths_of self.old ++ noted (codes "disk") path.now result ∷ [] }
     {
         self.side = SideFile::of_target(self.rt, path).ok();
-        let file = open_file(self.rt, path, start)?;
-        self.paths.note(b"disk", path.as_bytes());
-        Ok(file)
+        match open_file(self.rt, path, start) {
+            Ok(file) => {
+                self.paths.note(b"disk", path.as_bytes());
+                Ok(file)
+            }
+            Err(unopened) => {
+                self.paths.note(b"no disk", path.as_bytes());
+                Err(unopened)
+            }
+        }
     }
 
     /// Makes a new file of so many zeros, as a disk.
@@ -80,17 +89,29 @@ impl<'a> Host<'a> {
     ) -> Result<BegunFile<S, WasMade>, Unopened<S>>
         ensures first { IfOk result (λ file. IsFirst true file.disk) }
         ensures len { IfOk result (λ file. (file_state file.disk).len ≡ len) }
-        ensures paths { MatchResult result
-            (λ _. paths_of self.new ≡ paths_of self.old ++ (codes "disk", path.now) ∷ [])
-            (λ _. paths_of self.new ≡ paths_of self.old) }
+        ensures paths { paths_of self.new
+            ≡ paths_of self.old ++ noted (codes "disk") path.now result ∷ [] }
     {
-        self.side = match SideFile::of(self.rt, path) {
-            Ok(side) => Some(side),
-            Err(error) => return Err(Unopened::of(start, error)),
+        let made = match SideFile::of(self.rt, path) {
+            Ok(side) => {
+                self.side = Some(side);
+                make_file(self.rt, path, len, start)
+            }
+            Err(error) => {
+                self.side = None;
+                Err(Unopened::of(start, error))
+            }
         };
-        let file = make_file(self.rt, path, len, start)?;
-        self.paths.note(b"disk", path.as_bytes());
-        Ok(file)
+        match made {
+            Ok(file) => {
+                self.paths.note(b"disk", path.as_bytes());
+                Ok(file)
+            }
+            Err(unmade) => {
+                self.paths.note(b"no disk", path.as_bytes());
+                Err(unmade)
+            }
+        }
     }
 
     /// Removes the empty file that the last opening of a disk has made beside its file, if it can:
@@ -129,16 +150,26 @@ impl<'a> Host<'a> {
         ensures begun { IfOk result (λ opened. begun_of opened ≡ path.now ∷ []) }
         ensures turns { IfOk result (λ opened. target_of opened ≡ Target.File
             → (turns ≢ None) × (turns ≢ Some 0)) }
-        ensures paths { MatchResult result
-            (λ _. paths_of self.new ≡ paths_of self.old ++ (codes "packets", path.now) ∷ [])
-            (λ _. paths_of self.new ≡ paths_of self.old) }
+        ensures paths { paths_of self.new
+            ≡ paths_of self.old ++ noted (codes "packets") path.now result ∷ [] }
         ensures calls { IfOk result (λ opened. OpensInto path.now disk.now
             (writer_handle opened.writer) [] (calls_of (writer_system opened.writer))
             (destination_of opened)) }
+        // A refusal is one that some answers of the system give.
+        ensures refused { IfErr result (λ cause. (calls : List Call)
+            × OpensPackets path.now disk.now turns (Err cause) [] calls) }
     {
-        let opened = open_packets(self.system(), self.rt.alloc(), path, disk, turns)?;
-        self.paths.note(b"packets", path.as_bytes());
-        Ok(opened)
+        let mut system = self.system();
+        match open_packets(&mut system, self.rt.alloc(), path, disk, turns) {
+            Ok(opening) => {
+                self.paths.note(b"packets", path.as_bytes());
+                Ok(OpenPackets::new(system, opening))
+            }
+            Err(cause) => {
+                self.paths.note(b"no packets", path.as_bytes());
+                Err(cause)
+            }
+        }
     }
 
     /// The folder of objects at the path, of which nothing was read. Files are read `at_once`, or
@@ -165,28 +196,40 @@ impl<'a> Host<'a> {
         others: Others<'_>,
     ) -> Result<LinePlace<'a, HostSystem<'a, HostRuntime>>, LinesFault>
         ensures path { IfOk result (λ place. place.path ≡ path.entry) }
-        ensures paths { MatchResult result
-            (λ _. paths_of self.new ≡ paths_of self.old ++ (codes "lines", path.now) ∷ [])
-            (λ _. paths_of self.new ≡ paths_of self.old) }
+        ensures paths { paths_of self.new
+            ≡ paths_of self.old ++ noted (codes "lines") path.now result ∷ [] }
         ensures checked { IfOk result (λ place. ChecksLines path.now others.entry (Ok tt)
             [] (calls_of place.system)) }
     {
         let mut system = HostSystem::new(self.rt, self.rt.alloc(), self.rt.stdout());
-        check_folder(&mut system, path, others)?;
-        self.paths.note(b"lines", path.as_bytes());
-        Ok(LinePlace::new(system, path))
+        match check_folder(&mut system, path, others) {
+            Ok(()) => {
+                self.paths.note(b"lines", path.as_bytes());
+                Ok(LinePlace::new(system, path))
+            }
+            Err(fault) => {
+                self.paths.note(b"no lines", path.as_bytes());
+                Err(fault)
+            }
+        }
     }
 
     /// The bytes of the file that adds suffixes: 65,536 at most.
     pub fn types(&mut self, alloc: Global, path: &str) -> Result<Vec<u8>, TypesFault>
         ensures len { IfOk result (λ text. length text.items ≤ 65536) }
-        ensures paths { MatchResult result
-            (λ _. paths_of self.new ≡ paths_of self.old ++ (codes "types", path.now) ∷ [])
-            (λ _. paths_of self.new ≡ paths_of self.old) }
+        ensures paths { paths_of self.new
+            ≡ paths_of self.old ++ noted (codes "types") path.now result ∷ [] }
     {
-        let text = read_text(&mut self.system(), alloc, path)?;
-        self.paths.note(b"types", path.as_bytes());
-        Ok(text)
+        match read_text(&mut self.system(), alloc, path) {
+            Ok(text) => {
+                self.paths.note(b"types", path.as_bytes());
+                Ok(text)
+            }
+            Err(fault) => {
+                self.paths.note(b"no types", path.as_bytes());
+                Err(fault)
+            }
+        }
     }
 
     /// The file of the status at the path, to which nothing was written.

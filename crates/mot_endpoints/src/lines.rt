@@ -55,7 +55,7 @@ pub fn line_folder<'a>(
     ensures refused { IfErr result (λ unbegun. IsUnlined path.entry unbegun.refusal) }
     ensures opens { MatchResult result
         (λ _. paths_of host.new ≡ paths_of host.old ++ named (codes "lines") path.entry)
-        (λ _. BeginsTo (named (codes "lines") path.entry)
+        (λ unbegun. BeginsTo (named (codes "lines") path.entry) unbegun.refusal
         (paths_of host.old) (paths_of host.new)) }
 {
     let Some(path) = path else {

@@ -29,7 +29,7 @@ pub fn file_types(
     ensures refused { IfErr result (λ unbegun. IsUntyped path.entry unbegun.refusal) }
     ensures opens { MatchResult result
         (λ _. paths_of host.new ≡ paths_of host.old ++ named (codes "types") path.entry)
-        (λ _. BeginsTo (named (codes "types") path.entry)
+        (λ unbegun. BeginsTo (named (codes "types") path.entry) unbegun.refusal
         (paths_of host.old) (paths_of host.new)) }
 {
     let mut types = match FileTypes::new(alloc) {

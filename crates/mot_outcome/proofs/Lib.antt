@@ -2,6 +2,5 @@ mod Begun
 mod Comings
 mod Explained
 pub mod Laws
-mod Opened
 mod Parts
 mod Results

@@ -1,7 +1,7 @@
 -- What a run of the program comes to, whatever its tasks are.
 use Rattle.std.specs.declared.io.Error.{Error}
 use Rattle.std.specs.Prelude.{ℕ, ◌≡◌, ◌++◌, ◌∷◌, [], Bool, true, List, Option, Some, None, codes}
-use Rattle.std.specs.Prelude.{◌⊎◌, Err, IsErrAnd, Ok, Result, false, option_map}
+use Rattle.std.specs.Prelude.{◌⊎◌, Err, IsErrAnd, IsSomeAnd, Ok, Result, false, option_map}
 use Rattle.std.specs.Fmt.{decimal}
 use Rattle.std.specs.Io.KnownBytes.{Appends, Keeps}
 use Rattle.clap.specs.Words.{Row, Text}
@@ -9,7 +9,7 @@ use Rattle.disk_model.specs.Disk.{State}
 use Rattle.disk_store.specs.Beginning.{SinceOpened}
 use Rattle.disk_store.specs.declared.file.start.Start.{Ghosts}
 use Rattle.disk_store.specs.declared.file.FileDiskFrom.{FileDiskFrom}
-use Rattle.mot_endpoints.specs.Opened.{BeginsTo}
+use Rattle.mot_endpoints.specs.Opened.{BeginsTo, in_vain, is_fault}
 use Rattle.disk_store.specs.File.{fault_on}
 use Rattle.disk_store.specs.Second.{second_fault}
 use Rattle.disk_store.specs.declared.file.fault.OpenFault.TheVariants.{System}
@@ -17,7 +17,8 @@ use Rattle.mot_destinations.specs.declared.fault.Cause.{Cause}
 use Rattle.mot_destinations.specs.declared.fault.Cause.TheVariants.{Disk, NewDisk}
 use Rattle.mot_destinations.specs.declared.fault.NewDiskFault.TheVariants as new_fault
 use Rattle.mot_numbers.specs.declared.refusal.Refusal.{Refusal}
-use Rattle.mot_numbers.specs.declared.refusal.Refusal.TheVariants.{OutOfMemory, WriteFault}
+use Rattle.mot_numbers.specs.declared.refusal.Refusal.TheVariants.{DeviceFault, OutOfMemory}
+use Rattle.mot_numbers.specs.declared.refusal.Refusal.TheVariants.{WriteFault}
 use Rattle.mot_outcome.specs.declared.exit.Exit.{Exit}
 use Rattle.mot_outcome.specs.declared.used.Beside.{Beside}
 use Rattle.mot_outcome.specs.declared.used.Finished.{Finished}
@@ -90,24 +91,29 @@ module _ {S : Type 0} {start : Ghosts S} where
 
   -- In this a list of what a host came to has of each as what, and by which path. Where the disk of
   -- a file is handed out, it came to these others, each once and in order, and then to the disk of
-  -- this path, once; where none is, to a beginning of these others, and to no disk.
-  abbrev pub Opens : (others : List (Text × Text)) → Text → UsedDisk S start
-      → (before after : List (Text × Text)) → Type 0
-  Opens others path (Untouched value) before after = BeginsTo others before after
-  Opens others path (InMemory disk value) before after = ⊥
-  Opens others path (OfCopy from to) before after = ⊥
-  Opens others path (OfFile disk beside) before after =
+  -- this path, once. Where none is, it stopped at one of the others, or came to all of them and tried
+  -- in vain to come to the disk.
+  abbrev pub Opens : (others : List (Text × Text)) → Text → (ending : Option Refusal)
+      → UsedDisk S start → (before after : List (Text × Text)) → Type 0
+  Opens others path ending (Untouched value) before after = IsSomeAnd ending (λ refusal.
+      BeginsTo others refusal before after ⊎ ((refusal ≡ DeviceFault)
+      × (after ≡ before ++ (others ++ in_vain (codes "disk") path ∷ []))))
+  Opens others path ending (InMemory disk value) before after = ⊥
+  Opens others path ending (OfCopy from to) before after = ⊥
+  Opens others path ending (OfFile disk beside) before after =
       after ≡ before ++ (others ++ (codes "disk", path) ∷ [])
 
--- Which files were used: none, or those of the task that the words ask for, as OfTask says of it.
--- Which words ask for which task IsTask says; before and after is what was used so far.
+-- Which files were used in a run that ended so: none, or those of the task that the words ask for, as
+-- OfTask says of it. Where none was, the refusal is that of no file, or help was asked for. Which
+-- words ask for which task IsTask says; before and after is what was used so far.
 pub data UsesFiles {S : Type 0} {start : Ghosts S} {T P : Type 0}
     (IsTask : Text → List Row → T → Type 0)
     (OfTask : T → UsedDisk S start → (before after : P) → Type 0) (words : List Text)
-    (used : UsedDisk S start) (before after : P) : Type 0 where
-  none : IsUntouched used → after ≡ before → UsesFiles IsTask OfTask words used before after
-  asked : (task : T) → AskFor motcar_app IsTask words task → OfTask task used before after
-      → UsesFiles IsTask OfTask words used before after
+    (exit : Exit S start) (before after : P) : Type 0 where
+  none : (IsSomeAnd exit.refusal (λ refusal. is_fault refusal ≡ true) → AskForHelp motcar_app words)
+      → IsUntouched exit.disk → after ≡ before → UsesFiles IsTask OfTask words exit before after
+  asked : (task : T) → AskFor motcar_app IsTask words task → OfTask task exit.disk before after
+      → UsesFiles IsTask OfTask words exit before after
 
 -- the status of a run that no refusal ended, where all was done or some file was refused; or that
 -- this one ended

@@ -15,6 +15,15 @@ pub fn clear_unfit(host: &mut Host<'_>, refusal: Refusal)
     }
 }
 
+/// The same, by what a task came to.
+pub fn clear_after<T>(host: &mut Host<'_>, ended: &Result<T, Refusal>)
+    ensures { paths_of host.new ≡ paths_of host.old }
+{
+    if let Err(refusal) = ended {
+        clear_unfit(host, *refusal);
+    }
+}
+
 /// Whether a file is refused so as it was found.
 fn is_unfit(refusal: Refusal) -> bool {
     matches!(

@@ -13,7 +13,7 @@ use Rattle.mot_cli.specs.Task.{IsTask}
 use Rattle.mot_cli.specs.declared.task.Task.{Task}
 use Rattle.mot_files.specs.Call.{Call}
 use Rattle.mot_numbers.specs.declared.refusal.Refusal.{Refusal}
-use Rattle.mot_outcome.specs.Outcome.{IsUntold, UsesFiles, status_of}
+use Rattle.mot_outcome.specs.Outcome.{IsUntold, Opens, UsesFiles, status_of}
 use Rattle.mot_outcome.specs.Outcome.ComesTo.{begun, unbegun}
 use Rattle.mot_outcome.specs.declared.exit.Exit.{Exit}
 use Rattle.mot_outcome.specs.declared.used.UsedDisk.{UsedDisk}
@@ -25,6 +25,14 @@ use Rattle.mot_server.specs.Program.{Ends, IsBeginningRefusal, IsWhole, LooksFor
 pub fault_whole : (result : Result Unit Refusal) → fault_of (whole_result result) ≡ fault_of result
 fault_whole (Ok done) = refl
 fault_whole (Err refusal) = refl
+
+-- and so it opened the same
+pub opens_whole : {S : Type 0} {start : Ghosts S} (result : Result Unit Refusal) (path : Text)
+    (used : UsedDisk S start) (before after : List (Text × Text))
+    → Opens [] path (fault_of result) used before after
+    → Opens [] path (fault_of (whole_result result)) used before after
+opens_whole (Ok done) path used before after opens = opens
+opens_whole (Err refusal) path used before after opens = opens
 
 module _ {S : Type 0} {start : Ghosts S} (task : Task) (unread left old new : Option (List ℕ)) where
   -- a command that is done whole if no refusal ends it
@@ -95,7 +103,7 @@ module _ {S : Type 0} {start : Ghosts S} (words : List Text) (exit : Exit S star
       subst (λ (first : List (Text × Text)). Uses words exit first after) nothing uses
 
   pub looks_from_nothing : (before after : List Call) → before ≡ []
-      → UsesFiles IsTask LooksFor words exit.disk before after
-      → UsesFiles IsTask LooksFor words exit.disk [] after
+      → UsesFiles IsTask LooksFor words exit before after
+      → UsesFiles IsTask LooksFor words exit [] after
   looks_from_nothing before after nothing looks =
-      subst (λ (first : List Call). UsesFiles IsTask LooksFor words exit.disk first after) nothing looks
+      subst (λ (first : List Call). UsesFiles IsTask LooksFor words exit first after) nothing looks

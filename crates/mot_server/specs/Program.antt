@@ -96,22 +96,22 @@ module _ {S : Type 0} {start : Ghosts S} where
       OpensOrMakes ending path.now used before after
   UsesFor ending (Copy copy) used before after =
       OpensTwo ending copy.disk.now copy.new.now used before after
-  UsesFor ending (Serve path) used before after = Opens [] path.now used before after
-  UsesFor ending (Check path) used before after = Opens [] path.now used before after
-  UsesFor ending (Migrate path) used before after = Opens [] path.now used before after
-  UsesFor ending (Play p) used before after = Opens (played_with p) p.disk.now used before after
+  UsesFor ending (Serve path) used before after = Opens [] path.now ending used before after
+  UsesFor ending (Check path) used before after = Opens [] path.now ending used before after
+  UsesFor ending (Migrate path) used before after = Opens [] path.now ending used before after
+  UsesFor ending (Play p) used before after = Opens (played_with p) p.disk.now ending used before after
   UsesFor ending (Sync disk folder types rules) used before after =
-      Opens (synced_with types folder.now) disk.now used before after
+      Opens (synced_with types folder.now) disk.now ending used before after
   UsesFor ending (TrySync disk folder types rules) used before after =
-      Opens (synced_with types folder.now) disk.now used before after
-  UsesFor ending (ListObjects path) used before after = Opens [] path.now used before after
+      Opens (synced_with types folder.now) disk.now ending used before after
+  UsesFor ending (ListObjects path) used before after = Opens [] path.now ending used before after
   UsesFor ending (PutFiles path files types) used before after =
-      Opens (named (codes "types") types) path.now used before after
+      Opens (named (codes "types") types) path.now ending used before after
   UsesFor ending (WithdrawNames path names) used before after =
-      Opens [] path.now used before after
-  UsesFor ending (GetBody path name) used before after = Opens [] path.now used before after
-  UsesFor ending (Export path) used before after = Opens [] path.now used before after
-  UsesFor ending (Inspect path rate) used before after = Opens [] path.now used before after
+      Opens [] path.now ending used before after
+  UsesFor ending (GetBody path name) used before after = Opens [] path.now ending used before after
+  UsesFor ending (Export path) used before after = Opens [] path.now ending used before after
+  UsesFor ending (Inspect path rate) used before after = Opens [] path.now ending used before after
 
   -- which calls it made of the system that looks at what is to be formatted, and reads files that are
   -- put
@@ -132,7 +132,7 @@ module _ {S : Type 0} {start : Ghosts S} where
   -- which files it used: none, or just those of the task that the words ask for
   abbrev pub Uses : List Text → Exit S start → (before after : List (Text × Text)) → Type 0
   Uses words exit before after =
-      UsesFiles IsTask (UsesFor exit.refusal) words exit.disk before after
+      UsesFiles IsTask (UsesFor exit.refusal) words exit before after
 
 -- A run of these words ended with this status. Its exit is not handed out, nor what it came to:
 -- there are some by which it did what it has to do, with nothing come to before.
@@ -145,4 +145,4 @@ pub record Ran {S : Type 0} (start : Ghosts S) (words : List Text) (status : ℕ
   pub lacking : LackOption words → exit.refusal ≢ Some BadNumber
   pub files : Uses words exit [] paths
   pub calls : List Call
-  pub looked : UsesFiles IsTask LooksFor words exit.disk [] calls
+  pub looked : UsesFiles IsTask LooksFor words exit [] calls

@@ -86,7 +86,7 @@ pub fn run_program_on<'a, Y: System, S: AsStr, B: Start, R: Read, W: Write, E: W
 
     // The system was only looked at. A disk was made only of what was found free: no device that is
     // mounted or has a signature.
-    ensures looked { UsesFiles IsTask LooksFor (map S.text words.now) result.disk
+    ensures looked { UsesFiles IsTask LooksFor (map S.text words.now) result
         (Y.calls system.old) (Y.calls system.new) }
 {
     let matches = match motcar_matches(alloc, words) {

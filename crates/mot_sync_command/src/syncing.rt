@@ -29,7 +29,7 @@ use mot_files::System;
 use mot_folder::{FileTypes, Folder, KnownFiles, look_at_folder};
 use mot_log::add_met_line;
 use mot_numbers::Refusal;
-use mot_outcome::{Beside, Finished};
+use mot_outcome::{Beside, Finished, clear_after};
 use mot_playout::Server;
 use mot_shelf::{Seen, Shelf, SystemShelf};
 use std::alloc::Global;
@@ -50,8 +50,8 @@ pub fn sync<'a, B: Start, W: Write>(
     ensures ended { Concludes (IsUnsynced types.entry) (λ all ending. SyncsTask types.entry rules
         folder.now all ending result.disk (W.contents log.old) (W.contents log.new))
         result.result result.disk (W.contents log.old) (W.contents log.new) }
-    ensures opens { Opens (synced_with types.entry folder.now) path.now result.disk
-        (paths_of host.old) (paths_of host.new) }
+    ensures opens { Opens (synced_with types.entry folder.now) path.now
+        (fault_of result.result) result.disk (paths_of host.old) (paths_of host.new) }
 {
     match file_types(host, alloc, types) {
         Ok(types) => sync_file(host, alloc, path, folder, &types, rules, start, log),
@@ -73,8 +73,8 @@ fn sync_file<'a, B: Start, W: Write>(
     ensures ended { Concludes (λ r. r ≡ DeviceFault) (λ all ending. SyncsTo types.now rules
         folder.now all ending (W.contents log.old) (W.contents log.new) result.disk)
         result.result result.disk (W.contents log.old) (W.contents log.new) }
-    ensures opens { Opens ((codes "folder", folder.now) ∷ []) path.now result.disk
-        (paths_of host.old) (paths_of host.new) }
+    ensures opens { Opens ((codes "folder", folder.now) ∷ []) path.now (fault_of result.result)
+        result.disk (paths_of host.old) (paths_of host.new) }
 {
     let shelf = host.folder(folder, rules.at_once);
     match host.disk(path, start) {
@@ -87,6 +87,7 @@ fn sync_file<'a, B: Start, W: Write>(
                 rules.allow_empty,
                 log,
             );
+            clear_after(host, &ended.result);
             Finished::of_file(ended, Beside::folder(seen), cause)
         }
         Err(unopened) => Finished::unopened(unopened),

@@ -20,7 +20,7 @@ use mot_ending::Ended;
 use mot_endpoints::{Host, file_types};
 use mot_files::System;
 use mot_folder::FileTypes;
-use mot_outcome::{Beside, Finished};
+use mot_outcome::{Beside, Finished, clear_after};
 use mot_shelf::{Seen, SystemShelf};
 use std::alloc::Global;
 use std::io::Write;
@@ -40,8 +40,8 @@ pub fn try_sync<'a, B: Start, W: Write>(
     ensures ended { Concludes (IsUnsynced types.entry) (λ all ending. TriesTask types.entry rules
         folder.now all ending result.disk (W.contents log.old) (W.contents log.new))
         result.result result.disk (W.contents log.old) (W.contents log.new) }
-    ensures opens { Opens (synced_with types.entry folder.now) path.now result.disk
-        (paths_of host.old) (paths_of host.new) }
+    ensures opens { Opens (synced_with types.entry folder.now) path.now
+        (fault_of result.result) result.disk (paths_of host.old) (paths_of host.new) }
 {
     match file_types(host, alloc, types) {
         Ok(types) => try_file(host, alloc, path, folder, &types, rules, start, log),
@@ -63,13 +63,14 @@ fn try_file<'a, B: Start, W: Write>(
     ensures ended { Concludes (λ r. r ≡ DeviceFault) (λ all ending. TriesTo types.now rules
         folder.now all ending (W.contents log.old) (W.contents log.new) result.disk)
         result.result result.disk (W.contents log.old) (W.contents log.new) }
-    ensures opens { Opens ((codes "folder", folder.now) ∷ []) path.now result.disk
-        (paths_of host.old) (paths_of host.new) }
+    ensures opens { Opens ((codes "folder", folder.now) ∷ []) path.now (fault_of result.result)
+        result.disk (paths_of host.old) (paths_of host.new) }
 {
     let shelf = host.folder(folder, rules.at_once);
     match host.disk(path, start) {
         Ok(disk) => {
             let (ended, cause, seen) = try_shelf(alloc, disk, shelf, types, rules.allow_empty, log);
+            clear_after(host, &ended.result);
             Finished::of_file(ended, Beside::folder(seen), cause)
         }
         Err(unopened) => Finished::unopened(unopened),

@@ -12,6 +12,7 @@ use Rattle.mot_air.specs.Telling.{tale_with}
 use Rattle.mot_folder.specs.Looked.{Watch}
 use Rattle.mot_numbers.specs.declared.refusal.Refusal.{Refusal}
 use Rattle.mot_outcome.specs.Outcome.{OnFile, Opens}
+use Rattle.mot_playout.specs.Attempts.{fault_of}
 use Rattle.mot_outcome.specs.declared.used.Beside.{Beside}
 use Rattle.mot_outcome.specs.declared.used.UsedDisk.{UsedDisk}
 use Rattle.mot_outcome.specs.declared.used.UsedDisk.TheVariants.{InMemory, OfCopy, OfFile, Untouched}
@@ -142,10 +143,12 @@ returns-in-Err-clause-opens g c =
     let task = c.args.task in
     let old = paths_of c.args.host.now in
     let new = paths_of c.file_types.new.host in
-    subst (λ (f : _). Opens (played_with task) task.disk.now f.disk old new) (sym c.unbegun.ensures)
-    (begun_first (named (codes "types") task.types) (named (codes "lines") task.lines
+    subst (λ (f : _). Opens (played_with task) task.disk.now (fault_of f.result) f.disk old new)
+    (sym c.unbegun.ensures)
+    (inl (begun_first (named (codes "types") task.types) (named (codes "lines") task.lines
     ++ (named (codes "folder") task.folder ++ (named (codes "status") task.status
-    ++ (codes "packets", task.packets.now) ∷ []))) old new c.in-Err.ensures.opens)
+    ++ (codes "packets", task.packets.now) ∷ []))) old new c.in-Err.unbegun.refusal
+    c.in-Err.ensures.opens))
 
 pub returns-in-Err-line_folder-clause-opens : goal.returns-in-Err-line_folder-clause-opens
 returns-in-Err-line_folder-clause-opens g c =
@@ -157,10 +160,11 @@ returns-in-Err-line_folder-clause-opens g c =
     let old = paths_of c.args.host.now in
     let mid = paths_of c.file_types.new.host in
     let new = paths_of c.line_folder.new.host in
-    subst (λ (f : _). Opens (played_with task) task.disk.now f.disk old new)
+    let refusal = c.in-Err-line_folder.unbegun.refusal in
+    subst (λ (f : _). Opens (played_with task) task.disk.now (fault_of f.result) f.disk old new)
     (sym c.unbegun-in-Err-line_folder.ensures)
-    (begun_after types (lines ++ others) old mid new c.in-Ok.ensures.opens
-    (begun_first lines others mid new c.in-Err-line_folder.ensures.opens))
+    (inl (begun_after types (lines ++ others) old mid new refusal c.in-Ok.ensures.opens
+    (begun_first lines others mid new refusal c.in-Err-line_folder.ensures.opens)))
 
 pub returns-clause-opens : goal.returns-clause-opens
 returns-clause-opens g c =
@@ -171,16 +175,17 @@ returns-clause-opens g c =
     let status = named (codes "status") task.status in
     let packets = (codes "packets", task.packets.now) ∷ [] in
     let used = c.play_file.result.disk in
+    let ending = fault_of c.play_file.result.result in
     let first = paths_of c.file_types.new.host in
     let second = paths_of c.line_folder.new.host in
     let third = paths_of c.followed-folder.new.host in
     let fourth = paths_of c.status_file-status.new.host in
     let last = paths_of c.play_file.new.host in
-    opened_after types (lines ++ (folder ++ (status ++ packets))) task.disk.now used
+    opened_after types (lines ++ (folder ++ (status ++ packets))) task.disk.now ending used
     (paths_of c.args.host.now) first last c.in-Ok.ensures.opens
-    (opened_after lines (folder ++ (status ++ packets)) task.disk.now used first second last
+    (opened_after lines (folder ++ (status ++ packets)) task.disk.now ending used first second last
     c.in-Ok-line_folder.ensures.opens
-    (opened_after folder (status ++ packets) task.disk.now used second third last
+    (opened_after folder (status ++ packets) task.disk.now ending used second third last
     c.followed-folder.ensures.opens
-    (opened_after status packets task.disk.now used third fourth last
+    (opened_after status packets task.disk.now ending used third fourth last
     c.status_file-status.ensures.opens c.play_file.ensures.opens)))

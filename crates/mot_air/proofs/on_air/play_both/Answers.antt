@@ -101,4 +101,5 @@ returns-clause-ended g c = λ target begun is_first.
 
 pub returns-clause-opens : goal.returns-clause-opens
 returns-clause-opens g c = λ path others before after came.
-    subst (λ (f : _). Opens others path f.disk before after) (sym c.of_file.ensures) came
+    subst (λ (f : _). Opens others path (fault_of f.result) f.disk before after)
+    (sym c.of_file.ensures) came

@@ -1,4 +1,4 @@
-use Rattle.std.proofs.Common.{ℕ, [], ◌∷◌, ◌-◌, Bool, List, Option, Result, inl, subst, sym}
+use Rattle.std.proofs.Common.{ℕ, [], ◌∷◌, ◌∙◌, ◌-◌, Bool, List, Option, Result, inl, subst, sym}
 use Rattle.std.proofs.KnownBytes.{Keeps-refl}
 use Rattle.disk_store.specs.declared.file.start.Start.{Ghosts}
 use Rattle.mot_air.specs.Inner.Unbegun.{IsUnbegun}
@@ -9,7 +9,6 @@ use Rattle.std.specs.Prelude.{codes, option_map}
 use Rattle.mot_air.specs.Commands.{PlaysTo, played_as}
 use Rattle.mot_air.specs.Telling.{tale_with, watch_in, watched}
 use Rattle.mot_line_folder.specs.declared.folder.LineFolder.{LineFolder}
-use Rattle.mot_outcome.proofs.Laws.{opened_none}
 use Rattle.mot_air.proofs.on_air.play_file.Goals as goal
 use Rattle.mot_endpoints.specs.Opened.{paths_of}
 use Rattle.mot_shelf.specs.System.{shelf_path}
@@ -25,13 +24,13 @@ unbegun_so IsEarly IsEnded result used log is =
 
 pub returns-in-Ok-clause-ended : goal.returns-in-Ok-clause-ended
 returns-in-Ok-clause-ended g c =
-    let both = c.in-Ok.ensures in c.play_both.ensures.ended both.target both.begun both.first
+    let both = c.in-Ok.ensures in c.play_both-finished.ensures.ended both.target both.begun both.first
 
 pub returns-in-Ok-clause-opens : goal.returns-in-Ok-clause-opens
 returns-in-Ok-clause-opens g c =
-    c.play_both.ensures.opens c.args.airing.task.disk.now
+    c.play_both-finished.ensures.opens c.args.airing.task.disk.now
     ((codes "packets", c.args.airing.task.packets.now) ∷ []) (paths_of c.args.host.now)
-    (paths_of c.open_both.new.host) c.in-Ok.ensures.opens
+    (paths_of c.clear_after.new.host) (c.clear_after.ensures ∙ c.in-Ok.ensures.opens)
 
 pub returns-in-Err-clause-ended : goal.returns-in-Err-clause-ended
 returns-in-Err-clause-ended g c =
@@ -47,6 +46,4 @@ returns-in-Err-clause-ended g c =
 
 pub returns-in-Err-clause-opens : goal.returns-in-Err-clause-opens
 returns-in-Err-clause-opens g c =
-    opened_none ((codes "packets", c.args.airing.task.packets.now) ∷ [])
-    c.args.airing.task.disk.now c.in-Err.unbegun.disk (paths_of c.args.host.now)
-    (paths_of c.open_both.new.host) c.in-Err.ensures.refused.untouched c.in-Err.ensures.opens
+    c.in-Err.ensures.opens

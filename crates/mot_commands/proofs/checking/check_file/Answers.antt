@@ -4,7 +4,6 @@ use Rattle.std.proofs.KnownBytes.{Keeps-refl}
 use Rattle.mot_commands.specs.Commands.{ChecksFile}
 use Rattle.mot_outcome.specs.Outcome.{Finishes}
 use Rattle.mot_numbers.specs.declared.refusal.Refusal.TheVariants.{DeviceFault}
-use Rattle.mot_outcome.proofs.Laws.{none_opened}
 use Rattle.mot_outcome.specs.Outcome.{Opens}
 use Rattle.mot_commands.specs.Report.{Checks}
 use Rattle.disk_store.proofs.Laws.{since_opened}
@@ -29,11 +28,11 @@ returns-in-Err-clause-ended g c =
 
 pub returns-in-Ok-clause-files : goal.returns-in-Ok-clause-files
 returns-in-Ok-clause-files g c =
-    subst (λ (f : _). Opens [] c.args.path.now f.disk (paths_of c.args.host.now)
+    subst (λ (f : _). Opens [] c.args.path.now (fault_of f.result) f.disk (paths_of c.args.host.now)
     (paths_of c.finish.new.host)) (sym c.finish.ensures.ended.1)
     (c.finish.ensures.paths ∙ c.in-Ok.ensures.paths)
 
 pub returns-in-Err-clause-files : goal.returns-in-Err-clause-files
 returns-in-Err-clause-files g c =
-    subst (λ (f : _). Opens [] c.args.path.now f.disk (paths_of c.args.host.now)
-    (paths_of c.disk.new.self)) (sym c.unopened.ensures) (none_opened c.in-Err.ensures.paths)
+    subst (λ (f : _). Opens [] c.args.path.now (fault_of f.result) f.disk (paths_of c.args.host.now)
+    (paths_of c.disk.new.self)) (sym c.unopened.ensures) (inr (refl, c.in-Err.ensures.paths))

@@ -3,7 +3,7 @@ use Rattle.std.proofs.KnownBytes.{Keeps-refl}
 use Rattle.std.proofs.lemmas.List.Elements.{All-nil}
 use Rattle.mot_playout.specs.Attempts.{fault_of}
 use Rattle.mot_commands.specs.Commands.{FormatsFile, IsUnformatted, LooksFirst, OpensOrMakes}
-use Rattle.mot_outcome.proofs.Laws.{none_begun}
+use Rattle.mot_commands.specs.Commands.OpensOrMakes.{unbegun}
 use Rattle.mot_outcome.specs.Outcome.{Finishes}
 use Rattle.mot_commands.proofs.formatting.format_file.Goals as goal
 use Rattle.mot_endpoints.specs.Opened.{paths_of}
@@ -44,13 +44,13 @@ pub returns-then-not-is_valid-clause-files : goal.returns-then-not-is_valid-clau
 returns-then-not-is_valid-clause-files g c =
     let paths = paths_of c.args.host.now in
     subst (λ (f : _). OpensOrMakes (fault_of f.result) c.args.path.now f.disk paths paths)
-    (sym c.unbegun.ensures) (inl (none_begun [] paths))
+    (sym c.unbegun.ensures) (unbegun tt refl)
 
 pub returns-in-Some-clause-files : goal.returns-in-Some-clause-files
 returns-in-Some-clause-files g c =
     let paths = paths_of c.args.host.now in
     subst (λ (f : _). OpensOrMakes (fault_of f.result) c.args.path.now f.disk paths paths)
-    (sym c.unbegun-in-Some.ensures) (inl (none_begun [] paths))
+    (sym c.unbegun-in-Some.ensures) (unbegun tt refl)
 
 pub returns-in-None-clause-ended : goal.returns-in-None-clause-ended
 returns-in-None-clause-ended g c = c.format_free.ensures.ended

@@ -1,6 +1,7 @@
 use Rattle.mot_playout.specs.Attempts.{fault_of}
 use Rattle.std.proofs.Common.{◌∙◌, inl, inr, subst, sym}
-use Rattle.mot_commands.specs.Commands.{FormatsFile, IsUnformatted, OpensOrMakes}
+use Rattle.mot_commands.specs.Commands.{FormatsFile, IsUnformatted, MakesFile, OpensOrMakes}
+use Rattle.mot_commands.specs.Commands.OpensOrMakes.{opened, unopened}
 use Rattle.mot_outcome.specs.Outcome.{Finishes}
 use Rattle.mot_commands.specs.Report.{Formats}
 use Rattle.disk_store.proofs.Laws.{since_opened}
@@ -28,6 +29,22 @@ returns-in-Ok-clause-ended g c =
 
 pub returns-in-Ok-clause-files : goal.returns-in-Ok-clause-files
 returns-in-Ok-clause-files g c =
+    let geometry = c.args.geometry in
+    let directory = c.args.directory in
+    let last = c.format_disk-result.new.disk in
+    let old = g.W.Write.contents c.args.writer.now in
+    let new = g.W.Write.contents c.format_disk-result.new.writer in
+    let ending = fault_of c.format_disk-result.result in
+    let formats = c.format_disk-result.ensures in
+    let since = since_opened c.in-Ok.disk.disk last.disk (Formats geometry directory ending old new)
+    c.in-Ok.ensures.first last.begins (Formats-keeps geometry directory ending old new _ _ formats)
+    formats in
     subst (λ (f : _). OpensOrMakes (fault_of f.result) c.args.path.now f.disk
     (paths_of c.args.host.now) (paths_of c.finish.new.host)) (sym c.finish.ensures.ended.1)
-    (inl (c.finish.ensures.paths ∙ c.in-Ok.ensures.paths))
+    (opened since.begun (c.finish.ensures.paths ∙ c.in-Ok.ensures.paths))
+
+pub returns-in-Err-clause-files : goal.returns-in-Err-clause-files
+returns-in-Err-clause-files g c =
+    let done = c.format_new_file.result in
+    unopened (subst (λ before. MakesFile (fault_of done.result) c.args.path.now done.disk before
+    (paths_of c.format_new_file.new.host)) c.in-Err.ensures.paths c.format_new_file.ensures.files)

@@ -2,8 +2,8 @@ use Rattle.mot_playout.specs.Attempts.{fault_of}
 use Rattle.std.proofs.Common.{ℕ, List, [], ◌∷◌, ◌++◌, ◌∙◌, ap, append_assoc, inl, inr, refl, subst, sym}
 use Rattle.std.specs.Prelude.{codes}
 use Rattle.std.proofs.KnownBytes.{Keeps-refl}
-use Rattle.mot_commands.specs.Commands.{FormatsFile, IsUnformatted, OpensOrMakes}
-use Rattle.mot_outcome.proofs.Laws.{none_opened}
+use Rattle.mot_commands.specs.Commands.{FormatsFile, IsUnformatted, MakesFile}
+use Rattle.mot_commands.specs.Commands.MakesFile.{made, removed, unmade}
 use Rattle.mot_outcome.specs.Outcome.{Finishes}
 use Rattle.mot_commands.specs.Report.{Formats}
 use Rattle.mot_numbers.specs.Geometry.{length_of}
@@ -47,26 +47,23 @@ returns-clause-files g c =
     let new = g.W.Write.contents c.format_disk-result.new.writer in
     let ending = fault_of c.format_disk-result.result in
     let formats = c.format_disk-result.ensures in
-    let made = since_made c.in-Ok.disk.disk last.disk (Formats geometry directory ending old new)
+    let since = since_made c.in-Ok.disk.disk last.disk (Formats geometry directory ending old new)
     (length_of geometry) c.in-Ok.ensures.first (c.in-Ok.ensures.len ∙ c.length.ensures)
     last.begins (Formats-keeps geometry directory ending old new _ _ formats) formats in
-    subst (λ (f : _). OpensOrMakes (fault_of f.result) c.args.path.now f.disk
+    subst (λ (f : _). MakesFile (fault_of f.result) c.args.path.now f.disk
     (paths_of c.args.host.now) (paths_of c.if-is_unformatted.host)) (sym c.of_file.ensures)
     (elim c.if-is_unformatted.branch [
       | then-is_unformatted w ↦
-          let removed : List (List ℕ × List ℕ) = (codes "removed", c.args.path.now) ∷ [] in
-          inr (
-            c.is_unformatted.ensures w.if-is_unformatted.true,
-            made.begun,
-            ap paths_of w.host-is ∙ w.take_away.ensures
-                ∙ ap (λ l. l ++ removed) c.in-Ok.ensures.paths
-                ∙ append_assoc (paths_of c.args.host.now) _ removed,
-          )
-      | else-is_unformatted w ↦ inl (ap paths_of w.host-is ∙ c.in-Ok.ensures.paths)
+          let gone : List (List ℕ × List ℕ) = (codes "removed", c.args.path.now) ∷ [] in
+          removed since.begun (c.is_unformatted.ensures w.if-is_unformatted.true)
+          (ap paths_of w.host-is ∙ w.take_away.ensures ∙ ap (λ l. l ++ gone) c.in-Ok.ensures.paths
+          ∙ append_assoc (paths_of c.args.host.now) _ gone)
+      | else-is_unformatted w ↦
+          made since.begun (ap paths_of w.host-is ∙ c.in-Ok.ensures.paths)
     ])
 
 pub returns-in-Err-clause-files : goal.returns-in-Err-clause-files
 returns-in-Err-clause-files g c =
-    subst (λ (f : _). OpensOrMakes (fault_of f.result) c.args.path.now f.disk
+    subst (λ (f : _). MakesFile (fault_of f.result) c.args.path.now f.disk
     (paths_of c.args.host.now) (paths_of c.make_disk.new.self)) (sym c.unopened.ensures)
-    (inl (none_opened c.in-Err.ensures.paths))
+    (unmade tt refl c.in-Err.ensures.paths)

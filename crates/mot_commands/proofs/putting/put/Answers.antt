@@ -9,6 +9,7 @@ use Rattle.mot_endpoints.specs.Opened.{named, paths_of}
 use Rattle.mot_endpoints.specs.Types.{IsUntyped}
 use Rattle.mot_numbers.specs.declared.refusal.Refusal.TheVariants.{DeviceFault}
 use Rattle.mot_outcome.specs.Outcome.{Opens}
+use Rattle.mot_playout.specs.Attempts.{fault_of}
 
 pub returns-in-Ok-clause-ended : goal.returns-in-Ok-clause-ended
 returns-in-Ok-clause-ended g c =
@@ -37,15 +38,15 @@ returns-in-Err-clause-ended g c =
 
 pub returns-in-Ok-clause-files : goal.returns-in-Ok-clause-files
 returns-in-Ok-clause-files g c =
-    opened_behind (named (codes "types") c.args.types) c.args.path.now c.put_files.result.disk
-    (paths_of c.args.host.now) (paths_of c.file_types.new.host) (paths_of c.put_files.new.host)
+    opened_behind (named (codes "types") c.args.types) c.args.path.now
+    (fault_of c.put_files.result.result) c.put_files.result.disk (paths_of c.args.host.now) (paths_of c.file_types.new.host) (paths_of c.put_files.new.host)
     c.in-Ok.ensures.opens c.put_files.ensures.files
 
 pub returns-in-Err-clause-files : goal.returns-in-Err-clause-files
 returns-in-Err-clause-files g c =
-    subst (λ (f : _). Opens (named (codes "types") c.args.types) c.args.path.now f.disk
-    (paths_of c.args.host.now) (paths_of c.file_types.new.host)) (sym c.unbegun.ensures)
-    c.in-Err.ensures.opens
+    subst (λ (f : _). Opens (named (codes "types") c.args.types) c.args.path.now (fault_of f.result)
+    f.disk (paths_of c.args.host.now) (paths_of c.file_types.new.host)) (sym c.unbegun.ensures)
+    (inl c.in-Err.ensures.opens)
 
 pub returns-in-Ok-clause-looked : goal.returns-in-Ok-clause-looked
 returns-in-Ok-clause-looked g c =

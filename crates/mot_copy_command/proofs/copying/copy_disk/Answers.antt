@@ -6,13 +6,15 @@ use Rattle.disk_model.proofs.Laws.{reads_none}
 use Rattle.disk_model.specs.Disk.{OnlySyncs}
 use Rattle.disk_store.specs.File.{file_state}
 use Rattle.mot_cli.specs.Options.{geometry_over}
-use Rattle.mot_copy_command.specs.Command.{CopiesTo, IsUncopied}
+use Rattle.mot_copy_command.specs.Command.{ComesToCopy, CopiesTo, IsUncopied}
+use Rattle.mot_copy_command.specs.Command.ComesToCopy.{unbegun}
 use Rattle.mot_copy_command.specs.Command.IsUncopied.{bad_sizes, no_file, unopened}
 use Rattle.mot_copy_command.proofs.Lifts.{copies_to, looks_at, of_sizes}
 use Rattle.mot_numbers.specs.Geometry.{IsValid}
 use Rattle.mot_numbers.specs.declared.geometry.Geometry.{Geometry}
 use Rattle.mot_numbers.specs.declared.refusal.Refusal.{Refusal}
 use Rattle.mot_numbers.specs.declared.refusal.Refusal.TheVariants.{BadGeometry, DeviceFault}
+use Rattle.mot_endpoints.specs.Opened.{paths_of}
 use Rattle.mot_copy_command.proofs.copying.copy_disk.Goals as goal
 
 pub returns-in-Err-clause-ended : goal.returns-in-Err-clause-ended
@@ -95,3 +97,18 @@ returns-clause-looked g c =
     let after = g.Y.System.calls c.use_of.new.system in
     looks_at c.args.task.now.new.now c.copy_open.result.1 calls after c.use_of.ensures.looks
     c.in_default-use_of.ensures.free
+
+pub returns-in-Err-clause-files : goal.returns-in-Err-clause-files
+returns-in-Err-clause-files g c =
+    subst (λ (e : _). ComesToCopy (fault_of e.0.result) c.args.task.now.new.now e.1
+    (paths_of c.args.host.now) (paths_of c.clear_unfit.new.host)) (sym c.uncopied.ensures) (unbegun refl c.clear_unfit.ensures)
+
+pub returns-in_default-clause-files : goal.returns-in_default-clause-files
+returns-in_default-clause-files g c =
+    subst (λ (e : _). ComesToCopy (fault_of e.0.result) c.args.task.now.new.now e.1
+    (paths_of c.args.host.now) (paths_of c.args.host.now)) (sym c.uncopied-in_default.ensures) (unbegun refl refl)
+
+pub returns-in-Some-use_of-clause-files : goal.returns-in-Some-use_of-clause-files
+returns-in-Some-use_of-clause-files g c =
+    subst (λ (e : _). ComesToCopy (fault_of e.0.result) c.args.task.now.new.now e.1
+    (paths_of c.args.host.now) (paths_of c.args.host.now)) (sym c.uncopied-in-Some-use_of.ensures) (unbegun refl refl)

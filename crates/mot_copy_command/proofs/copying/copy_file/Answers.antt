@@ -39,7 +39,7 @@ pub returns-in-Err-clause-files : goal.returns-in-Err-clause-files
 returns-in-Err-clause-files g c =
     subst (λ (f : _). OpensTwo (fault_of f.result) c.args.task.now.disk.now c.args.task.now.new.now
     f.disk (paths_of c.args.host.now) (paths_of c.disk.new.self)) (sym c.unopened.ensures)
-    c.in-Err.ensures.paths
+    (refl, c.in-Err.ensures.paths)
 
 pub returns-in-Err-clause-looked : goal.returns-in-Err-clause-looked
 returns-in-Err-clause-looked g c =

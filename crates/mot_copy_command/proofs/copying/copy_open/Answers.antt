@@ -4,7 +4,8 @@ use Rattle.std.specs.Prelude.{codes}
 use Rattle.disk_model.specs.Disk.{OnlyReads}
 use Rattle.disk_store.proofs.Laws.{since_opened}
 use Rattle.disk_store.specs.File.{file_state}
-use Rattle.mot_copy_command.specs.Command.{ComesToCopy}
+use Rattle.mot_copy_command.specs.Command.{ComesToCopy, MakesCopy}
+use Rattle.mot_copy_command.specs.Command.ComesToCopy.{unopened}
 use Rattle.mot_copy_command.specs.Inner.{CopiesView}
 use Rattle.mot_copy_command.proofs.Lifts.{Known, comes_kept, opened_view}
 use Rattle.mot_copy_command.proofs.copying.copy_open.Goals as goal
@@ -67,3 +68,9 @@ returns-after-is_refused-clause-files g c =
     (sym c.end_of.ensures.made)
     (comes_kept view geometry ids ending old new mid now last.disk refl path end.1
     c.end_of.ensures.some c.end_of.ensures.to since.begun before _ come)
+
+pub returns-in-Err-clause-files : goal.returns-in-Err-clause-files
+returns-in-Err-clause-files g c =
+    let done = c.copy_to_new.result in
+    unopened (subst (λ before. MakesCopy (fault_of done.0.result) c.args.task.now.new.now done.1
+    before (paths_of c.copy_to_new.new.host)) c.in-Err.ensures.paths c.copy_to_new.ensures.files)

@@ -4,7 +4,8 @@ use Rattle.std.specs.Prelude.{codes}
 use Rattle.disk_model.specs.Disk.{OnlyReads}
 use Rattle.disk_store.proofs.Laws.{since_made}
 use Rattle.disk_store.specs.File.{file_state}
-use Rattle.mot_copy_command.specs.Command.{ComesToCopy}
+use Rattle.mot_copy_command.specs.Command.{MakesCopy}
+use Rattle.mot_copy_command.specs.Command.MakesCopy.{unmade}
 use Rattle.mot_copy_command.specs.Inner.{CopiesView}
 use Rattle.mot_copy_command.proofs.Lifts.{Known, comes_copied, comes_removed, made_view}
 use Rattle.mot_copy_command.proofs.copying.copy_to_new.Goals as goal
@@ -58,7 +59,7 @@ returns-clause-files g c =
     let end = c.end_of.result in
     let path = c.args.task.now.new.now in
     let before = paths_of c.args.host.now in
-    subst (λ (r : _). ComesToCopy (fault_of r) path end.1 before (paths_of c.if-is_refused.host))
+    subst (λ (r : _). MakesCopy (fault_of r) path end.1 before (paths_of c.if-is_refused.host))
     (sym c.end_of.ensures.made) (elim c.if-is_refused.branch [
       | then-is_refused w ↦
           let removed : List (List ℕ × List ℕ) = (codes "removed", path) ∷ [] in
@@ -67,7 +68,15 @@ returns-clause-files g c =
           since.begun before _
           (ap paths_of w.host-is ∙ w.take_away.ensures
           ∙ ap (λ l. l ++ removed) c.in-Ok.ensures.paths ∙ append_assoc before _ removed)
-      | else-is_refused w ↦ comes_copied ending path end.1 c.end_of.ensures.some
-          (c.is_refused.ensures.copied w.if-is_refused.false) before _
+      | else-is_refused w ↦
+          comes_copied view geometry ids ending old new mid now last.disk refl path end.1
+          c.end_of.ensures.some c.end_of.ensures.to
+          (c.is_refused.ensures.copied w.if-is_refused.false) since.begun before _
           (ap paths_of w.host-is ∙ c.in-Ok.ensures.paths)
     ])
+
+pub returns-in-Err-clause-files : goal.returns-in-Err-clause-files
+returns-in-Err-clause-files g c =
+    subst (λ (e : _). MakesCopy (fault_of e.0.result) c.args.task.now.new.now e.1
+    (paths_of c.args.host.now) (paths_of c.make_disk.new.self)) (sym c.uncopied.ensures)
+    (unmade refl refl c.in-Err.ensures.paths)

@@ -1,30 +1,114 @@
-use Rattle.std.proofs.Common.{Ok, rules, subst}
-use Rattle.mot_destinations.specs.Packets.{IsPlace}
+use Rattle.std.proofs.Common.{◌≡◌, ◌≢◌, ◌==◌, ℕ, List, None, Option, Some, Ok, Result, ap, if◌then◌else◌}
+use Rattle.std.proofs.Common.{refl, rules, subst, sym}
+use Rattle.std.specs.Prelude.{codes}
+use Rattle.mot_destinations.specs.Packets.{IsPlace, IsTarget, fault_of_turns, opened_handle, opened_path}
+use Rattle.mot_destinations.specs.Packets.{opened_to}
 use Rattle.mot_destinations.specs.Packets.OpensInto.{file, output, stream}
-use Rattle.mot_destinations.proofs.Opening.{opens}
+use Rattle.mot_destinations.specs.Packets.OpensPackets.{no_file, no_output, no_place, no_stream, no_turns}
+use Rattle.mot_destinations.specs.Packets.OpensPackets.{ready}
+use Rattle.mot_destinations.specs.declared.fault.Cause.{Cause}
+use Rattle.mot_destinations.specs.declared.fault.PacketsFault.{PacketsFault}
+use Rattle.mot_destinations.specs.declared.packets.Destination.{Destination}
+use Rattle.mot_destinations.specs.declared.packets.Opening.{Opening}
+use Rattle.mot_destinations.specs.declared.packets.Place.{Place}
+use Rattle.mot_destinations.specs.declared.packets.Target.{Target}
+use Rattle.mot_files.specs.declared.system.Handle.{Handle}
 use Rattle.mot_destinations.proofs.packets.open_packets.Goals as goal
 
-pub returns-then-eq-clause-calls : goal.returns-then-eq-clause-calls
-returns-then-eq-clause-calls g c =
-    opens g.S.System.calls c.args.path.now c.args.disk.now (g.S.System.calls c.args.system)
-    c.in_ok-handle.handle _ _ c.of.result c.of.ensures.destination c.of.ensures.handle
-    c.of.ensures.system (output c.in_ok-handle.ensures)
+-- what was opened, as it is handed out
+abbrev handed : Opening → Result (Handle × Destination) Cause
+handed opening = Ok (opened_handle opening, opened_to opening)
 
-pub returns-in-Stream-default-clause-calls : goal.returns-in-Stream-default-clause-calls
-returns-in-Stream-default-clause-calls g c =
-    opens g.S.System.calls c.args.path.now c.args.disk.now (g.S.System.calls c.args.system)
-    c.in_ok-handle-in-Stream-default.handle _ _ c.of-in-Stream-default.result
-    c.of-in-Stream-default.ensures.destination c.of-in-Stream-default.ensures.handle
-    c.of-in-Stream-default.ensures.system
-    (stream _ (subst (λ place. IsPlace c.args.path.now c.args.disk.now (Ok place)
-    (g.S.System.calls c.args.system) (g.S.System.calls c.place_at.new.system))
-    c.in-Stream-default.is-0 c.in_ok-place_at.ensures) c.in_ok-handle-in-Stream-default.ensures)
+-- what is not standard output
+elsewhere : (path : List ℕ) (target : Target) → path ≢ codes "-" → target ≢ Target.Output
+    → IsTarget path target
+elsewhere path target other is = (λ dash. absurd (other dash), λ out. absurd (is out))
 
-pub returns-in_default-Some-clause-calls : goal.returns-in_default-Some-clause-calls
-returns-in_default-Some-clause-calls g c =
-    opens g.S.System.calls c.args.path.now c.args.disk.now (g.S.System.calls c.args.system)
-    c.in_ok-handle-in_default-Some.handle _ _ c.of-in_default-Some.result
-    c.of-in_default-Some.ensures.destination c.of-in_default-Some.ensures.handle
-    c.of-in_default-Some.ensures.system
-    (file _ c.in_ok-place_at.field-0 c.in_ok-handle-in_default-Some.place (search rules)
-    c.in_ok-place_at.ensures c.in_ok-handle-in_default-Some.ensures)
+-- turns are asked for, and some
+counted : (count : ℕ) → (if count == 0 then Some PacketsFault.NoTurns else None) ≡ None
+    → Some count ≢ Some 0
+counted count e is =
+    let zero : count ≡ 0 = cc in
+    let same : Some PacketsFault.NoTurns ≡ None =
+    subst (λ (n : ℕ). (if n == 0 then Some PacketsFault.NoTurns else None) ≡ None) zero e in cc
+
+some : (count : ℕ) → Some count ≢ None
+some count is = cc
+
+asked : (found : Place) (turns : Option ℕ) → fault_of_turns found turns ≡ None
+    → (turns ≢ None) × (turns ≢ Some 0)
+asked Place.Nothing None e = absurd (let f : Some PacketsFault.NoPipe ≡ None = e in cc)
+asked Place.File None e = absurd (let f : Some PacketsFault.EndlessFile ≡ None = e in cc)
+asked Place.Stream None e = absurd (let f : Some PacketsFault.EndlessFile ≡ None = e in cc)
+asked Place.Nothing (Some count) e = (some count, counted count e)
+asked Place.File (Some count) e = (some count, counted count e)
+asked Place.Stream (Some count) e = (some count, counted count e)
+
+pub returns-in-Ok-clause-calls : goal.returns-in-Ok-clause-calls
+returns-in-Ok-clause-calls g c =
+    let dash : c.args.path.now ≡ codes "-" = search rules in
+    ready c.in-Ok.handle Destination.Output (ap handed c.of.ensures) (λ is. refl, λ is. dash)
+    (λ is. absurd (cc)) (output c.in-Ok.ensures)
+
+pub returns-in-Err-clause-calls : goal.returns-in-Err-clause-calls
+returns-in-Err-clause-calls g c =
+    let dash : c.args.path.now ≡ codes "-" = search rules in
+    no_output c.in-Err.fault refl dash c.in-Err.ensures
+
+pub returns-in-Err-place_at-clause-calls : goal.returns-in-Err-place_at-clause-calls
+returns-in-Err-place_at-clause-calls g c =
+    let other : c.args.path.now ≢ codes "-" = search rules in
+    no_place c.in-Err-place_at.fault refl other c.in-Err-place_at.ensures
+
+pub returns-in-Ok-open_stream-clause-calls : goal.returns-in-Ok-open_stream-clause-calls
+returns-in-Ok-open_stream-clause-calls g c =
+    let other : c.args.path.now ≢ codes "-" = search rules in
+    let old = g.S.System.calls c.args.system.now in
+    let mid = g.S.System.calls c.place_at.new.system in
+    ready c.in-Ok-open_stream.handle Destination.Stream (ap handed c.of-in-Ok-open_stream.ensures)
+    (elsewhere c.args.path.now Target.Stream other (λ is. cc)) (λ is. absurd (cc))
+    (stream mid (subst (λ place. IsPlace c.args.path.now c.args.disk.now (Ok place) old mid)
+    c.in-Stream.is c.in-Ok-place_at.ensures) c.in-Ok-open_stream.ensures)
+
+pub returns-in-Err-open_stream-clause-calls : goal.returns-in-Err-open_stream-clause-calls
+returns-in-Err-open_stream-clause-calls g c =
+    let other : c.args.path.now ≢ codes "-" = search rules in
+    let old = g.S.System.calls c.args.system.now in
+    let mid = g.S.System.calls c.place_at.new.system in
+    no_stream c.in-Err-open_stream.fault mid refl other
+    (subst (λ place. IsPlace c.args.path.now c.args.disk.now (Ok place) old mid) c.in-Stream.is
+    c.in-Ok-place_at.ensures) c.in-Err-open_stream.ensures
+
+pub returns-in-Some : goal.returns-in-Some
+returns-in-Some g c =
+    let other : c.args.path.now ≢ codes "-" = search rules in
+    record {
+      path = tt;
+      calls = no_turns c.in-Some.fault c.in-Ok-place_at.place refl other c.in_default.not-Stream
+          c.in-Ok-place_at.ensures (sym c.in-Some.ensures);
+    }
+
+pub returns-in-Ok-new_file : goal.returns-in-Ok-new_file
+returns-in-Ok-new_file g c =
+    let other : c.args.path.now ≢ codes "-" = search rules in
+    let place = c.in-Ok-place_at.place in
+    let asks : fault_of_turns place c.args.turns ≡ None = search rules in
+    record {
+      path = ap opened_path c.of-in-Ok-new_file.ensures;
+      calls = ready c.in-Ok-new_file.handle (Destination.File c.in-Ok-new_file.place)
+          (ap handed c.of-in-Ok-new_file.ensures)
+          (elsewhere c.args.path.now Target.File other (λ is. cc))
+          (λ is. asked place c.args.turns asks)
+          (file (g.S.System.calls c.place_at.new.system) place c.in-Ok-new_file.place
+          c.in_default.not-Stream c.in-Ok-place_at.ensures c.in-Ok-new_file.ensures);
+    }
+
+pub returns-in-Err-new_file : goal.returns-in-Err-new_file
+returns-in-Err-new_file g c =
+    let other : c.args.path.now ≢ codes "-" = search rules in
+    record {
+      path = tt;
+      calls = no_file c.in-Err-new_file.fault c.in-Ok-place_at.place
+          (g.S.System.calls c.place_at.new.system) refl other c.in_default.not-Stream
+          c.in-Ok-place_at.ensures c.in-Err-new_file.ensures;
+    }

@@ -1,5 +1,5 @@
 use Rattle.mot_playout.specs.Attempts.{fault_of}
-use Rattle.std.proofs.Common.{◌≡◌, ◌++◌, ◌∙◌, ◌∷◌, [], ap, subst}
+use Rattle.std.proofs.Common.{◌≡◌, ◌++◌, ◌∙◌, ◌∷◌, [], subst}
 use Rattle.std.proofs.KnownBytes.{Appends-trans}
 use Rattle.std.specs.Prelude.{Some}
 use Rattle.std.specs.Fmt.{decimal}

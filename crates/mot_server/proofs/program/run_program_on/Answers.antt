@@ -21,6 +21,7 @@ use Rattle.mot_outcome.specs.declared.exit.Exit.{Exit}
 use Rattle.mot_server.proofs.Asking.{IsNamed, lacks, lacks_none, memory_is, named_so, none_is}
 use Rattle.mot_server.proofs.Asking.{number_of_named}
 use Rattle.mot_server.proofs.Coming.{runs}
+use Rattle.mot_server.proofs.Idle.{explained_idle, taskless_idle}
 use Rattle.mot_server.proofs.program.run_program_on.Goals as goal
 use Rattle.mot_server.specs.Inner.Coming.{TellsWhy}
 use Rattle.mot_server.specs.Program.{Ends, IsBeginningRefusal, LooksFor, RunsTo, Uses}
@@ -70,19 +71,31 @@ returns-in_default-clause-lacking g c = λ lack.
 
 pub returns-in-Err-clause-files : goal.returns-in-Err-clause-files
 returns-in-Err-clause-files g c =
-    none (subst (λ (d : _). IsUntouched d) (sym c.explain.ensures.untouched) tt) refl
+    none (explained_idle (map g.S.AsStr.text c.args.words.now) c.in-Err.error c.in-Err.ensures.kinds
+    (g.W.Write.contents c.args.writer.now) (g.W.Write.contents c.explain.new.writer)
+    c.explain.result c.explain.ensures.told)
+    (subst (λ (d : _). IsUntouched d) (sym c.explain.ensures.untouched) tt) refl
 
 pub returns-in_default-clause-files : goal.returns-in_default-clause-files
 returns-in_default-clause-files g c =
-    none (subst (λ (e : _). IsUntouched e.disk) (sym c.unrefused.ensures) tt) refl
+    let words = map g.S.AsStr.text c.args.words.now in
+    let paths = paths_of c.args.host.now in
+    subst (λ (e : _). Uses words e paths paths) (sym c.unrefused.ensures)
+    (none (λ of_file. absurd of_file) tt refl)
 
 pub returns-in-Err-clause-looked : goal.returns-in-Err-clause-looked
 returns-in-Err-clause-looked g c =
-    none (subst (λ (d : _). IsUntouched d) (sym c.explain.ensures.untouched) tt) refl
+    none (explained_idle (map g.S.AsStr.text c.args.words.now) c.in-Err.error c.in-Err.ensures.kinds
+    (g.W.Write.contents c.args.writer.now) (g.W.Write.contents c.explain.new.writer)
+    c.explain.result c.explain.ensures.told)
+    (subst (λ (d : _). IsUntouched d) (sym c.explain.ensures.untouched) tt) refl
 
 pub returns-in_default-clause-looked : goal.returns-in_default-clause-looked
 returns-in_default-clause-looked g c =
-    none (subst (λ (e : _). IsUntouched e.disk) (sym c.unrefused.ensures) tt) refl
+    let words = map g.S.AsStr.text c.args.words.now in
+    let calls = g.Y.System.calls c.args.system.now in
+    subst (λ (e : _). UsesFiles IsTask LooksFor words e calls calls) (sym c.unrefused.ensures)
+    (none (λ of_file. absurd of_file) tt refl)
 
 -- ---- words that ask for no task
 
@@ -144,11 +157,17 @@ returns-in-Err-task_of-clause-lacking g c = λ lack.
 
 pub returns-in-Err-task_of-clause-files : goal.returns-in-Err-task_of-clause-files
 returns-in-Err-task_of-clause-files g c =
-    none (subst (λ (d : _). IsUntouched d) (sym c.tell_no_task.ensures.untouched) tt) refl
+    none (taskless_idle (map g.S.AsStr.text c.args.words.now) c.in-Some.name.now
+    (rows_of (found_of c.in-Some.rest.now)) c.in-Err-task_of.why c.tell_no_task.result
+    c.in-Err-task_of.ensures.why c.tell_no_task.ensures.told)
+    (subst (λ (d : _). IsUntouched d) (sym c.tell_no_task.ensures.untouched) tt) refl
 
 pub returns-in-Err-task_of-clause-looked : goal.returns-in-Err-task_of-clause-looked
 returns-in-Err-task_of-clause-looked g c =
-    none (subst (λ (d : _). IsUntouched d) (sym c.tell_no_task.ensures.untouched) tt) refl
+    none (taskless_idle (map g.S.AsStr.text c.args.words.now) c.in-Some.name.now
+    (rows_of (found_of c.in-Some.rest.now)) c.in-Err-task_of.why c.tell_no_task.result
+    c.in-Err-task_of.ensures.why c.tell_no_task.ensures.told)
+    (subst (λ (d : _). IsUntouched d) (sym c.tell_no_task.ensures.untouched) tt) refl
 
 -- ---- a task
 
@@ -198,7 +217,7 @@ returns-clause-looked g c =
     let name = c.in-Some.name.now in
     let rows = rows_of (found_of c.in-Some.rest.now) in
     let task = c.in-Ok-task_of.task in
-    subst (λ (e : _). UsesFiles IsTask LooksFor words e.disk (g.Y.System.calls c.args.system.now)
+    subst (λ (e : _). UsesFiles IsTask LooksFor words e (g.Y.System.calls c.args.system.now)
     (g.Y.System.calls c.execute-finished.new.system)) (sym c.conclude.ensures)
     (asked task ((AskBy-matched motcar_app words IsTask motcar_simple c.in-Ok.matches name rows
     c.in-Ok.ensures.matches c.in-Some.ensures.name c.in-Some.ensures.rows task).1

@@ -24,7 +24,7 @@ use Rattle.mot_outcome.specs.Outcome.{Opens}
 use Rattle.mot_playout.specs.Attempts.{fault_of}
 use Rattle.mot_server.specs.Inner.Coming.{ComesOut}
 use Rattle.mot_server.specs.Program.{LooksFor, UsesFor}
-use Rattle.mot_server.proofs.Coming.{comes_so, comes_told, comes_whole, fault_whole}
+use Rattle.mot_server.proofs.Coming.{comes_so, comes_told, comes_whole, fault_whole, opens_whole}
 use Rattle.mot_server.proofs.running.execute.Goals as goal
 
 pub returns-in-Memory-clause-ended : goal.returns-in-Memory-clause-ended
@@ -174,8 +174,9 @@ returns-in-Serve-clause-files g c =
     let new = paths_of c.serve_file.new.host in
     let done = c.whole-in-Serve.result in
     subst (λ (t : Task). UsesFor (fault_of done.result) t done.disk old new) (sym c.in-Serve.is)
-    (subst (λ (w : _). Opens [] c.in-Serve.path.now w.disk old new) (sym c.whole-in-Serve.ensures)
-    c.serve_file.ensures.files)
+    (subst (λ (w : _). Opens [] c.in-Serve.path.now (fault_of w.result) w.disk old new)
+    (sym c.whole-in-Serve.ensures)
+    (opens_whole c.serve_file.result.result c.in-Serve.path.now c.serve_file.result.disk old new c.serve_file.ensures.files))
 
 pub returns-in-Check-clause-files : goal.returns-in-Check-clause-files
 returns-in-Check-clause-files g c =
@@ -183,8 +184,9 @@ returns-in-Check-clause-files g c =
     let new = paths_of c.check_file.new.host in
     let done = c.whole-in-Check.result in
     subst (λ (t : Task). UsesFor (fault_of done.result) t done.disk old new) (sym c.in-Check.is)
-    (subst (λ (w : _). Opens [] c.in-Check.path.now w.disk old new) (sym c.whole-in-Check.ensures)
-    c.check_file.ensures.files)
+    (subst (λ (w : _). Opens [] c.in-Check.path.now (fault_of w.result) w.disk old new)
+    (sym c.whole-in-Check.ensures)
+    (opens_whole c.check_file.result.result c.in-Check.path.now c.check_file.result.disk old new c.check_file.ensures.files))
 
 pub returns-in-Migrate-clause-files : goal.returns-in-Migrate-clause-files
 returns-in-Migrate-clause-files g c =
@@ -192,8 +194,9 @@ returns-in-Migrate-clause-files g c =
     let new = paths_of c.migrate_file.new.host in
     let done = c.whole-in-Migrate.result in
     subst (λ (t : Task). UsesFor (fault_of done.result) t done.disk old new) (sym c.in-Migrate.is)
-    (subst (λ (w : _). Opens [] c.in-Migrate.path.now w.disk old new) (sym c.whole-in-Migrate.ensures)
-    c.migrate_file.ensures.files)
+    (subst (λ (w : _). Opens [] c.in-Migrate.path.now (fault_of w.result) w.disk old new)
+    (sym c.whole-in-Migrate.ensures)
+    (opens_whole c.migrate_file.result.result c.in-Migrate.path.now c.migrate_file.result.disk old new c.migrate_file.ensures.files))
 
 pub returns-in-Export-clause-files : goal.returns-in-Export-clause-files
 returns-in-Export-clause-files g c =
@@ -201,8 +204,9 @@ returns-in-Export-clause-files g c =
     let new = paths_of c.export_file.new.host in
     let done = c.whole-in-Export.result in
     subst (λ (t : Task). UsesFor (fault_of done.result) t done.disk old new) (sym c.in-Export.is)
-    (subst (λ (w : _). Opens [] c.in-Export.path.now w.disk old new) (sym c.whole-in-Export.ensures)
-    c.export_file.ensures.files)
+    (subst (λ (w : _). Opens [] c.in-Export.path.now (fault_of w.result) w.disk old new)
+    (sym c.whole-in-Export.ensures)
+    (opens_whole c.export_file.result.result c.in-Export.path.now c.export_file.result.disk old new c.export_file.ensures.files))
 
 pub returns-in-Inspect-clause-files : goal.returns-in-Inspect-clause-files
 returns-in-Inspect-clause-files g c =
@@ -210,8 +214,9 @@ returns-in-Inspect-clause-files g c =
     let new = paths_of c.inspect_file.new.host in
     let done = c.whole-in-Inspect.result in
     subst (λ (t : Task). UsesFor (fault_of done.result) t done.disk old new) (sym c.in-Inspect.is)
-    (subst (λ (w : _). Opens [] c.in-Inspect.disk.now w.disk old new) (sym c.whole-in-Inspect.ensures)
-    c.inspect_file.ensures.files)
+    (subst (λ (w : _). Opens [] c.in-Inspect.disk.now (fault_of w.result) w.disk old new)
+    (sym c.whole-in-Inspect.ensures)
+    (opens_whole c.inspect_file.result.result c.in-Inspect.disk.now c.inspect_file.result.disk old new c.inspect_file.ensures.files))
 
 pub returns-in-Memory-clause-files : goal.returns-in-Memory-clause-files
 returns-in-Memory-clause-files g c =
@@ -384,8 +389,9 @@ returns-in-ListObjects-clause-files g c =
     let new = paths_of c.list_file.new.host in
     let done = c.whole-in-ListObjects.result in
     subst (λ (t : Task). UsesFor (fault_of done.result) t done.disk old new) (sym c.in-ListObjects.is)
-    (subst (λ (w : _). Opens [] c.in-ListObjects.path.now w.disk old new) (sym c.whole-in-ListObjects.ensures)
-    c.list_file.ensures.files)
+    (subst (λ (w : _). Opens [] c.in-ListObjects.path.now (fault_of w.result) w.disk old new)
+    (sym c.whole-in-ListObjects.ensures)
+    (opens_whole c.list_file.result.result c.in-ListObjects.path.now c.list_file.result.disk old new c.list_file.ensures.files))
 
 pub returns-in-GetBody-clause-files : goal.returns-in-GetBody-clause-files
 returns-in-GetBody-clause-files g c =
@@ -393,8 +399,9 @@ returns-in-GetBody-clause-files g c =
     let new = paths_of c.get_file.new.host in
     let done = c.whole-in-GetBody.result in
     subst (λ (t : Task). UsesFor (fault_of done.result) t done.disk old new) (sym c.in-GetBody.is)
-    (subst (λ (w : _). Opens [] c.in-GetBody.disk.now w.disk old new) (sym c.whole-in-GetBody.ensures)
-    c.get_file.ensures.files)
+    (subst (λ (w : _). Opens [] c.in-GetBody.disk.now (fault_of w.result) w.disk old new)
+    (sym c.whole-in-GetBody.ensures)
+    (opens_whole c.get_file.result.result c.in-GetBody.disk.now c.get_file.result.disk old new c.get_file.ensures.files))
 
 pub returns-in-TrySync-clause-files : goal.returns-in-TrySync-clause-files
 returns-in-TrySync-clause-files g c =

@@ -1,9 +1,9 @@
-use Rattle.std.proofs.Common.{◌≡◌, ◌∙◌, ℕ, List, [], ◌∷◌, false, refl, subst, sym}
+use Rattle.std.proofs.Common.{◌≡◌, ◌∙◌, ℕ, List, [], ◌∷◌, false, inr, refl, subst, sym}
 use Rattle.std.specs.Prelude.{codes}
 use Rattle.std.specs.Result.{result_unwrap_or}
 use Rattle.disk_store.specs.Begun.{begun_state}
 use Rattle.disk_store.proofs.Laws.{since_opened}
-use Rattle.mot_endpoints.specs.Opened.{paths_of}
+use Rattle.mot_endpoints.specs.Opened.{in_vain, paths_of}
 use Rattle.mot_outcome.specs.Outcome.{Concludes}
 use Rattle.mot_sync_command.specs.Trying.{Tries, TriesTo}
 use Rattle.mot_outcome.proofs.Laws.{concludes_so}
@@ -53,15 +53,20 @@ returns-in-Ok-clause-ended g c =
 pub returns-in-Ok-clause-opens : goal.returns-in-Ok-clause-opens
 returns-in-Ok-clause-opens g c =
     let folder = (codes "folder", c.args.folder.now) ∷ [] in
-    subst (λ (f : _). Opens folder c.args.path.now f.disk (paths_of c.args.host.now)
-    (paths_of c.disk.new.self)) (sym c.of_file.ensures)
+    subst (λ (f : _). Opens folder c.args.path.now (fault_of f.result) f.disk (paths_of c.args.host.now)
+    (paths_of c.clear_after.new.host)) (sym c.of_file.ensures)
     (opened_whole folder [] ((codes "disk", c.args.path.now) ∷ []) (paths_of c.args.host.now)
-    (paths_of c.folder-shelf.new.self) (paths_of c.disk.new.self) c.folder-shelf.ensures.paths
-    c.in-Ok.ensures.paths)
+    (paths_of c.folder-shelf.new.self) (paths_of c.clear_after.new.host)
+    c.folder-shelf.ensures.paths (c.clear_after.ensures ∙ c.in-Ok.ensures.paths))
 
 pub returns-in-Err-clause-opens : goal.returns-in-Err-clause-opens
 returns-in-Err-clause-opens g c =
     let folder = (codes "folder", c.args.folder.now) ∷ [] in
-    subst (λ (f : _). Opens folder c.args.path.now f.disk (paths_of c.args.host.now)
+    subst (λ (f : _). Opens folder c.args.path.now (fault_of f.result) f.disk (paths_of c.args.host.now)
     (paths_of c.disk.new.self)) (sym c.unopened.ensures)
-    (folder, [], refl, c.in-Err.ensures.paths ∙ c.folder-shelf.ensures.paths)
+    (inr (
+      refl,
+      opened_whole folder [] (in_vain (codes "disk") c.args.path.now ∷ [])
+          (paths_of c.args.host.now) (paths_of c.folder-shelf.new.self) (paths_of c.disk.new.self)
+          c.folder-shelf.ensures.paths c.in-Err.ensures.paths,
+    ))

@@ -10,11 +10,13 @@ use Rattle.mot_sync_command.specs.Trying.{TriesTask, TriesTo}
 use Rattle.mot_endpoints.specs.Opened.{named, paths_of}
 use Rattle.mot_numbers.specs.declared.refusal.Refusal.TheVariants.{DeviceFault}
 use Rattle.mot_outcome.specs.Outcome.{Opens}
+use Rattle.mot_playout.specs.Attempts.{fault_of}
 
 pub returns-in-Ok-clause-opens : goal.returns-in-Ok-clause-opens
 returns-in-Ok-clause-opens g c =
     opened_after (named (codes "types") c.args.types) ((codes "folder", c.args.folder.now) ∷ [])
-    c.args.path.now c.try_file.result.disk (paths_of c.args.host.now)
+    c.args.path.now (fault_of c.try_file.result.result) c.try_file.result.disk
+    (paths_of c.args.host.now)
     (paths_of c.file_types.new.host) (paths_of c.try_file.new.host) c.in-Ok.ensures.opens
     c.try_file.ensures.opens
 
@@ -24,9 +26,10 @@ returns-in-Err-clause-opens g c =
     let others = (codes "folder", c.args.folder.now) ∷ [] in
     let old = paths_of c.args.host.now in
     let new = paths_of c.file_types.new.host in
-    subst (λ (f : _). Opens (types ++ others) c.args.path.now f.disk old new)
+    subst (λ (f : _). Opens (types ++ others) c.args.path.now (fault_of f.result) f.disk
+    old new)
     (sym c.unbegun.ensures)
-    (begun_first types others old new c.in-Err.ensures.opens)
+    (inl (begun_first types others old new c.in-Err.unbegun.refusal c.in-Err.ensures.opens))
 
 pub returns-in-Ok-clause-ended : goal.returns-in-Ok-clause-ended
 returns-in-Ok-clause-ended g c =
