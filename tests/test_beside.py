@@ -15,7 +15,7 @@ COMMANDS = (
     ("copy", "new"),
     ("sync", "objects"),
     ("sync", "objects", "--dry-run"),
-    ("play", "-"),
+    ("play", "-", "--turns", "1"),
     ("play", "packets", "--turns", "1"),
 )
 
@@ -80,6 +80,7 @@ class Beside(Case):
     def test_a_disk_has_it(self):
         self.new_disk("disk")
         self.expect("after format", ["disk", "disk-wal"], self.names())
-        (self.room / "disk-wal").unlink()
-        self.motcar("check", "disk")
-        self.expect("and after check", ["disk", "disk-wal"], self.names())
+        for command, *words in COMMANDS:
+            (self.room / "disk-wal").unlink()
+            self.motcar(command, "disk", *words)
+            self.expect(f"and after {command} {words}", True, "disk-wal" in self.names())
