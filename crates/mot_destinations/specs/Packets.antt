@@ -185,18 +185,18 @@ pub data OpensInto (path disk : List ℕ) (handle : Handle) (old new : List Call
       → OpensInto path disk handle old new (Destination.File place)
 
 -- what was opened, by which path, and where packets go that are written to it
-abbrev pub opened_path : Opening → List ℕ
-opened_path opening = opening.path.now
+abbrev pub opening_path : Opening → List ℕ
+opening_path opening = opening.path.now
 
-abbrev pub opened_handle : Opening → Handle
-opened_handle opening = opening.handle
+abbrev pub opening_handle : Opening → Handle
+opening_handle opening = opening.handle
 
-abbrev pub opened_to : Opening → Destination
-opened_to opening = opening.destination
+abbrev pub opening_destination : Opening → Destination
+opening_destination opening = opening.destination
 
-abbrev pub opened_so : Result Opening Cause → Result (Handle × Destination) Cause
-opened_so (Ok opening) = Ok (opened_handle opening, opened_to opening)
-opened_so (Err cause) = Err cause
+abbrev pub opening_parts : Result Opening Cause → Result (Handle × Destination) Cause
+opening_parts (Ok opening) = Ok (opening_handle opening, opening_destination opening)
+opening_parts (Err cause) = Err cause
 
 -- What a path names is opened to take packets of so many turns; or it is refused: by what the
 -- system said, or by what stands there, or because no turns are asked for that end.

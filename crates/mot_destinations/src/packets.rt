@@ -3,7 +3,8 @@ ghost use Rattle.std.specs.Prelude.{◌≡◌, ◌≢◌, ◌≤◌, ◌↔◌, 
 ghost use Rattle.std.specs.Prelude.{MatchResult, OnOk, Ok, Result, length, take};
 ghost use Rattle.mot_destinations.specs.Packets.{BeginsBeside, BeginsNone, IsAnswer, IsPlace};
 ghost use Rattle.mot_destinations.specs.Packets.{IsPlaced, OpensPackets, fault_of_turns};
-ghost use Rattle.mot_destinations.specs.Packets.{opened_handle, opened_path, opened_so, opened_to};
+ghost use Rattle.mot_destinations.specs.Packets.{opening_destination, opening_handle};
+ghost use Rattle.mot_destinations.specs.Packets.{opening_parts, opening_path};
 ghost use Rattle.mot_destinations.specs.Packets.{IsReason, IsTakenAway, IsTarget, OpensInto};
 ghost use Rattle.mot_destinations.specs.Packets.{OpensOutput, OpensStream, TakesItsPlace};
 ghost use Rattle.mot_destinations.specs.Packets.{TakesPlace, TellsWhy, begun_of, destination_of};
@@ -100,9 +101,9 @@ pub struct OpenPackets<'a, S: System + Drop> {
 impl<'a, S: System + Drop> OpenPackets<'a, S> {
     /// What was opened, in this system of files. Nothing was written to it.
     pub fn new(system: S, opening: Opening<'a>) -> OpenPackets<'a, S>
-        ensures destination { destination_of result ≡ opened_to opening.entry }
-        ensures begun { begun_of result ≡ opened_path opening.entry ∷ [] }
-        ensures handle { writer_handle result.writer ≡ opened_handle opening.entry }
+        ensures destination { destination_of result ≡ opening_destination opening.entry }
+        ensures begun { begun_of result ≡ opening_path opening.entry ∷ [] }
+        ensures handle { writer_handle result.writer ≡ opening_handle opening.entry }
         ensures system { writer_system result.writer ≡ system }
     {
         let Opening {
@@ -228,8 +229,8 @@ pub fn open_packets<'a, S: System>(
     disk: &str,
     turns: Option<u32>,
 ) -> Result<Opening<'a>, Cause>
-    ensures path { IfOk result (λ opening. opened_path opening ≡ path.now) }
-    ensures calls { OpensPackets path.now disk.now turns (opened_so result)
+    ensures path { IfOk result (λ opening. opening_path opening ≡ path.now) }
+    ensures calls { OpensPackets path.now disk.now turns (opening_parts result)
         (S.calls system.old) (S.calls system.new) }
 {
     if path == OUTPUT {

@@ -20,9 +20,9 @@ abbrev pub in_vain : (kind path : List ℕ) → List ℕ × List ℕ
 in_vain kind path = (codes "no " ++ kind, path)
 
 -- which of both is noted, by what was answered
-abbrev pub noted : {A E : Type 0} → (kind path : List ℕ) → Result A E → List ℕ × List ℕ
-noted kind path (Ok value) = (kind, path)
-noted kind path (Err error) = in_vain kind path
+abbrev pub note_of : {A E : Type 0} → (kind path : List ℕ) → Result A E → List ℕ × List ℕ
+note_of kind path (Ok value) = (kind, path)
+note_of kind path (Err error) = in_vain kind path
 
 -- the refusal of a command that tried that in vain
 abbrev pub fault_for : (kind : List ℕ) → Refusal

@@ -5,7 +5,7 @@ ghost use Rattle.std.specs.Prelude.{codes, false, length, true};
 ghost use Rattle.disk_store.specs.Beginning.{IsFirst};
 ghost use Rattle.disk_store.specs.File.{file_state};
 ghost use Rattle.mot_endpoints.specs.LinePlaces.{ChecksLines};
-ghost use Rattle.mot_endpoints.specs.Opened.{noted, paths_of};
+ghost use Rattle.mot_endpoints.specs.Opened.{note_of, paths_of};
 ghost use Rattle.mot_destinations.specs.Packets.{IsTarget, OpensInto, OpensPackets, begun_of};
 ghost use Rattle.mot_destinations.specs.Packets.{destination_of};
 ghost use Rattle.mot_files.specs.Call.{Call};
@@ -57,6 +57,24 @@ impl<'a> Host<'a> {
         HostSystem::new(self.rt, self.rt.alloc(), self.rt.stdout())
     }
 
+    /// Notes by which path it came to such a thing, or tried in vain to, and hands on what came of it.
+    fn note<T, E>(
+        &mut self,
+        kind: &[u8],
+        vain: &[u8],
+        path: &str,
+        answer: Result<T, E>,
+    ) -> Result<T, E>
+        requires { vain.now ≡ codes "no " ++ kind.now }
+        ensures same { result ≡ answer }
+        ensures paths { paths_of self.new
+            ≡ paths_of self.old ++ note_of kind.now path.now answer ∷ [] }
+    {
+        let word = if answer.is_ok() { kind } else { vain };
+        self.paths.note(word, path.as_bytes());
+        answer
+    }
+
     /// Opens the file at the path as a disk.
     pub fn disk<S: Start>(
         &mut self,
@@ -65,19 +83,11 @@ impl<'a> Host<'a> {
     ) -> Result<BegunFile<S, WasThere>, Unopened<S>>
         ensures first { IfOk result (λ file. IsFirst false file.disk) }
         ensures paths { paths_of self.new
-            ≡ paths_of self.old ++ noted (codes "disk") path.now result ∷ [] }
+            ≡ paths_of self.old ++ note_of (codes "disk") path.now result ∷ [] }
     {
         self.side = SideFile::of_target(self.rt, path).ok();
-        match open_file(self.rt, path, start) {
-            Ok(file) => {
-                self.paths.note(b"disk", path.as_bytes());
-                Ok(file)
-            }
-            Err(unopened) => {
-                self.paths.note(b"no disk", path.as_bytes());
-                Err(unopened)
-            }
-        }
+        let opened = open_file(self.rt, path, start);
+        self.note(b"disk", b"no disk", path, opened)
     }
 
     /// Makes a new file of so many zeros, as a disk.
@@ -90,7 +100,7 @@ impl<'a> Host<'a> {
         ensures first { IfOk result (λ file. IsFirst true file.disk) }
         ensures len { IfOk result (λ file. (file_state file.disk).len ≡ len) }
         ensures paths { paths_of self.new
-            ≡ paths_of self.old ++ noted (codes "disk") path.now result ∷ [] }
+            ≡ paths_of self.old ++ note_of (codes "disk") path.now result ∷ [] }
     {
         let made = match SideFile::of(self.rt, path) {
             Ok(side) => {
@@ -102,16 +112,7 @@ impl<'a> Host<'a> {
                 Err(Unopened::of(start, error))
             }
         };
-        match made {
-            Ok(file) => {
-                self.paths.note(b"disk", path.as_bytes());
-                Ok(file)
-            }
-            Err(unmade) => {
-                self.paths.note(b"no disk", path.as_bytes());
-                Err(unmade)
-            }
-        }
+        self.note(b"disk", b"no disk", path, made)
     }
 
     /// Removes the empty file that the last opening of a disk has made beside its file, if it can:
@@ -151,7 +152,7 @@ impl<'a> Host<'a> {
         ensures turns { IfOk result (λ opened. target_of opened ≡ Target.File
             → (turns ≢ None) × (turns ≢ Some 0)) }
         ensures paths { paths_of self.new
-            ≡ paths_of self.old ++ noted (codes "packets") path.now result ∷ [] }
+            ≡ paths_of self.old ++ note_of (codes "packets") path.now result ∷ [] }
         ensures calls { IfOk result (λ opened. OpensInto path.now disk.now
             (writer_handle opened.writer) [] (calls_of (writer_system opened.writer))
             (destination_of opened)) }
@@ -160,15 +161,10 @@ impl<'a> Host<'a> {
             × OpensPackets path.now disk.now turns (Err cause) [] calls) }
     {
         let mut system = self.system();
-        match open_packets(&mut system, self.rt.alloc(), path, disk, turns) {
-            Ok(opening) => {
-                self.paths.note(b"packets", path.as_bytes());
-                Ok(OpenPackets::new(system, opening))
-            }
-            Err(cause) => {
-                self.paths.note(b"no packets", path.as_bytes());
-                Err(cause)
-            }
+        let opening = open_packets(&mut system, self.rt.alloc(), path, disk, turns);
+        match self.note(b"packets", b"no packets", path, opening) {
+            Ok(opening) => Ok(OpenPackets::new(system, opening)),
+            Err(cause) => Err(cause),
         }
     }
 
@@ -197,20 +193,15 @@ impl<'a> Host<'a> {
     ) -> Result<LinePlace<'a, HostSystem<'a, HostRuntime>>, LinesFault>
         ensures path { IfOk result (λ place. place.path ≡ path.entry) }
         ensures paths { paths_of self.new
-            ≡ paths_of self.old ++ noted (codes "lines") path.now result ∷ [] }
+            ≡ paths_of self.old ++ note_of (codes "lines") path.now result ∷ [] }
         ensures checked { IfOk result (λ place. ChecksLines path.now others.entry (Ok tt)
             [] (calls_of place.system)) }
     {
         let mut system = HostSystem::new(self.rt, self.rt.alloc(), self.rt.stdout());
-        match check_folder(&mut system, path, others) {
-            Ok(()) => {
-                self.paths.note(b"lines", path.as_bytes());
-                Ok(LinePlace::new(system, path))
-            }
-            Err(fault) => {
-                self.paths.note(b"no lines", path.as_bytes());
-                Err(fault)
-            }
+        let fit = check_folder(&mut system, path, others);
+        match self.note(b"lines", b"no lines", path, fit) {
+            Ok(()) => Ok(LinePlace::new(system, path)),
+            Err(fault) => Err(fault),
         }
     }
 
@@ -218,18 +209,10 @@ impl<'a> Host<'a> {
     pub fn types(&mut self, alloc: Global, path: &str) -> Result<Vec<u8>, TypesFault>
         ensures len { IfOk result (λ text. length text.items ≤ 65536) }
         ensures paths { paths_of self.new
-            ≡ paths_of self.old ++ noted (codes "types") path.now result ∷ [] }
+            ≡ paths_of self.old ++ note_of (codes "types") path.now result ∷ [] }
     {
-        match read_text(&mut self.system(), alloc, path) {
-            Ok(text) => {
-                self.paths.note(b"types", path.as_bytes());
-                Ok(text)
-            }
-            Err(fault) => {
-                self.paths.note(b"no types", path.as_bytes());
-                Err(fault)
-            }
-        }
+        let text = read_text(&mut self.system(), alloc, path);
+        self.note(b"types", b"no types", path, text)
     }
 
     /// The file of the status at the path, to which nothing was written.

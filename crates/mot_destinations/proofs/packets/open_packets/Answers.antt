@@ -1,8 +1,8 @@
 use Rattle.std.proofs.Common.{◌≡◌, ◌≢◌, ◌==◌, ℕ, List, None, Option, Some, Ok, Result, ap, if◌then◌else◌}
 use Rattle.std.proofs.Common.{refl, rules, subst, sym}
 use Rattle.std.specs.Prelude.{codes}
-use Rattle.mot_destinations.specs.Packets.{IsPlace, IsTarget, fault_of_turns, opened_handle, opened_path}
-use Rattle.mot_destinations.specs.Packets.{opened_to}
+use Rattle.mot_destinations.specs.Packets.{IsPlace, IsTarget, fault_of_turns, opening_handle, opening_path}
+use Rattle.mot_destinations.specs.Packets.{opening_destination}
 use Rattle.mot_destinations.specs.Packets.OpensInto.{file, output, stream}
 use Rattle.mot_destinations.specs.Packets.OpensPackets.{no_file, no_output, no_place, no_stream, no_turns}
 use Rattle.mot_destinations.specs.Packets.OpensPackets.{ready}
@@ -17,7 +17,7 @@ use Rattle.mot_destinations.proofs.packets.open_packets.Goals as goal
 
 -- what was opened, as it is handed out
 abbrev handed : Opening → Result (Handle × Destination) Cause
-handed opening = Ok (opened_handle opening, opened_to opening)
+handed opening = Ok (opening_handle opening, opening_destination opening)
 
 -- what is not standard output
 elsewhere : (path : List ℕ) (target : Target) → path ≢ codes "-" → target ≢ Target.Output
@@ -94,7 +94,7 @@ returns-in-Ok-new_file g c =
     let place = c.in-Ok-place_at.place in
     let asks : fault_of_turns place c.args.turns ≡ None = search rules in
     record {
-      path = ap opened_path c.of-in-Ok-new_file.ensures;
+      path = ap opening_path c.of-in-Ok-new_file.ensures;
       calls = ready c.in-Ok-new_file.handle (Destination.File c.in-Ok-new_file.place)
           (ap handed c.of-in-Ok-new_file.ensures)
           (elsewhere c.args.path.now Target.File other (λ is. cc))
