@@ -49,7 +49,9 @@ class Follow(AirCase):
         objects = self.objects(self.place)
         self.expect("and stored", (True, False), ("k.png" in objects, "i.png" in objects))
         self.expect("clean after a kill", True, b"\nclean\n" in self.motcar("check", self.place)[1])
-        self.expect("a refusal is logged once", 4, sum("refused" in it for it in told))
+        # (a look may come to i.png just after it has gone, and says so)
+        names = sorted(it[5:].split(" refused")[0] for it in told if " refused " in it and not it.startswith("read i.png "))
+        self.expect("a refusal is logged once", ["a.txt", "c.HTM", "two words.txt", "two?lines.txt"], names)
         self.expect("and a name that is skipped", 1, told.count("skip notes.doc suffix"))
 
     def test_a_refusal_that_comes_again(self):
