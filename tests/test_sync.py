@@ -231,15 +231,20 @@ class Images(AirCase):
     def test_while_it_plays(self):
         folder = self.folder({"a.jpg": JPEG})
         player = self.player(self.place, "/dev/null", "--at-once", "--folder", folder)
+
+        def settled(lines):
+            """The lines but those of a look that met the file just as it became another."""
+            return [it for it in lines if it != "read a.jpg changed, next look"]
+
         wanted = ["put a.jpg"]
         for content, by_bytes in ((PNG, "PNG"), (b"x", "unknown"), (JPEG, "JPEG"), (PNG + b"x", "PNG")):
-            until(lambda: len(player.told()) >= len(wanted))
+            until(lambda: len(settled(player.told())) >= len(wanted))
             (self.room / "new").write_bytes(content)
             os.rename(self.room / "new", folder / "a.jpg")
             note = f"note a.jpg JPEG by its suffix, {by_bytes} by its bytes"
             wanted += [*([] if by_bytes == "JPEG" else [note]), "replace a.jpg"]
-        until(lambda: len(player.told()) >= len(wanted))
-        told = [it.split(" done")[0] for it in player.end()]
+        until(lambda: len(settled(player.told())) >= len(wanted))
+        told = [it.split(" done")[0] for it in settled(player.end())]
         self.expect("each time that it is another type", wanted, told)
 
     def test_what_has_no_room(self):
