@@ -1,8 +1,11 @@
 """Loop devices: files that a test attaches as block devices, and mounts."""
 import contextlib
+import errno
 import os
 import shutil
 import subprocess
+
+from .air import until
 
 
 def has_loop_devices():
@@ -13,6 +16,22 @@ def has_loop_devices():
 def word(*words):
     """What a tool that has to succeed prints."""
     return subprocess.run([str(it) for it in words], check=True, capture_output=True, timeout=60).stdout.decode().strip()
+
+
+def make_ext4(device):
+    """Makes a file system, and leaves nothing of it to be written later."""
+    word("mkfs.ext4", "-q", "-E", "lazy_itable_init=0,lazy_journal_init=0", device)
+
+
+def is_free(device):
+    """Whether no file system is mounted of a device, also in a copy of the mounts that another test has made."""
+    try:
+        os.close(os.open(device, os.O_RDONLY | os.O_EXCL))
+    except OSError as error:
+        if error.errno != errno.EBUSY:
+            raise
+        return False
+    return True
 
 
 class Loops:
@@ -39,3 +58,5 @@ class Loops:
             yield folder
         finally:
             word("umount", folder)
+            if not until(lambda: is_free(device)):
+                raise RuntimeError(f"{device} is still mounted elsewhere")

@@ -5,7 +5,7 @@ import shutil
 import subprocess
 import unittest
 
-from .loops import Loops, has_loop_devices, word
+from .loops import Loops, has_loop_devices, make_ext4, word
 from .program import Case, refused, run
 
 FORMATTED = (0, b"formatted 84032\n", b"")
@@ -88,7 +88,7 @@ class FormatDevice(Loops, Case):
         if shutil.which("mkfs.ext4") is None:
             self.leave_out("a file system", "no mkfs.ext4 here")
             return
-        word("mkfs.ext4", "-q", self.device)
+        make_ext4(self.device)
         ext4 = self.signed("it has a file system (ext2, ext3 or ext4)")
         self.expect_refused("one that is not mounted", ext4)
         with self.mounted(self.device) as folder:
@@ -113,7 +113,7 @@ class FormatDevice(Loops, Case):
             self.leave_out("another device", "no mkfs.ext4 here")
             return
         other = self.attach(self.room / "other", 20 * MIB)
-        word("mkfs.ext4", "-q", other)
+        make_ext4(other)
         with self.mounted(other):
             self.expect("the one that is not mounted is formatted", FORMATTED, self.motcar("format", self.device))
 
@@ -130,7 +130,7 @@ class FormatDevice(Loops, Case):
         if not part.exists() or shutil.which("mkfs.ext4") is None:
             self.leave_out("a partition", "its node is not made here, or no mkfs.ext4")
             return
-        word("mkfs.ext4", "-q", part)
+        make_ext4(part)
         with self.mounted(part) as folder:
             at = f"it, or a partition of it, is mounted at {folder}; unmount it first"
             self.expect_refused("the device of a mounted one", at)

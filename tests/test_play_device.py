@@ -4,7 +4,7 @@ import shutil
 import unittest
 
 from .air import AirCase
-from .loops import Loops, has_loop_devices, word
+from .loops import Loops, has_loop_devices, make_ext4
 from .program import refused
 
 MIB = 1 << 20
@@ -44,7 +44,7 @@ class PlayDevice(Loops, AirCase):
         if shutil.which("mkfs.ext4") is None:
             self.leave_out("a mounted device", "no mkfs.ext4 here")
             return
-        word("mkfs.ext4", "-q", self.device)
+        make_ext4(self.device)
         others = self.others()
         with self.mounted(self.device) as folder:
             (folder / "kept").write_bytes(b"kept")
