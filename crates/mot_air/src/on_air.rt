@@ -10,7 +10,7 @@ ghost use Rattle.mot_air.specs.Playing.{Plays};
 ghost use Rattle.mot_air.specs.Commands.{PlaysAsked, PlaysTo, is_all_done, played_as};
 ghost use Rattle.mot_outcome.specs.Outcome.{Concludes, Opens};
 ghost use Rattle.mot_air.specs.Telling.{EndsAs, tale_told, tale_with, watch_in, watched};
-ghost use Rattle.mot_endpoints.specs.Opened.{BeginsTo, paths_of};
+ghost use Rattle.mot_endpoints.specs.Opened.{paths_of};
 ghost use Rattle.mot_destinations.specs.Packets.{IsPlaced, IsTarget, begun_of, target_of};
 ghost use Rattle.mot_destinations.specs.Packets.{writes_of};
 ghost use Rattle.mot_line_folder.specs.Spool.{reads_of};

@@ -1,5 +1,5 @@
 -- What the commands that serve, make, check and migrate a disk do.
-use Rattle.std.specs.Prelude.{ℕ, ◌≡◌, ◌⊎◌, Bool, true, List, [], ◌∷◌, ◌++◌, Option, Some}
+use Rattle.std.specs.Prelude.{ℕ, ◌≡◌, ◌≢◌, ◌⊎◌, Bool, true, List, [], ◌∷◌, ◌++◌, Option, Some}
 use Rattle.std.specs.Prelude.{codes, false}
 use Rattle.clap.specs.Words.{Text}
 use Rattle.disk_store.specs.Beginning.{HasFirstCalls, SinceMade, SinceOpened}
@@ -105,15 +105,15 @@ module _ {S : Type 0} {start : Ghosts S} where
   abbrev pub IsBegun : (is_new : Bool) → UsedDisk S start → Type 0
   IsBegun is_new = OnFile (λ disk beside. HasFirstCalls is_new disk)
 
-  -- A new file is made at the path, or that is tried in vain. It is removed again only if it could
+  -- A new file is made at the path, or that is tried in vain. It is removed again exactly if it could
   -- not be formatted.
   pub data MakesFile (ending : Option Refusal) (path : Text) (used : UsedDisk S start)
       (before after : List (Text × Text)) : Type 0 where
     unmade : IsUntouched used → ending ≡ Some DeviceFault
         → after ≡ before ++ in_vain (codes "disk") path ∷ []
         → MakesFile ending path used before after
-    made : IsBegun true used → after ≡ before ++ (codes "disk", path) ∷ []
-        → MakesFile ending path used before after
+    made : IsBegun true used → ending ≢ Some DeviceFault
+        → after ≡ before ++ (codes "disk", path) ∷ [] → MakesFile ending path used before after
     removed : IsBegun true used → ending ≡ Some DeviceFault
         → after ≡ before ++ (codes "disk", path) ∷ (codes "removed", path) ∷ []
         → MakesFile ending path used before after

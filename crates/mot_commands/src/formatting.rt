@@ -1,6 +1,6 @@
 //! What `format` does.
 ghost use Rattle.mot_playout.specs.Attempts.{fault_of};
-ghost use Rattle.std.specs.Prelude.{◌≡◌, true, Some};
+ghost use Rattle.std.specs.Prelude.{◌≡◌, ◌≢◌, Some, false, true};
 ghost use Rattle.mot_numbers.specs.Geometry.{IsValid};
 ghost use Rattle.mot_numbers.specs.declared.refusal.Refusal.TheVariants.{DeviceFault};
 ghost use Rattle.mot_outcome.specs.Outcome.{Prints};
@@ -127,7 +127,8 @@ fn reason_of<D: Disk>(made: &Result<(), Refusal>, disk: &D, geometry: &Geometry)
 /// Whether formatting failed, and not only the telling of it: a file that was made here is long
 /// enough, and has no magic, so that nothing but a disk fault is in its way.
 fn is_unformatted(made: &Result<(), Refusal>) -> bool
-    ensures { result ≡ true → fault_of made.now ≡ Some DeviceFault }
+    ensures failed { result ≡ true → fault_of made.now ≡ Some DeviceFault }
+    ensures done { result ≡ false → fault_of made.now ≢ Some DeviceFault }
 {
     matches!(made, Err(Refusal::DeviceFault))
 }

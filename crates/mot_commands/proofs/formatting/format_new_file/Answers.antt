@@ -55,11 +55,12 @@ returns-clause-files g c =
     (elim c.if-is_unformatted.branch [
       | then-is_unformatted w ↦
           let gone : List (List ℕ × List ℕ) = (codes "removed", c.args.path.now) ∷ [] in
-          removed since.begun (c.is_unformatted.ensures w.if-is_unformatted.true)
+          removed since.begun (c.is_unformatted.ensures.failed w.if-is_unformatted.true)
           (ap paths_of w.host-is ∙ w.take_away.ensures ∙ ap (λ l. l ++ gone) c.in-Ok.ensures.paths
           ∙ append_assoc (paths_of c.args.host.now) _ gone)
       | else-is_unformatted w ↦
-          made since.begun (ap paths_of w.host-is ∙ c.in-Ok.ensures.paths)
+          made since.begun (c.is_unformatted.ensures.done w.if-is_unformatted.false)
+          (ap paths_of w.host-is ∙ c.in-Ok.ensures.paths)
     ])
 
 pub returns-in-Err-clause-files : goal.returns-in-Err-clause-files
