@@ -89,23 +89,21 @@ def calls_in(name):
     return set().union(*map(calls_in, re.findall(r"(?m)^    ([@a-z_]\S*)$", printed)))
 
 
-def calls_that_live(text):
-    """The calls at which the filter of a unit does not kill: those that it allows, and those that it lets fail by a name."""
-    living = set()
+def calls_allowed(text):
+    """The calls that the filter of a unit lets pass. At each other call the program is killed, or, if the unit has
+    SystemCallErrorNumber=, gets that error."""
+    allowed = set()
     for line in re.findall(r"(?m)^SystemCallFilter=(.*)$", text):
-        for name, _, error in (it.partition(":") for it in line.lstrip("~").split()):
-            if not line.startswith("~"):
-                living |= calls_in(name)
-            elif not error:
-                living -= calls_in(name)
-    return living
+        calls = set().union(*map(calls_in, line.lstrip("~").split()))
+        allowed = allowed - calls if line.startswith("~") else allowed | calls
+    return allowed
 
 
 @needs_strace
 class Filter(program.Case):
     def test_calls(self):
-        """No call of a start that has to make the file beside the disk, and of a turn with folders and a status, is one at
-        which the filter of a unit kills the program. A call that the filter lets fail does not end the start."""
+        """Of the calls of a start that has to make the file beside the disk, and of a turn with folders and a status, the
+        filter of a unit refuses one, which gives that file the owner of the disk. The program goes on without it."""
         if not shutil.which("systemd-analyze"):
             self.leave_out("the calls of the filter", "no systemd-analyze")
             return
@@ -126,7 +124,8 @@ class Filter(program.Case):
             self.expect(f"{faults}: the file beside the disk is given the owner of the disk", True, "fchown" in made)
             for name in UNITS:
                 text = (program.top / "examples" / name).read_text()
-                self.expect(f"{name}, {faults}: calls that kill", set(), made - calls_that_live(text))
+                self.expect(f"{name}, {faults}: calls that are refused", {"fchown"}, made - calls_allowed(text))
+                self.expect(f"{name}: they are, and kill not", ["EPERM"], values(text, "SystemCallErrorNumber"))
 
 
 class Pipe(program.Case):
