@@ -52,8 +52,9 @@ class Units(program.Rows):
                         values(text, "EnvironmentFile"))
             command = program_of(text)
             status = pathlib.PurePath(command[command.index("--status") + 1])
-            folders = [f"/var/lib/{it}" for it in values(text, "StateDirectory")]
-            self.expect(f"{name}: the folder of the status is made", True, str(status.parent) in folders)
+            folders = [f"/run/{it}" for it in values(text, "RuntimeDirectory")]
+            self.expect(f"{name}: the folder of the status is made, in memory, and stays", ([str(status.parent)], ["yes"]),
+                        (folders[1:], values(text, "RuntimeDirectoryPreserve")))
             self.expect(f"{name}: further options", "$ARGS", command[-1])
             self.expect(f"{name}: lines without a level are errors", (True, ["err"]),
                         ("--levels" in command, values(text, "SyslogLevel")))
