@@ -4,6 +4,7 @@ import fcntl
 import os
 import pathlib
 import re
+import resource
 import shlex
 import shutil
 import subprocess
@@ -156,6 +157,15 @@ class Pipe(program.Case):
             text = (program.top / "examples" / name).read_text()
             ended = program.run([*around(text), sys.executable, "-c", LENGTH_OF], cwd=self.room)
             self.expect(name, (0, KEPT.encode() + b"65536\n", b""), ended)
+
+    def test_limit_of_a_file(self):
+        """At a limit of file sizes the program that the command runs is refused its write, and no signal ends it."""
+        os.mkfifo(self.room / "packets.pipe")
+        limit = {"preexec_fn": lambda: resource.setrlimit(resource.RLIMIT_FSIZE, (50_000, 50_000))}
+        for name in UNITS:
+            words = around((program.top / "examples" / name).read_text())
+            status, _, said = program.run([*words, self.program, "format", "new.disk"], cwd=self.room, **limit)
+            self.expect(name, (1, b"motcar: 15 DeviceFault\nmotcar: new.disk: File too large\n"), (status, said))
 
     def test_packets(self):
         """What the program writes into the pipe that the command made short: whole packets, through many fillings."""
