@@ -15,3 +15,5 @@ pub use Rattle.mot_carousel.proofs.Beside.{head, tail, same_step}
 pub use Rattle.mot_carousel.proofs.Gaps.{least_gap_is_least, no_bytes}
 -- extents in another order leave the same places and gaps free
 pub use Rattle.mot_carousel.proofs.Reordered.{free-reordered, least_gap-reordered}
+-- ids that are taken one after the other: how many, and that they are new
+pub use Rattle.mot_carousel.proofs.NewIds.{new_ids-count, new_ids-new}
