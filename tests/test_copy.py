@@ -69,16 +69,38 @@ class Copy(AirCase):
             self.expect("its sizes", (self.room / f"{name}.sizes").read_bytes()[16:28], (self.room / name).read_bytes()[16:28])
 
     def test_another_segment_size(self):
-        self.motcar("copy", self.old, "new", "--segment", "128")
-        self.expect("the directory has a new id, and objects keep theirs",
-                    self.motcar("list", self.old)[1].replace(b"carousel 500 8 8 2\n", b"carousel 500 9 9 2\n"),
-                    self.motcar("list", "new")[1])
+        """Each object takes a new id, and then the directory: a receiver that has segments of the old size begins anew."""
+        for options, ids in (([], (b"9", b"10", b"11")), (["--after", "3"], (b"5", b"6", b"9"))):
+            name = "new" + "".join(options)
+            self.motcar("copy", self.old, name, "--segment", "128", *options)
+            old = self.motcar("list", self.old)[1]
+            self.expect(f"{options}: the ids of the disk", [b"carousel 500 8 8 2", b"object 7", b"object 4"],
+                        [b" ".join(it.split()[:5 if it[:1] == b"c" else 2]) for it in old.splitlines()])
+            wanted = old.replace(b"500 8 8", b"500 %b %b" % (ids[2], ids[2])).replace(b"object 7", b"object %b" % ids[0])
+            self.expect(f"{options}: other ids, and all else stays",
+                        wanted.replace(b"object 4", b"object %b" % ids[1]), self.motcar("list", name)[1])
+            self.expect(f"{options}: the same bodies", self.motcar("export", self.old), self.motcar("export", name))
 
     def test_after(self):
-        for number, wanted in (("0", b"done object 1 directory 2\n"), ("65535", b"done object 1 directory 2\n"),
-                               ("5000", b"done object 5001 directory 5002\n"), ("3", b"done object 5 directory 6\n")):
+        """The directory takes an id after the given one, and objects keep theirs; after its own it keeps it, too."""
+        listed = self.motcar("list", self.old)[1]
+        for number, directory, wanted in (("0", 1, b"done object 2 directory 3\n"), ("65535", 1, b"done object 2 directory 3\n"),
+                                          ("5000", 5001, b"done object 5002 directory 5003\n"),
+                                          ("3", 5, b"done object 6 directory 8\n"), ("8", 8, b"done object 9 directory 10\n")):
             self.motcar("copy", self.old, f"new{number}", "--after", number)
+            self.expect(f"--after {number}: ids", listed.replace(b"500 8 8", b"500 %d %d" % (directory, directory)),
+                        self.motcar("list", f"new{number}")[1])
             self.expect(f"--after {number}", (0, wanted, b""), self.serve(f"new{number}", "put new 2 3 - 00\n"))
+
+    def test_no_directory_of_a_copy_has_the_id_of_one_before(self):
+        """Also where commands come between two directories that go on air: a receiver would keep the old list."""
+        old = self.new_disk("logos", "--objects", "9", "--data", "64")
+        self.serve(old, "put a 2 3 - 00\nput b 2 3 - 00\nput c 2 3 - 00\n")
+        for number in range(12):
+            name, lines = f"copy{number}", "".join(f"put {it} 2 3 - 00\n" for it in "defgh")
+            self.motcar("copy", old, name, "--after", number)
+            ids = [self.motcar("list", name)[1].split()[2]] + [it.split()[-1] for it in self.serve(name, lines)[1].splitlines()]
+            self.expect(f"--after {number}: {b' '.join(ids).decode()}", 6, len(set(ids)))
 
     def test_the_next_command(self):
         """What is done to the copy is what would be done to the disk."""

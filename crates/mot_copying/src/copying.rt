@@ -37,10 +37,11 @@ pub enum NotCopied {
 }
 
 /// Makes a new disk of this geometry, in layout 2, that stands for the same carousel as an open
-/// repository: its bodies lie one after the other. All ids stay, except that with another segment
-/// size the directory takes a new one; the next ones come after `after` if it is given, or else
-/// after the old disk's. The magic is written last, so that a crash leaves no magic or the copy. The
-/// old disk is only read. It takes no memory for bodies.
+/// repository: its bodies lie one after the other. New ids come after `after` if it is given, or else
+/// after the old disk's last. With another segment size each object takes one, and then the
+/// directory; else all objects keep theirs, and the directory takes one unless ids go on after its
+/// own. The magic is written last, so that a crash leaves no magic or the copy. The old disk is only
+/// read. It takes no memory for bodies.
 pub fn copy<D: Disk, E: Disk>(
     alloc: Global,
     from: &mut Repository<D>,

@@ -1,14 +1,15 @@
 -- The records of a copy have no fault, and a disk that has them and its bodies in a row stands for
 -- the same carousel.
-use Rattle.std.proofs.Common.{◌≡◌, ℕ, zero, suc, ◌+◌, ◌-◌, ◌<◌, ◌≤◌, Bool, true, false, ◌&&◌, not}
+use Rattle.std.proofs.Common.{◌≡◌, ℕ, zero, suc, ◌+◌, ◌-◌, ◌<◌, ◌≤◌, Bool, true, ◌&&◌}
 use Rattle.std.proofs.Common.{List, [], ◌∷◌, ◌++◌, length, map, take, drop, get_or, slice_range}
 use Rattle.std.proofs.Common.{Option, Ok, Result, refl, sym, ap, ◌∙◌, subst, arith, add-zero}
-use Rattle.std.proofs.lemmas.Bool.{and_parts, and_from, or_parts, le-leb, not_from_false}
+use Rattle.std.proofs.lemmas.Bool.{and_parts, and_from, le-leb, lt-ltb}
 use Rattle.std.proofs.lemmas.List.{drop-take, drop-drop, length-take-le, length-drop, take-take}
+use Rattle.std.proofs.lemmas.List.{length-map}
 use Rattle.std.proofs.lemmas.List.Sums.{sum_by-cons}
 use Rattle.std.proofs.Math.Seq.{take-append_seam, drop-append_seam}
-use Rattle.std.specs.Prelude.{◌||◌, nat_eq, nat_le, nat_lt, unwrap_or}
-use Rattle.std.specs.List.{AllByRecursion, list_all}
+use Rattle.std.specs.Prelude.{◌||◌, nat_le, nat_lt, unwrap_or}
+use Rattle.std.specs.List.{AllByRecursion, list_all, zip}
 use Rattle.std.specs.Option.{option_map_or}
 use Rattle.std.proofs.lemmas.List.Elements.{All-from_recursion}
 use Rattle.disk_model.specs.Disk.{State, IsHonestDisk}
@@ -28,15 +29,14 @@ use Rattle.mot_numbers.specs.Geometry.{area_start, is_within}
 use Rattle.mot_objects.specs.declared.object.Object.{Object}
 use Rattle.mot_objects.specs.Carousel as whole
 use Rattle.mot_objects.specs.Carousel.{are_names_distinct}
-use Rattle.mot_objects.specs.Ids.{contains, is_distinct, next_free_id}
+use Rattle.mot_objects.specs.Ids.{is_distinct}
 use Rattle.mot_objects.specs.Mime.{is_mime}
 use Rattle.mot_objects.specs.Name.{is_name}
 use Rattle.mot_objects.specs.Stands.{object_of}
-use Rattle.mot_objects.proofs.Laws.{next_free_id-nearest}
 use Rattle.mot_carousel.proofs.Laws.{head, tail}
-use Rattle.mot_repository.specs.Copy.{copied_ids, is_directory_changed, packed_from}
+use Rattle.mot_repository.specs.Copy.{copied_ids, is_segment_resized, packed_from}
 use Rattle.mot_repository.specs.Copy.{copy_of, bytes_in_row, packed_objects, packed_catalogue}
-use Rattle.mot_repository.specs.Copy.{bytes_of_extents, ids_of_copy, AreOfCopy}
+use Rattle.mot_repository.specs.Copy.{bytes_of_extents, ids_of_copy, renumbered, AreOfCopy}
 use Rattle.mot_repository.specs.Extents.{ArePaired}
 use Rattle.mot_repository.specs.Inner.Extents.{with_extent, objects_in, catalogue_in}
 use Rattle.mot_repository.specs.Inner.Extents.{bytes_of_bodies}
@@ -47,6 +47,8 @@ use Rattle.mot_repository.specs.Inner.Whole.{placed_names, placed_tids, IsSoundP
 use Rattle.mot_repository.specs.Repository.{RepositoryView, HasStanding}
 use Rattle.mot_repository.proofs.Layouts.{longer_name}
 use Rattle.mot_repository.proofs.Preparing.{kept_standing, same-standing, wholes, area-long}
+use Rattle.mot_repository.proofs.Renumbered.{numbered, renumbered-length, renumbered-names}
+use Rattle.mot_repository.proofs.Renumbered.{renumbered-tids, AreIdsOf, are_ids, copied_ids-count}
 use Rattle.mot_repository.proofs.Rewriting.{fold-all, record_for}
 use Rattle.mot_repository.proofs.Soundness.{is_rewriting, placed_in}
 use Rattle.mot_repository.proofs.Extents.{extents-objects_in}
@@ -118,15 +120,19 @@ kept-tids [] es same = refl
 kept-tids (o ∷ os) [] same = cc
 kept-tids (o ∷ os) (e ∷ es) same = ap (λ l. o.tid ∷ l) (kept-tids os es (tail same))
 
-packed-extents : (start : ℕ) (os : List Object) (es : List (ℕ × ℕ)) → HaveLengths os es
-    → map (λ (p : Placed). (p.start, p.object.length)) (packed_objects start os)
+packed-extents : (start : ℕ) (ids : List ℕ) (os : List Object) (es : List (ℕ × ℕ))
+    → length ids ≡ length os → HaveLengths os es
+    → map (λ (p : Placed). (p.start, p.object.length)) (packed_objects start (renumbered ids os))
     ≡ packed_from start es
-packed-extents start [] [] same = refl
-packed-extents start [] (e ∷ es) same = cc
-packed-extents start (o ∷ os) [] same = cc
-packed-extents start (o ∷ os) (e ∷ es) same =
+packed-extents start [] [] [] count same = refl
+packed-extents start [] [] (e ∷ es) count same = cc
+packed-extents start [] (o ∷ os) es count same = absurd (omega (arith, count))
+packed-extents start (id ∷ ids) [] es count same = absurd (omega (arith, count))
+packed-extents start (id ∷ ids) (o ∷ os) [] count same = cc
+packed-extents start (id ∷ ids) (o ∷ os) (e ∷ es) count same =
     let size : o.length ≡ e.1 = sym (head same) in
-    ap (λ l. (start, o.length) ∷ l) (packed-extents (start + o.length) os es (tail same))
+    ap (λ l. (start, o.length) ∷ l)
+    (packed-extents (start + o.length) ids os es (omega (arith, count)) (tail same))
     ∙ ap (λ n. (start, n) ∷ packed_from (start + n) es) size
 
 -- a body that ends where the others begin meets none of them
@@ -153,10 +159,10 @@ long-name : (layout : Layout) (name : List ℕ) → is_name (longest_name layout
 long-name One name is = longer_name name is
 long-name Two name is = is
 
-moved : (g0 g : Geometry) (layout : Layout) (o : Object) (e : ℕ × ℕ) (start : ℕ)
+moved : (g0 g : Geometry) (layout : Layout) (o : Object) (e : ℕ × ℕ) (start id : ℕ) → IsId id
     → e.1 ≡ o.length → start + o.length ≤ g.area → IsSoundPlaced g0 layout (with_extent o e)
-    → IsSoundPlaced g Two (record { object = o; start = start })
-moved g0 g layout o e start size fits is =
+    → IsSoundPlaced g Two (record { object = numbered id o; start = start })
+moved g0 g layout o e start id range size fits is =
     let b1 = nat_lt 0 o.tid in
     let b2 = nat_le o.content.content_type 63 in
     let b3 = nat_le o.content.subtype 511 in
@@ -168,86 +174,97 @@ moved g0 g layout o e start size fits is =
     let h5 = and_parts (b1 && b2 && b3 && b4 e.1 && b5) b6 h6.0 in
     let h4 = and_parts (b1 && b2 && b3 && b4 e.1) b5 h5.0 in
     let h3 = and_parts (b1 && b2 && b3) (b4 e.1) h4.0 in
-    let here : b4 o.length ≡ true = sym (ap b4 size) ∙ h3.1 in (
+    let h2 = and_parts (b1 && b2) b3 h3.0 in
+    let h1 = and_parts b1 b2 h2.0 in
+    let here : b4 o.length ≡ true = sym (ap b4 size) ∙ h3.1 in
+    let kind = and_from _ _ (and_from _ _ (lt-ltb 0 id range.0) h1.1) h2.1 in (
       and_from _ _
           (and_from _ _
-          (and_from _ _ (and_from _ _ h3.0 here) (le-leb (start + o.length) g.area fits))
+          (and_from _ _ (and_from _ _ kind here) (le-leb (start + o.length) g.area fits))
           (long-name layout o.name h5.1)) h6.1,
-      is.1,
+      range.1,
     )
 
-all-moved : (g0 g : Geometry) (layout : Layout) (start : ℕ) (os : List Object)
-    (es : List (ℕ × ℕ)) → HaveLengths os es → start + bytes_of_bodies os ≤ g.area
+all-moved : (g0 g : Geometry) (layout : Layout) (start : ℕ) (ids : List ℕ) (os : List Object)
+    (es : List (ℕ × ℕ)) → length ids ≡ length os → AllByRecursion IsId ids → HaveLengths os es
+    → start + bytes_of_bodies os ≤ g.area
     → AllByRecursion (IsSoundPlaced g0 layout) (objects_in os es)
-    → AllByRecursion (IsSoundPlaced g Two) (packed_objects start os)
-all-moved g0 g layout start [] es same fits a = tt
-all-moved g0 g layout start (o ∷ os) [] same fits a = cc
-all-moved g0 g layout start (o ∷ os) (e ∷ es) same fits a =
+    → AllByRecursion (IsSoundPlaced g Two) (packed_objects start (renumbered ids os))
+all-moved g0 g layout start [] os es count range same fits a = tt
+all-moved g0 g layout start (id ∷ ids) [] es count range same fits a = tt
+all-moved g0 g layout start (id ∷ ids) (o ∷ os) [] count range same fits a = cc
+all-moved g0 g layout start (id ∷ ids) (o ∷ os) (e ∷ es) count range same fits a =
     let sum = bytes-cons o os in (
-      moved g0 g layout o e start (head same) (omega (arith, fits, sum)) a.0,
-      all-moved g0 g layout (start + o.length) os es (tail same) (omega (arith, fits, sum)) a.1,
+      moved g0 g layout o e start id range.0 (head same) (omega (arith, fits, sum)) a.0,
+      all-moved g0 g layout (start + o.length) ids os es (omega (arith, count)) range.1 (tail same)
+          (omega (arith, fits, sum)) a.1,
     )
 
--- ---- the ids
+-- the ids that are kept are ids
+kept-range : (g : Geometry) (layout : Layout) (os : List Object) (es : List (ℕ × ℕ))
+    → HaveLengths os es → AllByRecursion (IsSoundPlaced g layout) (objects_in os es)
+    → AllByRecursion IsId (map (λ (o : Object). o.tid) os)
+kept-range g layout [] es same a = tt
+kept-range g layout (o ∷ os) [] same a = cc
+kept-range g layout (o ∷ os) (e ∷ es) same a = (
+  (placed_in g layout (with_extent o e) a.0).id,
+  kept-range g layout os es (tail same) a.1,
+)
 
-fresh : (after : Option ℕ) (changed : Bool) (directory cursor : ℕ) (tids : List ℕ)
-    → 1 ≤ unwrap_or after cursor → unwrap_or after cursor ≤ 65535 → length tids < 65534
-    → is_distinct (directory ∷ tids) ≡ true
-    → is_distinct ((copied_ids after changed directory cursor tids).0 ∷ tids) ≡ true
-fresh after false directory cursor tids low high few distinct = distinct
-fresh after true directory cursor tids low high few distinct =
-    let last = unwrap_or after cursor in
-    let id = next_free_id last (directory ∷ tids) in
-    let nearest = next_free_id-nearest last (directory ∷ tids) low high (omega (arith, few)) in
-    let other = or_parts (nat_eq id directory) (contains tids id) nearest.free in
-    let rest = and_parts (not (contains tids directory)) (is_distinct tids) distinct in
-    and_from _ _ (not_from_false (contains tids id) other.1) rest.1
+-- ---- the records
 
 module _ (view : RepositoryView) (g : Geometry) (after : Option ℕ)
     (is : IsWhole view.journal.geometry view.journal.layout (catalogue_in view))
     (paired : ArePaired view.carousel view.extents)
-    (low : 1 ≤ unwrap_or after view.carousel.cursor)
-    (high : unwrap_or after view.carousel.cursor ≤ 65535)
+    (last : IsId (unwrap_or after view.carousel.cursor))
     (small : length view.carousel.objects.items ≤ 250)
     (few : length view.carousel.objects.items ≤ g.objects)
-    (room : bytes_of_bodies view.carousel.objects.items ≤ g.area)
-    (ids : IsId (ids_of_copy view g after).0 × IsId (ids_of_copy view g after).1) where
+    (room : bytes_of_bodies view.carousel.objects.items ≤ g.area) where
   abbrev objects : List Object
   objects = view.carousel.objects.items
 
   abbrev tids : List ℕ
   tids = map (λ (o : Object). o.tid) objects
 
-  copied-distinct : is_distinct ((ids_of_copy view g after).0 ∷ tids) ≡ true
-  copied-distinct =
+  abbrev ids : List ℕ × ℕ
+  ids = ids_of_copy view g after
+
+  of-copy : AreIdsOf tids ids
+  of-copy =
+      let g0 = view.journal.geometry in
       let h = and_parts (is_distinct (view.carousel.directory ∷ placed_tids (objects_in objects
       view.extents))) (are_all_apart (objects_in objects view.extents)) is.good.consistent in
-      fresh after (is_directory_changed view.journal.geometry g) view.carousel.directory
-      view.carousel.cursor tids low high
-      (let n = length-map-tids objects in omega (arith, n, small))
+      let count = length-map objects (λ (o : Object). o.tid) in
+      are_ids after view.carousel.directory view.carousel.cursor tids last
+      (omega (arith, small, count))
+      (is.directory, kept-range g0 view.journal.layout objects view.extents paired is.each)
       (sym (ap (λ l. is_distinct (view.carousel.directory ∷ l))
       (kept-tids objects view.extents paired)) ∙ h.0)
-    where
-      length-map-tids : (os : List Object) → length (map (λ (o : Object). o.tid) os) ≡ length os
-      length-map-tids [] = refl
-      length-map-tids (o ∷ os) = ap suc (length-map-tids os)
+      (is_segment_resized g0 g)
 
-  copied-whole : IsWhole g Two (packed_catalogue view.carousel (ids_of_copy view g after))
+  count : length ids.0 ≡ length objects
+  count = of-copy.count ∙ length-map objects (λ (o : Object). o.tid)
+
+  copied-whole : IsWhole g Two (packed_catalogue view.carousel ids)
   copied-whole = record {
     good = record {
       consistent = and_from _ _
-          (ap (λ l. is_distinct ((ids_of_copy view g after).0 ∷ l)) (packed-tids 0 objects)
-          ∙ copied-distinct)
-          (packed-apart 0 objects);
-      names = ap are_names_distinct (packed-names 0 objects)
+          (ap (λ l. is_distinct (ids.1 ∷ l))
+          (packed-tids 0 (renumbered ids.0 objects) ∙ renumbered-tids ids.0 objects count)
+          ∙ of-copy.distinct)
+          (packed-apart 0 (renumbered ids.0 objects));
+      names = ap are_names_distinct (packed-names 0 (renumbered ids.0 objects)
+          ∙ renumbered-names ids.0 objects count)
           ∙ sym (ap are_names_distinct (kept-names objects view.extents paired))
           ∙ is.good.names;
-      few = let n = packed-length 0 objects in omega (arith, n, few);
+      few =
+          let n = packed-length 0 (renumbered ids.0 objects) in
+          let m = renumbered-length ids.0 objects count in omega (arith, n, m, few);
     };
-    directory = ids.0;
-    cursor = ids.1;
-    each = all-moved view.journal.geometry g view.journal.layout 0 objects view.extents paired
-        (omega (arith, room)) is.each;
+    directory = of-copy.range.0;
+    cursor = of-copy.range.0;
+    each = all-moved view.journal.geometry g view.journal.layout 0 ids.0 objects view.extents count
+        of-copy.range.1 paired (omega (arith, room)) is.each;
   }
 
   -- the records of the copy are what a disk can be made with
@@ -282,40 +299,48 @@ row-parts n m xs ys zs size same =
           ∙ sym (ap (λ k. drop k (ys ++ zs)) size) ∙ drop-append_seam ys zs,
     )
 
+-- objects with their bodies, with these ids
+abbrev with_ids : List ℕ → List whole.Object → List whole.Object
+with_ids ids objects = map (λ (p : ℕ × whole.Object). record p.1 { tid = p.0 }) (zip ids objects)
+
 module _ (g0 : Geometry) (image : List ℕ) (long : g0.area ≤ length (area_of g0 image))
     (area : List ℕ) where
   abbrev ends : List (ℕ × ℕ) → Type 0
   ends es = AllByRecursion (λ (e : ℕ × ℕ). e.0 + e.1 ≤ g0.area) es
 
-  copied-bodies : (start : ℕ) (os : List Object) (es : List (ℕ × ℕ)) → HaveLengths os es
-      → ends es
+  copied-bodies : (start : ℕ) (ids : List ℕ) (os : List Object) (es : List (ℕ × ℕ))
+      → length ids ≡ length os → HaveLengths os es → ends es
       → take (bytes_of_bodies os) (drop start area) ≡ bytes_in_row g0 es image
-      → wholes area (packed_objects start os) ≡ wholes (area_of g0 image) (objects_in os es)
-  copied-bodies start [] es same within row = refl
-  copied-bodies start (o ∷ os) [] same within row = cc
-  copied-bodies start (o ∷ os) (e ∷ es) same within row =
+      → wholes area (packed_objects start (renumbered ids os))
+      ≡ with_ids ids (wholes (area_of g0 image) (objects_in os es))
+  copied-bodies start [] os es count same within row = refl
+  copied-bodies start (id ∷ ids) [] es count same within row = absurd (omega (arith, count))
+  copied-bodies start (id ∷ ids) (o ∷ os) [] count same within row = cc
+  copied-bodies start (id ∷ ids) (o ∷ os) (e ∷ es) count same within row =
       let from : ℕ = area_start g0 + e.0 in
       let body : List ℕ = slice_range image from (from + e.1) in
       let here : slice_range (area_of g0 image) e.0 (e.0 + e.1) ≡ body =
       area-part g0 image e.0 e.1 in
       let fits = within.0 in
       let rest = length-drop e.0 (area_of g0 image) in
-      let count : e.0 + e.1 - e.0 ≡ e.1 = omega arith in
+      let long_enough : e.0 + e.1 - e.0 ≡ e.1 = omega arith in
       let size : length body ≡ o.length =
       ap length (sym here)
       ∙ length-take-le (e.0 + e.1 - e.0) (drop e.0 (area_of g0 image))
-      (omega (arith, fits, long, rest)) ∙ count ∙ head same in
+      (omega (arith, fits, long, rest)) ∙ long_enough ∙ head same in
       let parts = row-parts o.length (bytes_of_bodies os) (drop start area) body
       (bytes_in_row g0 es image) size
       (sym (ap (λ n. take n (drop start area)) (bytes-cons o os)) ∙ row) in
-      let more = copied-bodies (start + o.length) os es (tail same) within.1
-      (sym (ap (take (bytes_of_bodies os)) (drop-drop o.length start area)) ∙ parts.1) in
+      let more = copied-bodies (start + o.length) ids os es (omega (arith, count)) (tail same)
+      within.1 (sym (ap (take (bytes_of_bodies os)) (drop-drop o.length start area)) ∙ parts.1) in
       let taken : start + o.length - start ≡ o.length = omega arith in
       let there : slice_range area start (start + o.length)
       ≡ slice_range (area_of g0 image) e.0 (e.0 + e.1) =
       ap (λ n. take n (drop start area)) taken ∙ parts.0 ∙ sym here in
-      ap (λ b. object_of o b ∷ wholes area (packed_objects (start + o.length) os)) there
-      ∙ ap (λ l. object_of o (slice_range (area_of g0 image) e.0 (e.0 + e.1)) ∷ l) more
+      let q = numbered id o in
+      ap (λ b. object_of q b ∷ wholes area (packed_objects (start + o.length) (renumbered ids os)))
+      there
+      ∙ ap (λ l. object_of q (slice_range (area_of g0 image) e.0 (e.0 + e.1)) ∷ l) more
 
 ends-of : (g : Geometry) (layout : Layout) (os : List Object) (es : List (ℕ × ℕ))
     → HaveLengths os es → AllByRecursion (IsSoundPlaced g layout) (objects_in os es)
@@ -335,11 +360,10 @@ whole-tids area [] es same = refl
 whole-tids area (o ∷ os) [] same = cc
 whole-tids area (o ∷ os) (e ∷ es) same = ap (λ l. o.tid ∷ l) (whole-tids area os es (tail same))
 
-abbrev made : Geometry → ℕ → ℕ × ℕ → List whole.Object → List (ℕ × ℕ) → List ℕ → Standing
-made g period ids objects extents rest = record {
+abbrev made : Geometry → ℕ → ℕ → List whole.Object → List (ℕ × ℕ) → List ℕ → Standing
+made g period id objects extents rest = record {
   geometry = g;
-  carousel = record
-      { period = period; directory = ids.0; cursor = ids.1; objects = objects };
+  carousel = record { period = period; directory = id; cursor = id; objects = objects };
   extents = extents;
   rest = rest;
 }
@@ -368,29 +392,29 @@ copy_stands view s state sound has g after records of image read row =
     same-standing (standing_of g0 c state.bytes) s (sym here ∙ has.stands) in
     let kept : IsWhole g0 layout c = subst (IsWhole g0 layout) (sym is.is) is.whole in
     let area = area_of g0 state.bytes in
+    let resized = is_segment_resized g0 g in
+    let ids_of : List ℕ → List ℕ × ℕ = λ tids.
+    copied_ids after resized view.carousel.directory view.carousel.cursor tids in
+    let tids = map (λ (o : Object). o.tid) os in
+    let ids = ids_of tids in
+    let count = copied_ids-count after resized view.carousel.directory view.carousel.cursor tids
+    ∙ length-map os (λ (o : Object). o.tid) in
     let bodies = copied-bodies g0 state.bytes (area-long state.bytes j has.read) (area_of g image)
-    0 os es is.paired (ends-of g0 layout os es is.paired kept.each)
+    0 ids.0 os es count is.paired (ends-of g0 layout os es is.paired kept.each)
     (sym (ap (λ n. take n (area_of g image)) (bytes-same os es is.paired)) ∙ row) in
-    let changed = is_directory_changed g0 g in
-    let ids : List ℕ → ℕ × ℕ = λ tids.
-    copied_ids after changed view.carousel.directory view.carousel.cursor tids in
     let rest = rest_of g image in
     let old = wholes area (objects_in os es) in
-    let tids = map (λ (o : Object). o.tid) os in
-    let extents = packed-extents 0 os es is.paired
+    let extents = packed-extents 0 ids.0 os es count is.paired
     ∙ ap (packed_from 0) (sym (extents-objects_in os es is.paired)) in
-    let same : standing_of g (packed_catalogue view.carousel (ids_of_copy view g after)) image
-    ≡ copy_of g after (standing_of g0 c state.bytes) rest =
-    ap (λ l. made g view.carousel.period (ids l) (wholes (area_of g image) (packed_objects 0 os))
-    (extents_of (packed_catalogue view.carousel (ids_of_copy view g after))) rest)
-    (sym (whole-tids area os es is.paired))
-    ∙ ap (λ l. made g view.carousel.period
-    (ids (map (λ (o : whole.Object). o.tid) old)) l
-    (extents_of (packed_catalogue view.carousel (ids_of_copy view g after))) rest) bodies
-    ∙ ap (λ l. made g view.carousel.period
-    (ids (map (λ (o : whole.Object). o.tid) old)) old l rest) extents in
+    let copy = packed_catalogue view.carousel ids in
+    let period = view.carousel.period in
+    let same : standing_of g copy image ≡ copy_of g after (standing_of g0 c state.bytes) rest =
+    ap (λ l. made g period ids.1 l (extents_of copy) rest) bodies
+    ∙ ap (λ l. made g period ids.1 (with_ids ids.0 old) l rest) extents
+    ∙ ap (λ l. made g period (ids_of l).1 (with_ids (ids_of l).0 old)
+    (packed_from 0 (extents_of c)) rest) (sym (whole-tids area os es is.paired)) in
     let made_of : Standing → Result Standing Refusal = λ t. Ok t in
     stands_by_parts g (record { geometry = g; half = 0; layout = Two; records = records })
-    (packed_catalogue view.carousel (ids_of_copy view g after)) image refl read of.fold
+    copy image refl read of.fold
     ∙ ap made_of same
     ∙ ap (λ t. made_of (copy_of g after t rest)) standing

@@ -15,6 +15,9 @@ pub use Rattle.mot_repository.proofs.Outcomes.{IsAccepted, accepted_parts, accep
 pub use Rattle.mot_repository.proofs.Outcomes.{some_standing}
 -- a disk with the records of a copy and the bodies in a row stands for the copy
 pub use Rattle.mot_repository.proofs.Copied.{copy_stands}
+-- objects with other ids
+pub use Rattle.mot_repository.proofs.Renumbered.{numbered, renumbered-at, renumbered-bytes}
+pub use Rattle.mot_repository.proofs.Renumbered.{renumbered-length, copied_ids-count}
 -- the records of a copy, one after the other, and as many bytes of bodies as of extents
 pub use Rattle.mot_repository.proofs.Copied.{packed-next, bytes-same}
 pub use Rattle.mot_repository.proofs.Extents.{record_with, set_of_object}

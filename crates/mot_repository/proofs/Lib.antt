@@ -24,6 +24,7 @@ mod Places
 pub mod Planned
 pub mod Preparing
 mod Reading
+mod Renumbered
 mod Rewriting
 mod Room
 mod Rows

@@ -1,6 +1,8 @@
 -- A copy of a disk: the same carousel on a disk of other sizes, its bodies one after the other.
 use Rattle.std.specs.Prelude.{◌≡◌, ℕ, ◌+◌, ◌<◌, ◌≤◌, ◌==◌, Bool, not, if◌then◌else◌, List, [], ◌∷◌}
 use Rattle.std.specs.Prelude.{◌++◌, length, map, sum_by, slice_range, Option, unwrap_or, Ok}
+use Rattle.std.specs.List.{zip}
+use Rattle.mot_carousel.specs.NewIds.{new_ids}
 use Rattle.mot_journal.specs.declared.layout.Layout.TheVariants.{Two}
 use Rattle.mot_journal.specs.declared.record.Record.{Record}
 use Rattle.mot_journal.specs.Catalogue.{Placed, Catalogue}
@@ -14,28 +16,33 @@ use Rattle.mot_numbers.specs.declared.refusal.Refusal.TheVariants.{TooManyObject
 use Rattle.mot_objects.specs.declared.carousel.Carousel.{Carousel}
 use Rattle.mot_objects.specs.declared.object.Object.{Object}
 use Rattle.mot_objects.specs.Carousel as whole
-use Rattle.mot_objects.specs.Ids.{next_free_id}
 use Rattle.mot_repository.specs.Records.{records_of_catalogue}
 use Rattle.mot_repository.specs.Repository.{RepositoryView}
 
--- The directory's id and the cursor of a copy of a carousel with these, whose objects have these
--- ids. The ids go on after the given one, or else after the cursor. If the bytes of the directory
--- change, it takes a new id.
-abbrev pub copied_ids : Option ℕ → Bool → ℕ → ℕ → List ℕ → ℕ × ℕ
-copied_ids after changed directory cursor tids =
+-- The ids of a copy of a carousel with these: its objects', in order, and the directory's, which is
+-- the cursor, too. New ones go on after the given one, or else after the cursor. With another
+-- segment size each object takes a new one, and then the directory. Else objects keep theirs, and
+-- the directory takes a new one unless ids go on after its own.
+abbrev pub copied_ids : Option ℕ → Bool → ℕ → ℕ → List ℕ → List ℕ × ℕ
+copied_ids after resized directory cursor tids =
     let last = unwrap_or after cursor in
-    let id = next_free_id last (directory ∷ tids) in
-    if changed then (id, id) else (directory, last)
+    let used = directory ∷ tids in
+    if resized then new_ids (length tids) last used
+    else (tids, if last == directory then directory else (new_ids 0 last used).1)
 
--- the bytes of the directory have the segment size
-abbrev pub is_directory_changed : Geometry → Geometry → Bool
-is_directory_changed old new = not (new.segment == old.segment)
+abbrev pub is_segment_resized : Geometry → Geometry → Bool
+is_segment_resized old new = not (new.segment == old.segment)
 
 abbrev pub copied_carousel : Option ℕ → Bool → whole.Carousel → whole.Carousel
-copied_carousel after changed c =
-    let ids = copied_ids after changed c.directory c.cursor
+copied_carousel after resized c =
+    let ids = copied_ids after resized c.directory c.cursor
     (map (λ (o : whole.Object). o.tid) c.objects) in
-    record c { directory = ids.0; cursor = ids.1 }
+    record {
+      period = c.period;
+      directory = ids.1;
+      cursor = ids.1;
+      objects = map (λ (p : ℕ × whole.Object). record p.1 { tid = p.0 }) (zip ids.0 c.objects);
+    }
 
 -- extents of the same lengths, one after the other from this start on
 abbrev pub packed_from : ℕ → List (ℕ × ℕ) → List (ℕ × ℕ)
@@ -46,7 +53,7 @@ packed_from start (e ∷ extents) = (start, e.1) ∷ packed_from (start + e.1) e
 abbrev pub copy_of : Geometry → Option ℕ → Standing → (rest : List ℕ) → Standing
 copy_of g after s rest = record {
   geometry = g;
-  carousel = copied_carousel after (is_directory_changed s.geometry g) s.carousel;
+  carousel = copied_carousel after (is_segment_resized s.geometry g) s.carousel;
   extents = packed_from 0 s.extents;
   rest = rest;
 }
@@ -64,13 +71,17 @@ packed_objects start [] = []
 packed_objects start (o ∷ objects) =
     record { object = o; start = start } ∷ packed_objects (start + o.length) objects
 
--- a carousel with these two ids, its bodies so
-abbrev pub packed_catalogue : Carousel → ℕ × ℕ → Catalogue
+-- the objects with these ids
+abbrev pub renumbered : List ℕ → List Object → List Object
+renumbered ids objects = map (λ (p : ℕ × Object). record p.1 { tid = p.0 }) (zip ids objects)
+
+-- a carousel with these ids of its objects and of the directory, its bodies so
+abbrev pub packed_catalogue : Carousel → List ℕ × ℕ → Catalogue
 packed_catalogue c ids = record {
   period = c.period;
-  directory = ids.0;
+  directory = ids.1;
   cursor = ids.1;
-  objects = packed_objects 0 c.objects.items;
+  objects = packed_objects 0 (renumbered ids.0 c.objects.items);
 }
 
 -- how many bytes these extents have
@@ -78,9 +89,9 @@ abbrev pub bytes_of_extents : List (ℕ × ℕ) → ℕ
 bytes_of_extents extents = sum_by (λ (e : ℕ × ℕ). e.1) extents
 
 -- the ids of a copy of what is kept in memory
-abbrev pub ids_of_copy : RepositoryView → Geometry → Option ℕ → ℕ × ℕ
+abbrev pub ids_of_copy : RepositoryView → Geometry → Option ℕ → List ℕ × ℕ
 ids_of_copy view g after =
-    copied_ids after (is_directory_changed view.journal.geometry g) view.carousel.directory
+    copied_ids after (is_segment_resized view.journal.geometry g) view.carousel.directory
     view.carousel.cursor (map (λ (o : Object). o.tid) view.carousel.objects.items)
 
 -- The records of a new disk of this geometry, in layout 2, for a copy of what is kept in memory: a
@@ -104,7 +115,6 @@ IsId id = (1 ≤ id) × (id ≤ 65535)
 abbrev pub CopiesAreSound : RepositoryView → Type 0
 CopiesAreSound view = (g : Geometry) (after : Option ℕ) (records : List Record)
     → IsId (unwrap_or after view.carousel.cursor)
-    → IsId (ids_of_copy view g after).0 × IsId (ids_of_copy view g after).1
     → length view.carousel.objects.items ≤ g.objects → bytes_of_extents view.extents ≤ g.area
     → records ≡ records_of_catalogue (packed_catalogue view.carousel (ids_of_copy view g after))
     → AreOfCopy view g after records

@@ -15,8 +15,8 @@ returns g c =
     let small : length objects.items ≤ 250 =
     omega (arith, r.inventory.carousel.few, objects.ok.0) in
     let sum = bytes-same objects.items r.inventory.extents.items c.self.invariant.paired in
-    let sound : CopiesAreSound view = λ geometry after records last ids few room same.
+    let sound : CopiesAreSound view = λ geometry after records last few room same.
     let bodies : bytes_of_bodies objects.items ≤ geometry.area = omega (arith, room, sum) in
-    are_of_copy view geometry after c.self.invariant.whole c.self.invariant.paired last.0 last.1
-    small few bodies ids records same in
+    are_of_copy view geometry after c.self.invariant.whole c.self.invariant.paired last small few
+    bodies records same in
     subst CopiesAreSound (ap (λ d. d.view) c.self.view_is) sound
