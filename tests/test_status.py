@@ -226,6 +226,14 @@ class Places(Status):
             wanted = [[f"{self.path}.new", str(self.path)]] * 2
             self.expect("and takes its place, at the start and at the end", wanted, renamed)
 
+    @needs_strace
+    def test_that_no_packet_waits_for_the_drive(self):
+        """The status is not synced: that may take seconds, and nobody needs a status of before a power cut."""
+        trace, words = self.room / "trace", ["play", self.place, "/dev/null", "--turns", "1", "--status", self.path]
+        run(traced([self.program, *words], "trace=fsync,fdatasync,rename", paths=[f"{self.path}.new"], out=trace))
+        calls = [it.split("(")[0].split()[-1] for it in trace.read_text().splitlines() if "(" in it]
+        self.expect("a status is renamed, at the start and at the end, and not synced", ["rename"] * 2, calls)
+
     def test_a_full_file_system(self):
         self.shown()
         before = self.path.read_bytes()

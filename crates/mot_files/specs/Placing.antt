@@ -45,31 +45,23 @@ pub data Places (handle : Handle) (beside path folder : List ℕ) (result : Resu
       ++ opened folder How.Read (Ok inside) ∷ [] ++ synced inside result ∷ [] ++ closed inside ∷ []
       → Places handle beside path folder result old new
 
--- a text is written into an open file, and made to last
-pub data Fills (handle : Handle) (text : List ℕ) (result : Result (Unit {0}) Fault)
-    (old new : List Call) : Type 0 where
-  unwritten : (fault : Fault) → result ≡ Err fault → Writes handle (Err fault) new text old
-      → Fills handle text result old new
-  written : (inner : List Call) → Writes handle (Ok tt) inner text old
-      → new ≡ inner ++ synced handle result ∷ [] → Fills handle text result old new
-
--- A file of this text is made, which was not there, and renamed once it is whole and lasts. If it
--- could not be finished it is removed.
+-- A file of this text is made, which was not there, and renamed once it is whole. It is not synced.
+-- If it could not be finished it is removed.
 pub data Replaces (beside path text : List ℕ) (result : Result (Unit {0}) Fault)
     (old new : List Call) : Type 0 where
   unmade : (fault : Fault) → result ≡ Err fault → new ≡ old ++ opened beside How.New (Err fault) ∷ []
       → Replaces beside path text result old new
   unwritten : (handle : Handle) (fault : Fault) (gone : Result (Unit {0}) Fault) (inner : List Call)
       → result ≡ Err fault
-      → Fills handle text (Err fault) (old ++ opened beside How.New (Ok handle) ∷ []) inner
+      → Writes handle (Err fault) inner text (old ++ opened beside How.New (Ok handle) ∷ [])
       → new ≡ inner ++ closed handle ∷ [] ++ removed beside gone ∷ []
       → Replaces beside path text result old new
   unnamed : (handle : Handle) (fault : Fault) (gone : Result (Unit {0}) Fault) (inner : List Call)
       → result ≡ Err fault
-      → Fills handle text (Ok tt) (old ++ opened beside How.New (Ok handle) ∷ []) inner
+      → Writes handle (Ok tt) inner text (old ++ opened beside How.New (Ok handle) ∷ [])
       → new ≡ inner ++ closed handle ∷ [] ++ renamed beside path (Err fault) ∷ []
       ++ removed beside gone ∷ [] → Replaces beside path text result old new
   replaced : (handle : Handle) (inner : List Call) → result ≡ Ok tt
-      → Fills handle text (Ok tt) (old ++ opened beside How.New (Ok handle) ∷ []) inner
+      → Writes handle (Ok tt) inner text (old ++ opened beside How.New (Ok handle) ∷ [])
       → new ≡ inner ++ closed handle ∷ [] ++ renamed beside path (Ok tt) ∷ []
       → Replaces beside path text result old new

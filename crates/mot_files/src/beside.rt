@@ -1,5 +1,5 @@
 //! A file that is written beside the one whose place it takes once it is whole.
-ghost use Rattle.mot_files.specs.Placing.{Fills, Holds, Places, Replaces};
+ghost use Rattle.mot_files.specs.Placing.{Holds, Places, Replaces};
 
 use crate::reading::is_same;
 use crate::system::{Fault, Handle, How, System};
@@ -55,8 +55,9 @@ pub fn take_place<S: System>(
     answer
 }
 
-/// Writes the text beside the file, makes it last, and gives it the file's name: so after a power cut,
-/// too, the name is that of a whole text. What could not be finished is taken away.
+/// Writes the text beside the file, and gives it the file's name once it is whole: so each reader sees
+/// the old text or the new one. Nothing is synced, so after a power cut the file may be empty or gone.
+/// A file that could not be finished is taken away.
 pub fn replace<S: System>(
     system: &mut S,
     beside: &str,
@@ -70,7 +71,7 @@ pub fn replace<S: System>(
         Ok(handle) => handle,
         Err(fault) => return Err(fault),
     };
-    let written = fill(system, handle, text);
+    let written = write_all(system, handle, text);
     system.close(handle);
     if let Err(fault) = written {
         let _ = system.remove(beside);
@@ -81,14 +82,4 @@ pub fn replace<S: System>(
         return Err(fault);
     }
     Ok(())
-}
-
-/// Writes the text into an open file, and makes it last.
-fn fill<S: System>(system: &mut S, handle: Handle, text: &[u8]) -> Result<(), Fault>
-    ensures { Fills handle text.now result (S.calls system.old) (S.calls system.new) }
-{
-    if let Err(fault) = write_all(system, handle, text) {
-        return Err(fault);
-    }
-    system.sync(handle)
 }
