@@ -206,3 +206,22 @@ class Memory(AirCase):
         self.expect("ends it", {"motcar: 14 OutOfMemory", "motcar: 23 WriteFault"}, ends - {"motcar: 15 DeviceFault"})
 
     test_each_request.takes_long = True
+
+    def test_each_request_of_a_file_of_packets(self):
+        """The file beside it is made only once there is memory for all that its making takes."""
+        shim = self.shim()
+        if not shim:
+            self.skipTest("there is no cc, or the program was built to be tried")
+        disk, new = self.disk("disk", "put a 1 0 - 61"), self.room / "packets.new"
+        left, number, unchanged, refused = [], 0, 0, 0
+        while unchanged < 20 and number < 2000:
+            number += 1
+            status, _, said = self.play(disk, self.room / "packets", "--turns", "1",
+                                        env={**os.environ, "LD_PRELOAD": str(shim), "REFUSE": str(number)})
+            unchanged, refused = (unchanged + 1, refused) if status == 0 else (0, refused + 1)
+            if new.exists():
+                left.append((number, said))
+                new.unlink()
+        self.expect("requests are refused, and nothing is left beside a file of packets", (True, []), (refused > 0, left))
+
+    test_each_request_of_a_file_of_packets.takes_long = True

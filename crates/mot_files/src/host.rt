@@ -59,6 +59,24 @@ impl<'a, T: Files<File = File> + Clock> HostSystem<'a, T> {
         Ok(Open::File(options.open(self.rt, path)?))
     }
 
+    /// Opens what the path names. The handle has its place before, so memory that is refused opens
+    /// nothing, and makes no file.
+    fn open_at_place(&mut self, path: &str, how: How) -> Result<Handle, Fault>
+        ensures calls { self.new.calls ≡ self.old.calls }
+    {
+        let handle = match self.open.vacate() {
+            Ok(handle) => handle,
+            Err(fault) => return Err(fault),
+        };
+        match told(self.open_path(path, how)) {
+            Ok(open) => {
+                self.open.put(handle, open);
+                Ok(handle)
+            }
+            Err(fault) => Err(fault),
+        }
+    }
+
     /// Reads of what the handle stands for.
     fn read_from(&mut self, handle: Handle, room: &mut [u8]) -> io::Result<usize>
         ensures within { IfOk result (λ count. count ≤ length room.new) }
@@ -126,10 +144,7 @@ impl<'a, T: Files<File = File> + Clock> System for HostSystem<'a, T> {
     }
 
     fn open(&mut self, path: &str, how: How) -> Result<Handle, Fault> {
-        let answer = match told(self.open_path(path, how)) {
-            Ok(open) => self.open.keep(open),
-            Err(fault) => Err(fault),
-        };
+        let answer = self.open_at_place(path, how);
         self.calls
             .note(&Event::Opened(how, answer), path.as_bytes(), &[]);
         answer

@@ -1,5 +1,5 @@
 //! What a system has open, by the numbers that it handed out.
-ghost use Rattle.std.specs.Prelude.{◌≡◌, ◌≢◌, ℕ, IfSome, MatchResult, None, Some, slice_get};
+ghost use Rattle.std.specs.Prelude.{◌≡◌, ◌≢◌, ℕ, IfOk, IfSome, MatchResult, None, Some, slice_get};
 ghost use Rattle.std.specs.Option.{option_copied, option_copied_mut};
 ghost use Rattle.mot_files.specs.Holding.{held};
 
@@ -32,15 +32,39 @@ impl<T: Drop> Table<T> {
             × ((other : ℕ) → other ≢ handle.slot → held self.new other ≡ held self.old other))
             (λ _. (other : ℕ) → held self.new other ≡ held self.old other) }
     {
+        match self.vacate() {
+            Ok(handle) => {
+                self.put(handle, opened);
+                Ok(handle)
+            }
+            Err(fault) => Err(fault),
+        }
+    }
+
+    /// A handle that stands for nothing, and a place for it. The other handles stay as they are.
+    pub(crate) fn vacate(&mut self) -> Result<Handle, Fault>
+        ensures free { IfOk result (λ handle. slice_get self.new.places.items handle.slot
+            ≡ Some None) }
+        ensures same { (place : ℕ) → held self.new place ≡ held self.old place }
+    {
         if let Some(at) = self.free() {
-            self.places[at] = Some(opened);
             return Ok(Handle { slot: at as u64 });
         }
         let slot = self.places.len() as u64;
-        match self.places.push(Some(opened)) {
+        match self.places.push(None) {
             Ok(()) => Ok(Handle { slot }),
             Err(_) => Err(Fault::System(io::Error::from(ErrorKind::OutOfMemory))),
         }
+    }
+
+    /// Gives what was opened a handle that has a place.
+    pub(crate) fn put(&mut self, handle: Handle, opened: T)
+        requires { slice_get self.old.places.items handle.slot ≡ Some None }
+        ensures put { held self.new handle.slot ≡ Some opened }
+        ensures others { (other : ℕ) → other ≢ handle.slot
+            → held self.new other ≡ held self.old other }
+    {
+        self.places[handle.slot as usize] = Some(opened);
     }
 
     /// The first place at which nothing is open.
