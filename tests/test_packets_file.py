@@ -134,6 +134,17 @@ class PacketsFile(AirCase):
         self.expect_kept("and that one's file stays", "file.new")
         self.expect("as it is", b"another's", self.new.read_bytes())
 
+    def test_a_status_in_its_place(self):
+        """The status takes the place neither of the file of packets nor of the one beside it, by whatever path."""
+        (self.room / "link").symlink_to(self.packets_of)
+        one = b"".join(self.turns(self.place, 1))
+        for path in (self.path, self.new, self.room / "link/file", self.room / "link/file.new"):
+            self.write("2")
+            ended = self.play(self.place, self.path, "--turns", "1", "--status", path)
+            told = f"status {path} refused 23 WriteFault: in use by another program\n".encode()
+            self.expect(f"the status is refused: {path}", (0, told, b""), ended)
+            self.expect("and the file has its packets", (one, ["file"]), (self.path.read_bytes(), self.there()))
+
     def test_what_stands_beside_it(self):
         victim = self.packets_of / "victim"
         victim.write_bytes(b"mine")

@@ -234,6 +234,16 @@ class Places(Status):
         calls = [it.split("(")[0].split()[-1] for it in trace.read_text().splitlines() if "(" in it]
         self.expect("a status is renamed, at the start and at the end, and not synced", ["rename"] * 2, calls)
 
+    @needs_strace
+    def test_one_that_cant_be_opened(self):
+        """It is opened to see whether a program writes it; that no lock is known to be held is no reason."""
+        self.shown()
+        self.path.write_bytes(b"of before")
+        words = [self.program, "play", self.place, "/dev/null", "--turns", "1", "--status", self.path]
+        for fault in ("inject=openat:error=EACCES", "inject=flock:error=ENOLCK"):
+            ended = self.traced(words, fault, paths=[self.path])
+            self.expect(f"a status is written: {fault}", (0, b"", b"", 1), (*ended, self.count("turns_total")))
+
     def test_a_full_file_system(self):
         self.shown()
         before = self.path.read_bytes()

@@ -1,13 +1,13 @@
 //! The file that monitoring reads.
 ghost use Rattle.std.specs.Prelude.{◌≡◌, ◌++◌, ◌∷◌, [], IfSome, MatchOption, codes, string_bytes};
 ghost use Rattle.mot_files.specs.Call.{told_time};
-ghost use Rattle.mot_destinations.specs.Status.{ChecksPlace, WritesStatus, beside_fault};
-ghost use Rattle.mot_destinations.specs.Status.{status_beside, status_disk, status_system};
+ghost use Rattle.mot_destinations.specs.Status.{AsksLock, ChecksPlace, WritesStatus, beside_fault};
+ghost use Rattle.mot_destinations.specs.Status.{status_beside, status_disk, status_system, unless_busy};
 
 use crate::beside::{SUFFIX, is_of_disk};
 use crate::fault::PacketsFault;
 use crate::new_file::{clear, find};
-use mot_files::{System, Time, replace};
+use mot_files::{Fault, How, System, Time, replace};
 use std::alloc::{AllocError, Global};
 
 /// A file of which a reader always sees a whole text.
@@ -50,7 +50,7 @@ impl<'a, S: System + Drop> StatusFile<'a, S> {
     }
 
     /// Writes the text beside the file, and puts it in its place. Neither is synced: after a power
-    /// cut the file may be empty. The disk stays, and so does what is no regular file.
+    /// cut the file may be empty. The disk stays, and so do what is no regular file and what is locked.
     pub fn write(&mut self, text: &[u8]) -> Result<(), PacketsFault>
         ensures calls { MatchOption (status_beside self.old)
             (S.calls (status_system self.new) ≡ S.calls (status_system self.old))
@@ -73,7 +73,8 @@ impl<'a, S: System + Drop> StatusFile<'a, S> {
     }
 }
 
-/// Whether a text may take the place of what is at the path.
+/// Whether a text may take the place of what is at the path: a regular file that no program of ours
+/// writes, or nothing.
 fn check_place<S: System>(system: &mut S, path: &str, disk: &str) -> Result<(), PacketsFault>
     ensures { ChecksPlace path.now disk.now result (S.calls system.old) (S.calls system.new) }
 {
@@ -81,8 +82,33 @@ fn check_place<S: System>(system: &mut S, path: &str, disk: &str) -> Result<(), 
         return Err(PacketsFault::IsOfDisk);
     }
     match find(system, path, disk) {
-        Ok(_) => Ok(()),
+        Ok(true) => check_unused(system, path),
+        Ok(false) => Ok(()),
         Err(fault) => Err(fault),
+    }
+}
+
+/// Refuses a file that is locked, as packets lock what they are written to. One whose lock can't be
+/// asked for is not refused.
+fn check_unused<S: System>(system: &mut S, path: &str) -> Result<(), PacketsFault>
+    ensures { AsksLock path.now result (S.calls system.old) (S.calls system.new) }
+{
+    let handle = match system.open(path, How::Read) {
+        Ok(handle) => handle,
+        Err(_) => return Ok(()),
+    };
+    let answer = system.lock(handle);
+    system.close(handle);
+    unless_busy(answer)
+}
+
+/// Only a lock that is held is a fault.
+fn unless_busy(answer: Result<(), Fault>) -> Result<(), PacketsFault>
+    ensures { result ≡ unless_busy answer }
+{
+    match answer {
+        Err(Fault::Busy) => Err(PacketsFault::InUse),
+        _ => Ok(()),
     }
 }
 
