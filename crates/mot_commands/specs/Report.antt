@@ -1,6 +1,6 @@
 -- What `format`, `check` and `migrate` print, and what they leave of a disk.
 use Rattle.std.specs.Prelude.{◌≡◌, ◌≢◌, ◌⊎◌, ◌↔◌, ℕ, Bool, List, ◌++◌, Option, Some}
-use Rattle.std.specs.Prelude.{Ok, Err, IsTrue, if◌then◌else◌, codes}
+use Rattle.std.specs.Prelude.{Ok, Err, IsFalse, IsTrue, if◌then◌else◌, codes}
 use Rattle.std.specs.Io.KnownBytes.{Keeps}
 use Rattle.disk_model.specs.Disk.{State, IsStill, KeepsLength, OnlySyncs, Throughout}
 use Rattle.mot_ending.specs.Opening.{IsUnopened, OfClean}
@@ -79,6 +79,8 @@ pub record IsMigrated (text : List ℕ) (start now : State) : Type 0 where
   pub line : text ≡ migrated_line done
   pub rewritten : now.IsHonest → (journal : DiskRecords) × (records_of start.bytes ≡ Ok journal)
       × (IsTrue done ↔ (journal.layout ≡ One))
+  -- of layout 2 already it was only synced, clean or not
+  pub already : IsFalse done → now.IsHonest → IsStill start now
   pub is_two : OfClean
       (λ s. (image : List ℕ) → now.MayLeave image → IsOf s image × IsInLayoutTwo image) start now
 

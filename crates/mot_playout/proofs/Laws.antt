@@ -5,7 +5,7 @@ pub use Rattle.mot_playout.proofs.Runs.{after_none, after_one, after_both}
 pub use Rattle.mot_playout.proofs.Runs.{more, less_sure, none_of, before_or_after}
 pub use Rattle.mot_playout.proofs.Survival.{after_history_none}
 -- what was left of a disk that was formatted here
-pub use Rattle.mot_playout.proofs.Lives.{keeps_commands, none_or_left}
+pub use Rattle.mot_playout.proofs.Lives.{keeps_commands, none_kept, none_or_left}
 pub use Rattle.mot_playout.proofs.Survival.{passing, if_err}
 -- why a command is refused on a disk of layout 2
 pub use Rattle.mot_playout.proofs.Marked.{IsRefused, refused_by}

@@ -1,5 +1,5 @@
 -- What was left of a disk that was formatted here, opened and played.
-use Rattle.std.proofs.Common.{◌≡◌, ◌⊎◌, inl, inr, ⊎_elim, ℕ, false, List, [], Option, Some, None}
+use Rattle.std.proofs.Common.{◌≡◌, ◌⊎◌, inl, inr, ℕ, false, List, [], Option, Some, None}
 use Rattle.std.proofs.Common.{Ok, Err, refl, sym, ap, ◌∙◌, subst}
 use Rattle.std.specs.Prelude.{IfSome, IsFalse}
 use Rattle.disk_model.specs.Disk.{State}
@@ -57,6 +57,16 @@ keeps_commands g first rest sure others image is =
     ∙ ap (λ h. rest_of h image) after.geometry in
     subst (λ r. StandsAfterSome (standing_from g first r) sure others image) same is
 
+-- what a crash left of a disk that was being formatted: no magic, or the new one
+pub none_kept : (g : Geometry) (first : ℕ) (others : List Command) (image : List ℕ)
+    → NoneOrFrom g first image
+    → (has_magic image ≡ false) ⊎ KeepsCommands g first [] others image
+none_kept g first others image (inl none) = inl none
+none_kept g first others image (inr made) =
+    let s = standing_from g first (rest_of g image) in
+    inr (none_of s [] others s image (after_none s)
+    (record { stands = made.stands; clean = made.clean }))
+
 -- what a crash left of a disk just formatted: no magic, or what commands have left
 pub none_or_left : (g : Geometry) (first : ℕ) (rest : List ℕ) (others : List Command)
     (image : List ℕ) (Old : Type 0) → (Old → NoneOrFrom g first image)
@@ -65,12 +75,7 @@ pub none_or_left : (g : Geometry) (first : ℕ) (rest : List ℕ) (others : List
 none_or_left g first rest others image Old new (inr stands) =
     inr (keeps_commands g first rest [] others image stands)
 none_or_left g first rest others image Old new (inl old) =
-    ⊎_elim {C = (has_magic image ≡ false) ⊎ KeepsCommands g first [] others image}
-    (λ none. inl none)
-    (λ made. let s = standing_from g first (rest_of g image) in
-    inr (none_of s [] others s image (after_none s)
-    (record { stands = made.stands; clean = made.clean })))
-    (new old)
+    none_kept g first others image (new old)
 
 -- why one without the magic is not opened
 pub unopened : (old new : State) (refusal : Refusal) → new.IsHonest → has_magic old.bytes ≡ false

@@ -1,14 +1,13 @@
 //! The life of a disk: formatted, opened, given commands; and then opened and played as a crash at
 //! any moment left it. Nothing here is said in the words of the disk's format or of memory.
-ghost use Rattle.std.specs.Prelude.{◌≡◌, ◌⊎◌, ◌++◌, ℕ, List, [], false, length, vec_len, IfOk};
-ghost use Rattle.std.specs.Prelude.{IfErr, IfSome, IfNone, MatchResult};
+ghost use Rattle.std.specs.Prelude.{◌≡◌, ◌⊎◌, ◌++◌, ℕ, List, [], true, false, length, vec_len};
+ghost use Rattle.std.specs.Prelude.{IfOk, IfErr, IfSome, IfNone, MatchResult};
 ghost use Rattle.disk_model.specs.Disk.{IsStill, KeepsLength, OnlySyncs, Throughout};
 ghost use Rattle.mot_journal.specs.Geometry.{has_magic};
 ghost use Rattle.mot_journal.specs.declared.layout.Layout.TheVariants.{Two};
 ghost use Rattle.mot_journal.specs.Image.{rest_of};
 ghost use Rattle.mot_journal.specs.Journal.{NoneOrFrom, standing_from};
 ghost use Rattle.mot_numbers.specs.declared.geometry.Geometry.{Geometry};
-ghost use Rattle.mot_numbers.specs.declared.refusal.Refusal.TheVariants.{AlreadyFormatted};
 ghost use Rattle.mot_numbers.specs.declared.refusal.Refusal.TheVariants.{NotFormatted};
 ghost use Rattle.mot_objects.specs.declared.command.Command.{Command};
 ghost use Rattle.mot_repository.specs.Opening.{IsPassing};
@@ -61,13 +60,16 @@ pub fn format_and_run<D: Disk>(
     directory: TransportId,
     commands: &[Command],
 ) -> Result<Life<D>, Refused<D>>
-    // a crash at some moment since the call began
-    ensures any_moment { IfOk result (λ life. (D.state life.disk).IsHonest
+    // a crash at some moment since the call began, which may have been refused
+    ensures any_moment { MatchResult result (λ life. (D.state life.disk).IsHonest
         → IsBlank (D.state disk) → (image : List ℕ)
         → (D.state life.disk).LeftSince (D.state disk).moment image
         → (has_magic image ≡ false) ⊎ KeepsCommands geometry.now directory []
         (accepted_commands commands.now life.end.done.items
-        ++ commands_in_flight commands.now life.end.done.items life.end.fault) image) }
+        ++ commands_in_flight commands.now life.end.done.items life.end.fault) image)
+        (λ e. (D.state e.disk).IsHonest → IsBlank (D.state disk) → (image : List ℕ)
+        → (D.state e.disk).LeftSince (D.state disk).moment image
+        → (has_magic image ≡ false) ⊎ KeepsCommands geometry.now directory [] [] image) }
 
     // a crash once the call has returned
     ensures acknowledged { IfOk result (λ life. (D.state life.disk).IsHonest → (image : List ℕ)
@@ -84,11 +86,15 @@ pub fn format_and_run<D: Disk>(
     ensures fault { IfOk result (λ life. (D.state life.disk).IsHonest → IfSome life.end.fault
         (λ refusal. IsPassing (D.state disk) (D.state life.disk) refusal)) }
 
-    // Why no disk was made; one that was formatted before stays.
+    // why no disk was made
     ensures refused { IfErr result (λ e. (D.state e.disk).IsHonest
         → IsUnmade geometry.now (D.state disk) (D.state e.disk) e.refusal) }
-    ensures still { IfErr result (λ e. (D.state e.disk).IsHonest → e.refusal ≡ AlreadyFormatted
-        → IsStill (D.state disk) (D.state e.disk)) }
+
+    // one that was formatted before is refused, and stays
+    ensures over { IfOk result (λ life. (D.state life.disk).IsHonest
+        → has_magic (D.state disk).bytes ≡ false) }
+    ensures still { IfErr result (λ e. (D.state e.disk).IsHonest
+        → has_magic (D.state disk).bytes ≡ true → IsStill (D.state disk) (D.state e.disk)) }
 {
     let mut server = format_and_open(alloc, disk, geometry, directory)?;
     let end = server.run(alloc, commands);
@@ -99,7 +105,8 @@ pub fn format_and_run<D: Disk>(
 }
 
 /// A new disk, formatted and opened: it stands for the new carousel, whose directory has this
-/// transport id, and at each moment until then a crash leaves no magic, or an image that does.
+/// transport id, and at each moment until then a crash leaves no magic, or an image that does. So it
+/// is at each moment of a call that is refused.
 pub fn format_and_open<D: Disk>(
     alloc: Global,
     disk: D,
@@ -115,9 +122,11 @@ pub fn format_and_open<D: Disk>(
         → server.view.journal.layout ≡ Two) }
     ensures calm { IfOk result (λ server.
         (D.state server.disk).failures ≡ (D.state disk).failures) }
-    ensures any_moment { IfOk result (λ server. (D.state server.disk).IsHonest
+    ensures any_moment { MatchResult result (λ server. (D.state server.disk).IsHonest
         → IsBlank (D.state disk)
-        → Throughout (D.state disk) (D.state server.disk) (NoneOrFrom geometry.now directory)) }
+        → Throughout (D.state disk) (D.state server.disk) (NoneOrFrom geometry.now directory))
+        (λ e. (D.state e.disk).IsHonest → IsBlank (D.state disk)
+        → Throughout (D.state disk) (D.state e.disk) (NoneOrFrom geometry.now directory)) }
 
     // lives in a row begin so: no command is done
     ensures begins { IfOk result (λ server. (D.state server.disk).IsHonest
@@ -125,9 +134,11 @@ pub fn format_and_open<D: Disk>(
     ensures refused { IfErr result (λ e. (D.state e.disk).IsHonest
         → IsUnmade geometry.now (D.state disk) (D.state e.disk) e.refusal) }
 
-    // a disk that was formatted before stays
-    ensures still { IfErr result (λ e. (D.state e.disk).IsHonest → e.refusal ≡ AlreadyFormatted
-        → IsStill (D.state disk) (D.state e.disk)) }
+    // a disk that was formatted before is refused, and stays
+    ensures over { IfOk result (λ server. (D.state server.disk).IsHonest
+        → has_magic (D.state disk).bytes ≡ false) }
+    ensures still { IfErr result (λ e. (D.state e.disk).IsHonest
+        → has_magic (D.state disk).bytes ≡ true → IsStill (D.state disk) (D.state e.disk)) }
 {
     let mut disk = disk;
     if let Err(refusal) = format_from(&mut disk, geometry, directory) {

@@ -1,14 +1,13 @@
 //! The life of a disk with lines: formatted, opened and served; and then opened and played as a
 //! crash at any moment left it. Its words are input bytes, output bytes and packets alone.
 ghost use Rattle.std.specs.Prelude.{◌≡◌, ◌≤◌, ◌++◌, ℕ, List, [], Some, None, IfOk, IfErr};
-ghost use Rattle.std.specs.Prelude.{◌⊎◌, false, if◌then◌else◌, MatchResult};
+ghost use Rattle.std.specs.Prelude.{◌⊎◌, true, false, if◌then◌else◌, MatchResult};
 ghost use Rattle.std.specs.List.{flat_map};
 ghost use Rattle.disk_model.specs.Disk.{IsStill, KeepsLength, OnlySyncs};
 ghost use Rattle.disk_model.specs.Failures.{Rises};
 ghost use Rattle.mot_journal.specs.Geometry.{has_magic};
 ghost use Rattle.mot_journal.specs.declared.layout.Layout.TheVariants.{Two};
 ghost use Rattle.mot_numbers.specs.declared.geometry.Geometry.{Geometry};
-ghost use Rattle.mot_numbers.specs.declared.refusal.Refusal.TheVariants.{AlreadyFormatted};
 ghost use Rattle.mot_numbers.specs.declared.refusal.Refusal.TheVariants.{OutOfMemory};
 ghost use Rattle.mot_objects.specs.declared.command.Command.{Command};
 ghost use Rattle.mot_repository.specs.Opening.{IsPassing};
@@ -84,11 +83,18 @@ pub fn format_and_serve<R: Read, W: Write, D: Disk>(
     ensures ends { IfOk result (λ life. EndsServing life.end.fault
         × (life.end.fault ≡ Some OutOfMemory → life.end.lines ≡ 0)) }
 
-    // Why no disk was made; one that was formatted before stays.
+    // why no disk was made, and what a crash at some moment of such a call leaves
     ensures refused { IfErr result (λ e. (D.state e.disk).IsHonest
         → IsUnmade geometry.now (D.state disk) (D.state e.disk) e.refusal) }
-    ensures still { IfErr result (λ e. (D.state e.disk).IsHonest → e.refusal ≡ AlreadyFormatted
-        → IsStill (D.state disk) (D.state e.disk)) }
+    ensures any_moment { IfErr result (λ e. (D.state e.disk).IsHonest → IsBlank (D.state disk)
+        → (image : List ℕ) → (D.state e.disk).LeftSince (D.state disk).moment image
+        → (has_magic image ≡ false) ⊎ KeepsCommands geometry.now directory [] [] image) }
+
+    // one that was formatted before is refused, and stays
+    ensures over { IfOk result (λ life. (D.state life.disk).IsHonest
+        → has_magic (D.state disk).bytes ≡ false) }
+    ensures still { IfErr result (λ e. (D.state e.disk).IsHonest
+        → has_magic (D.state disk).bytes ≡ true → IsStill (D.state disk) (D.state e.disk)) }
 {
     let mut server = format_and_open(alloc, disk, geometry, directory)?;
     let end = serve(alloc, reader, writer, &mut server, reads);

@@ -1,7 +1,11 @@
 use Rattle.mot_playout.specs.Attempts.{fault_of}
-use Rattle.std.proofs.Common.{◌∙◌, Some, ap, inl, inr, refl, subst, sym}
+use Rattle.std.proofs.Common.{◌≡◌, ◌∙◌, Bool, true, false, Some, ap, inl, inr, refl, subst, sym}
+use Rattle.std.specs.Prelude.{IsFalse, IsTrue}
 use Rattle.std.proofs.KnownBytes.{Keeps-refl}
 use Rattle.disk_model.proofs.Laws.{keeps_on}
+use Rattle.disk_model.specs.Disk.{IsStill}
+use Rattle.mot_journal.specs.declared.layout.Layout.{Layout}
+use Rattle.mot_journal.specs.declared.layout.Layout.TheVariants.{One, Two}
 use Rattle.mot_journal.specs.Journal.{with_records}
 use Rattle.mot_numbers.specs.Refusal.{IsCalm}
 use Rattle.mot_repository.specs.Answers.IsMigrationRefusal.{failed, halted, no_memory}
@@ -35,12 +39,23 @@ returns-in-Err g c =
       );
     })
 
+-- a journal of another layout than the first is of the second
+second : (layout : Layout) → (layout ≡ One → ⊥) → layout ≡ Two
+second One not = absurd (not refl)
+second Two not = refl
+
+-- what was done was not left
+not_done : (done : Bool) → IsFalse done → IsTrue done → ⊥
+not_done true not is = cc
+not_done false not is = cc
+
 -- what was migrated, whether that was printed or not
 migrated : (g : given.Over) (c : goal.After-into_disk g)
     → IsMigrated (migrated_line c.in-Ok-migrate.is_rewritten) (g.D.Disk.state c.args.disk)
     (g.D.Disk.state c.migrate.new.self.disk)
 migrated g c =
     let state = g.D.Disk.state in
+    let start = state c.args.disk in
     let repository = c.in-Ok.repository in
     let after = c.migrate.new.self in
     let opens = c.in-Ok.ensures in
@@ -51,6 +66,10 @@ migrated g c =
       rewritten = λ honest.
           let opened = opens.opened (calls.keeps.frame.was_honest honest) in
           (with_records repository.view.journal opened.records, opened.read, calls.rewritten);
+      already = λ not honest. subst (λ r. IsStill start (state r.disk))
+          (sym (calls.still (second repository.view.journal.layout
+          (λ one. not_done _ not (calls.rewritten.1 one)))).0)
+          (opens.only_syncs.still (calls.keeps.frame.was_honest honest));
       is_two = λ s honest each image left.
           let then = calls.ok s (migrates_held state c.args.disk repository after g.met.D.Disk.sound
           opens.only_syncs opens.opened opens.going calls.keeps s honest each) in

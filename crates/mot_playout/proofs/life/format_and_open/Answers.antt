@@ -1,23 +1,17 @@
 use Rattle.std.proofs.Common.{◌≡◌, ◌⊎◌, ℕ, List, inl, inr, Result, Ok, Err, ap, sym, ◌∙◌}
-use Rattle.std.proofs.Common.{subst, refl, true, arith, []}
+use Rattle.std.proofs.Common.{subst, refl, true, false, arith, []}
 use Rattle.std.proofs.lemmas.Result.{IfOk-from_err}
-use Rattle.disk_model.specs.Disk.{IsStill, State}
+use Rattle.disk_model.specs.Disk.{State}
 use Rattle.disk_model.specs.Failures.{Rises}
 use Rattle.disk_model.proofs.Laws.{keeps_on, stays}
 use Rattle.mot_journal.specs.declared.layout.Layout.{Layout}
 use Rattle.mot_journal.specs.declared.layout.Layout.TheVariants.{Two}
 use Rattle.mot_journal.specs.declared.record.Record.{Record}
-use Rattle.mot_journal.specs.Geometry.{has_magic}
-use Rattle.mot_journal.specs.Making.{IsFormatRefusal}
-use Rattle.mot_journal.specs.Making.IsFormatRefusal.{bad, small, already, device}
 use Rattle.mot_journal.specs.Image.{DiskRecords, IsInLayoutTwo, records_of, rest_of}
 use Rattle.mot_journal.specs.Journal.{NoneOrFrom, standing_from, with_records}
 use Rattle.mot_numbers.proofs.Laws.{same_error}
-use Rattle.mot_numbers.specs.declared.geometry.Geometry.{Geometry}
 use Rattle.mot_numbers.specs.declared.refusal.Refusal.{Refusal}
-use Rattle.mot_numbers.specs.declared.refusal.Refusal.TheVariants.{AlreadyFormatted, BadGeometry}
-use Rattle.mot_numbers.specs.declared.refusal.Refusal.TheVariants.{DeviceFault, DiskTooSmall}
-use Rattle.mot_numbers.specs.declared.refusal.Refusal.TheVariants.{OutOfMemory}
+use Rattle.mot_numbers.specs.declared.refusal.Refusal.TheVariants.{DeviceFault, OutOfMemory}
 use Rattle.mot_repository.specs.Opening.{IsPassing}
 use Rattle.mot_repository.specs.Repository.{Holds, RepositoryView}
 use Rattle.mot_playout.proofs.Survival.{passing}
@@ -41,42 +35,20 @@ passing_since : (old mid new : State) (refusal : Refusal) → mid.failures ≡ o
 passing_since old mid new refusal calm is =
     subst (λ n. (refusal ≡ OutOfMemory) ⊎ ((refusal ≡ DeviceFault) × Rises n new.failures)) calm is
 
--- a disk that was formatted before is not changed
-stays_formatted : (g : Geometry) (old new : State) (refusal : Refusal)
-    → (new.IsHonest → has_magic old.bytes ≡ true → IsStill old new)
-    → IsFormatRefusal g old new refusal → new.IsHonest → refusal ≡ AlreadyFormatted
-    → IsStill old new
-stays_formatted g old new refusal stays (bad is out) honest e =
-    absurd (let same : BadGeometry ≡ AlreadyFormatted = sym is ∙ e in cc)
-stays_formatted g old new refusal stays (small is few) honest e =
-    absurd (let same : DiskTooSmall ≡ AlreadyFormatted = sym is ∙ e in cc)
-stays_formatted g old new refusal stays (already is magic) honest e =
-    stays honest (magic honest)
-stays_formatted g old new refusal stays (device is rises) honest e =
-    absurd (let same : DeviceFault ≡ AlreadyFormatted = sym is ∙ e in cc)
-
--- no passing reason is that
-not_passing : (old new : State) (refusal : Refusal) → IsPassing old new refusal
-    → refusal ≡ AlreadyFormatted → ⊥
-not_passing old new refusal (inl is) e = let same : OutOfMemory ≡ AlreadyFormatted = sym is
-    ∙ e in cc
-not_passing old new refusal (inr (is, rises)) e =
-    let same : DeviceFault ≡ AlreadyFormatted = sym is ∙ e in cc
-
 pub returns-in-Err-clause-keeps : goal.returns-in-Err-clause-keeps
 returns-in-Err-clause-keeps g c = c.in-Err.ensures.makes.keeps
 
 pub returns-in-Err-clause-still : goal.returns-in-Err-clause-still
-returns-in-Err-clause-still g c =
-    stays_formatted c.args.geometry.now (g.D.Disk.state c.args.disk)
-    (g.D.Disk.state c.format_from.new.disk) c.in-Err.refusal c.in-Err.ensures.makes.already
-    c.in-Err.ensures.makes.refused
+returns-in-Err-clause-still g c = c.in-Err.ensures.makes.already
+
+pub returns-in-Err-clause-over : goal.returns-in-Err-clause-over
+returns-in-Err-clause-over g c = tt
 
 pub returns-in-Err-clause-holds : goal.returns-in-Err-clause-holds
 returns-in-Err-clause-holds g c = tt
 
 pub returns-in-Err-clause-any_moment : goal.returns-in-Err-clause-any_moment
-returns-in-Err-clause-any_moment g c = tt
+returns-in-Err-clause-any_moment g c = c.in-Err.ensures.makes.any_moment
 
 pub returns-in-Err-clause-layout : goal.returns-in-Err-clause-layout
 returns-in-Err-clause-layout g c = tt
@@ -104,7 +76,14 @@ returns-in_err-server-clause-holds g c =
 
 pub returns-in_err-server-clause-any_moment : goal.returns-in_err-server-clause-any_moment
 returns-in_err-server-clause-any_moment g c =
-    IfOk-from_err c.from_residual.result _ c.from_residual.ensures.0
+    let state = g.D.Disk.state in
+    let syncs = c.in_err-server.ensures.only_syncs in
+    let failed = c.in_err-server.field-0.0 in
+    rw (same_error c.from_residual.result failed c.from_residual.ensures.1) (λ honest blank.
+    stays (state c.args.disk) (state c.format_from.new.disk) (state failed.disk)
+    (NoneOrFrom c.args.geometry.now c.args.directory)
+    (c.in_default.ensures.makes.any_moment (syncs.keeps.was_honest honest) blank)
+    (syncs.still honest).time)
 
 pub returns-in_err-server-clause-layout : goal.returns-in_err-server-clause-layout
 returns-in_err-server-clause-layout g c =
@@ -134,26 +113,26 @@ returns-in_err-server-clause-refused g c =
     c.args.directory (rest_of c.args.geometry.now (state formatted).bytes))
     failed.refusal honest (record { stands = made.stands; clean = made.clean }) opens.refused)))
 
+pub returns-in_err-server-clause-over : goal.returns-in_err-server-clause-over
+returns-in_err-server-clause-over g c =
+    IfOk-from_err c.from_residual.result _ c.from_residual.ensures.0
+
 pub returns-in_err-server-clause-still : goal.returns-in_err-server-clause-still
 returns-in_err-server-clause-still g c =
-    let state = g.D.Disk.state in
-    let formatted = c.format_from.new.disk in
-    let opens = c.in_err-server.ensures in
     let failed = c.in_err-server.field-0.0 in
-    rw (same_error c.from_residual.result failed c.from_residual.ensures.1) (λ honest e.
-    let was = opens.only_syncs.keeps.was_honest honest in
-    let made = c.in_default.ensures.makes.ok was (state formatted).bytes
-    (g.met.D.Disk.sound formatted was).bytes in
-    absurd (not_passing (state formatted) (state failed.disk) failed.refusal
-    (passing (state formatted) (state failed.disk) (standing_from c.args.geometry.now
-    c.args.directory (rest_of c.args.geometry.now (state formatted).bytes))
-    failed.refusal honest (record { stands = made.stands; clean = made.clean }) opens.refused) e))
+    rw (same_error c.from_residual.result failed c.from_residual.ensures.1) (λ honest magic.
+    absurd (let f : true ≡ false = sym magic ∙ c.in_default.ensures.makes.not_over
+    (c.in_err-server.ensures.only_syncs.keeps.was_honest honest) in cc))
 
 pub returns-clause-refused : goal.returns-clause-refused
 returns-clause-refused g c = tt
 
 pub returns-clause-still : goal.returns-clause-still
 returns-clause-still g c = tt
+
+pub returns-clause-over : goal.returns-clause-over
+returns-clause-over g c = λ honest. c.in_default.ensures.makes.not_over
+    (c.in_ok-server.ensures.only_syncs.keeps.was_honest honest)
 
 pub returns-clause-keeps : goal.returns-clause-keeps
 returns-clause-keeps g c =

@@ -1,9 +1,10 @@
-use Rattle.std.proofs.Common.{◌++◌, sym, subst}
+use Rattle.std.proofs.Common.{[], ◌++◌, sym, subst}
 use Rattle.mot_journal.specs.Image.{rest_of}
 use Rattle.mot_journal.specs.Journal.{standing_from}
 use Rattle.mot_playout.specs.Runs.{accepted_commands, commands_in_flight}
+use Rattle.mot_numbers.proofs.Laws.{same_error}
 use Rattle.mot_repository.specs.Opening.{IsPassing}
-use Rattle.mot_playout.proofs.Lives.{if_some, keeps_commands, none_or_left, run_fault}
+use Rattle.mot_playout.proofs.Lives.{if_some, keeps_commands, none_kept, none_or_left, run_fault}
 use Rattle.mot_playout.proofs.Marked.{marks_of_carousel}
 use Rattle.mot_playout.proofs.life.format_and_run.Goals as goal
 
@@ -71,3 +72,10 @@ returns-clause-fault g c = λ honest.
     (run_fault (state c.args.disk) (state c.in_ok-server.server.disk)
     (state c.run-end.new.self.disk) c.in_ok-server.server.view c.run-end.new.self.view refusal
     opens.calm going is)) run.fault
+
+pub returns-in_err-server-clause-any_moment : goal.returns-in_err-server-clause-any_moment
+returns-in_err-server-clause-any_moment g c =
+    let failed = c.in_err-server.field-0.0 in
+    rw (same_error c.from_residual.result failed c.from_residual.ensures.1)
+    (λ honest blank image left. none_kept c.args.geometry.now c.args.directory [] image
+    ((c.in_err-server.ensures.any_moment honest blank).each image left))

@@ -3,7 +3,8 @@ use Rattle.std.specs.List.{flat_map}
 use Rattle.disk_model.specs.Failures.{Rises}
 use Rattle.mot_journal.specs.Journal.{standing_from}
 use Rattle.mot_playout.specs.Life.{carousel_from}
-use Rattle.mot_playout.proofs.Laws.{keeps_commands, none_or_left}
+use Rattle.mot_numbers.proofs.Laws.{same_error}
+use Rattle.mot_playout.proofs.Laws.{keeps_commands, none_kept, none_or_left}
 use Rattle.mot_session.specs.Life.{AreRightReplies, commands_done, fails_in}
 use Rattle.mot_session.proofs.Lives.{done_at, done_stands, kept_new, left_or_stands}
 use Rattle.mot_session.proofs.Lives.{served_so, some_of}
@@ -66,3 +67,16 @@ returns-clause-told g c = λ honest.
 
 pub returns-clause-ends : goal.returns-clause-ends
 returns-clause-ends g c = (c.serve-end.ensures.faults, λ is. (c.serve-end.ensures.none is).0)
+
+pub returns-clause-over : goal.returns-clause-over
+returns-clause-over g c = λ honest. c.in_ok-server.ensures.over
+    (c.serve-end.ensures.goes.keeps.was_honest
+    (subst (λ d. (g.D.Disk.state d).IsHonest) c.into_disk.ensures honest))
+
+-- refused: a crash left no magic, or the new carousel
+pub returns-in_err-server-clause-any_moment : goal.returns-in_err-server-clause-any_moment
+returns-in_err-server-clause-any_moment g c =
+    let failed = c.in_err-server.field-0.0 in
+    rw (same_error c.from_residual.result failed c.from_residual.ensures.1)
+    (λ honest blank image left. none_kept c.args.geometry.now c.args.directory [] image
+    ((c.in_err-server.ensures.any_moment honest blank).each image left))
