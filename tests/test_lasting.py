@@ -46,6 +46,19 @@ class Lasting(AirCase):
                 (self.objects_of / f"{command}.txt").unlink()
                 self.expect(f"{command}: one that is gone", ["disk", "folder", "disk"], self.synced(command))
 
+    def test_what_can_not_be_stored(self):
+        self.place = self.new_disk("small", "--objects", "1", "--data", "100")
+        self.objects_of = self.room / "many"
+        self.objects_of.mkdir()
+        for name in ("a.txt", "b.txt", "c.txt"):
+            (self.objects_of / name).write_bytes(b"x" * 50)
+        for command in ("sync", "play"):
+            (self.objects_of / "a.txt").write_bytes(command.encode() * 10)
+            self.expect(f"{command}: what waits for a place", ["disk", "a.txt", "folder", "disk"], self.synced(command))
+            self.expect(f"{command}: and waits on", ["disk"], self.synced(command))
+            (self.objects_of / "a.txt").write_bytes(b"x" * 80)
+            self.expect(f"{command}: what no gap holds", ["disk"], self.synced(command))
+
     def looked(self, error, *paths):
         """A look in which the syncs of these paths fail."""
         return run(traced(self.words("sync"), f"inject=fsync:error={error}", paths=paths))

@@ -4,7 +4,7 @@ use Rattle.std.proofs.Common.{append_assoc}
 use Rattle.std.proofs.Common.{append-nil, map, refl, subst, sym, take, arith}
 use Rattle.std.proofs.Common.{None, Some, Option, Bool, true, false, not, ◌||◌, cond, inl, inr}
 use Rattle.std.specs.List.{list_any}
-use Rattle.std.specs.Prelude.{◌≢◌, ◌&&◌, ◌⊎◌, ◌↔◌, bytes_eq, slice_get, filter, nat_lt}
+use Rattle.std.specs.Prelude.{◌&&◌, ◌⊎◌, ◌↔◌, bytes_eq, slice_get, filter, nat_lt}
 use Rattle.std.proofs.lemmas.Bool.{or_parts}
 use Rattle.std.proofs.lemmas.Slice.Eq.{bytes_eq-Decides}
 use Rattle.std.proofs.lemmas.Grind.{flat_map-append}
@@ -47,7 +47,7 @@ use Rattle.mot_suffixes.specs.Types.{SuffixType}
 use Rattle.mot_suffixes.specs.declared.images.OtherImage.{OtherImage}
 use Rattle.mot_objects.specs.declared.command.Command.{Command}
 use Rattle.mot_update.specs.Laws.{names_of}
-use Rattle.mot_update.specs.Looking.{AreAccepted}
+use Rattle.mot_update.specs.Looking.{AreAccepted, was_stored}
 use Rattle.mot_update.specs.Told.{Answer, AreAnswers, Put, Replaced, TellsBoth, Withdrew}
 use Rattle.mot_update.specs.Told.{answers_of, came_of, was_accepted}
 use Rattle.mot_update.specs.Updating.{is_known}
@@ -298,9 +298,9 @@ kept_on : (kept : List (List ℕ)) (more : List ℕ) (answers : List Answer) →
 kept_on kept more [] are = tt
 kept_on kept more (Withdrew name came ∷ answers) are = (tt, kept_on kept more answers are.1)
 kept_on kept more (Put name came ∷ answers) are =
-    (known_on kept more name are.0, kept_on kept more answers are.1)
+    (λ stored. known_on kept more name (are.0 stored), kept_on kept more answers are.1)
 kept_on kept more (Replaced name came ∷ answers) are =
-    (known_on kept more name are.0, kept_on kept more answers are.1)
+    (λ stored. known_on kept more name (are.0 stored), kept_on kept more answers are.1)
 
 -- the last of them is one of them
 or_true : (b : Bool) → (b || (true || false)) ≡ true
@@ -314,12 +314,13 @@ known_last kept name =
     ((bytes_eq-Decides name name).1 refl)
     ∙ or_true (list_any (bytes_eq name) kept)
 
--- what was done for an object whose file was made to last
+-- what was done for an object, whose file was made to last if it was stored
 pub answers_kept : (kept : List (List ℕ)) (name : List ℕ) (settled : Settled)
-    → (settled ≢ settles.Right → is_known kept name ≡ true) → AreKept kept (answers_of name settled)
+    → (was_stored settled ≡ true → is_known kept name ≡ true)
+    → AreKept kept (answers_of name settled)
 answers_kept kept name settles.Right is = tt
-answers_kept kept name (settles.Put came) is = (is (λ e. cc (e)), tt)
-answers_kept kept name (settles.Replaced came) is = (is (λ e. cc (e)), tt)
+answers_kept kept name (settles.Put came) is = (is, tt)
+answers_kept kept name (settles.Replaced came) is = (is, tt)
 
 -- nothing more was told or given
 both_same : (P : List Answer → List Wanted → Type 0) → TellsBoth P P [] []

@@ -157,11 +157,11 @@ waiting_in answers = min (length (filter is_waiting answers)) 4294967295
 abbrev pub not_accepted : Answer → Bool
 not_accepted answer = not (was_accepted (came_of answer))
 
--- an object was put or replaced only if its file was made to last
+-- an object was put or replaced only if its file was made to last before
 abbrev pub IsKept : (kept : List (List ℕ)) → Answer → Type 0
 IsKept kept (Withdrew name came) = Unit {0}
-IsKept kept (Put name came) = is_known kept name ≡ true
-IsKept kept (Replaced name came) = is_known kept name ≡ true
+IsKept kept (Put name came) = was_accepted came ≡ true → is_known kept name ≡ true
+IsKept kept (Replaced name came) = was_accepted came ≡ true → is_known kept name ≡ true
 
 abbrev pub AreKept : (kept : List (List ℕ)) → List Answer → Type 0
 AreKept kept answers = AllByRecursion (IsKept kept) answers

@@ -115,7 +115,7 @@ by_refusal view s c refusal its same goes agrees going (IsRefusal.no_memory on s
 
 -- an answer on every disk, of what it stands for
 pub right_of : (view new : RepositoryView) (old now : State) (s : Standing) (c : Command)
-    (r : Result Attempt Refusal) → Agrees view s → IsFalse view.halted
+    (r : Result Attempt Refusal) → Agrees view s → OnOk r (IsFalse view.halted)
     → OnOk r (new.halted ≡ view.halted)
     → IfOk r (λ answer. IfErr (answer_of (Ok answer)) (λ refusal. is_run_ending refusal ≡ false))
     → IsAnswered view new old now c (answer_of r)

@@ -1,5 +1,5 @@
 -- What a look at a source of wanted objects does.
-use Rattle.std.specs.Prelude.{◌≡◌, ℕ, Bool, true, not, List, [], ◌++◌, map, filter}
+use Rattle.std.specs.Prelude.{◌≡◌, ℕ, Bool, true, false, not, List, [], ◌++◌, map, filter}
 use Rattle.std.specs.Prelude.{take, Option, Some, None, ⊤}
 use Rattle.std.specs.List.{flat_map, AllByRecursion}
 use Rattle.disk_model.specs.Disk.{State}
@@ -22,6 +22,12 @@ abbrev pub was_settled : Settled → Bool
 was_settled Right = true
 was_settled (Put attempt) = was_accepted attempt
 was_settled (Replaced attempt) = was_accepted attempt
+
+-- a command was run for it, and accepted
+abbrev pub was_stored : Settled → Bool
+was_stored Right = false
+was_stored (Put attempt) = was_accepted attempt
+was_stored (Replaced attempt) = was_accepted attempt
 
 -- each command that was answered was accepted
 abbrev pub AreAccepted : List Bool → Type 0

@@ -1,5 +1,5 @@
 //! A look at a source: what it gives, made of a server's carousel.
-ghost use Rattle.std.specs.Prelude.{◌≡◌, ◌≢◌, ◌≤◌, [], None, Ok, Some, length, true, IfErr, IfOk};
+ghost use Rattle.std.specs.Prelude.{◌≡◌, ◌≢◌, ◌<◌, ◌≤◌, [], None, Ok, Some, length, true, IfErr, IfOk};
 ghost use Rattle.std.specs.Prelude.{OnOk};
 ghost use Rattle.disk_model.specs.Disk.{KeepsLength};
 ghost use Rattle.mot_journal.specs.Image.{Standing};
@@ -9,13 +9,13 @@ ghost use Rattle.mot_repository.specs.Repository.{Holds};
 ghost use Rattle.mot_playout.specs.Attempts.{fault_of};
 ghost use Rattle.mot_update.specs.Faults.{TellsFaults};
 ghost use Rattle.mot_update.specs.HasRun.{HasRun};
-ghost use Rattle.mot_update.specs.Inner.Taking.{IsDoneRightly, commands_if, given_if, is_command};
-ghost use Rattle.mot_update.specs.Inner.Taking.{marks_if};
+ghost use Rattle.mot_update.specs.Inner.Taking.{HasGapFor, HasRoomFor, IsDoneRightly};
+ghost use Rattle.mot_update.specs.Inner.Taking.{commands_if, given_if, is_command, marks_if};
 ghost use Rattle.mot_update.specs.Looking.{Gives, HasLooked, HasSettled, RunsThrough};
-ghost use Rattle.mot_update.specs.Looking.{unknown_names, withdraw_all};
+ghost use Rattle.mot_update.specs.Looking.{unknown_names, was_stored, withdraw_all};
 ghost use Rattle.mot_update.specs.Told.{TellsBoth};
+ghost use Rattle.mot_update.specs.declared.settling.Need.{Need};
 ghost use Rattle.mot_update.specs.declared.settling.Settled.{Settled};
-ghost use Rattle.mot_update.specs.declared.settling.Settled.TheVariants.{Right};
 
 use crate::{Need, Settled, Source, Wanted, need_of, settle, withdraw};
 use disk_model::Disk;
@@ -136,8 +136,8 @@ fn settle_all<D: Disk, S: Source>(
     }
 }
 
-/// Settles the object that the source offered, if the source gives it. If the carousel lacks it,
-/// the source makes it last before.
+/// Settles the object that the source offered, if the source gives it. If the carousel lacks it, and
+/// has room for it, the source makes it last before.
 fn settle_taken<D: Disk, S: Source>(
     server: &mut Server<D>,
     alloc: Global,
@@ -165,24 +165,43 @@ fn settle_taken<D: Disk, S: Source>(
     ensures fine { S.is_fine source.new ≡ true
         → (S.is_fine source.old ≡ true) × (result ≢ Ok None) }
 
-    // What a command was run for was made to last.
-    ensures lasts { (settled : Settled) → result ≡ Ok (Some settled) → settled ≢ Right
+    // What was stored was made to last.
+    ensures lasts { (settled : Settled) → result ≡ Ok (Some settled) → was_stored settled ≡ true
         → S.lasts source.new }
 {
     let need = need_of(server, &wanted);
-    if !source.take(alloc, &wanted, is_command(need)) {
+    if !source.take(alloc, &wanted, comes_in(server, need, &wanted)) {
         return Ok(None);
     }
     let settled = settle(server, alloc, wanted, need?)?;
     Ok(Some(settled))
 }
 
-/// Whether a command is needed.
-fn is_command(need: Result<Need, Refusal>) -> bool
-    ensures { result ≡ is_command need }
+/// Whether the object comes into the carousel: a command is needed, and there is room for what it
+/// brings. What could not be stored is not made to last: it would be again at each look.
+fn comes_in<D: Disk>(server: &Server<D>, need: Result<Need, Refusal>, wanted: &Wanted) -> bool
+    ensures needed { result ≡ true → is_command need ≡ true }
+    ensures room { (n : Need) → need ≡ Ok n → HasRoomFor server.now.view n wanted.now
+        → result ≡ true }
 {
     match need {
-        Ok(Need::Put | Need::Replace) => true,
+        Ok(Need::Put) => has_place(server) && has_gap(server, wanted),
+        Ok(Need::Replace) => has_gap(server, wanted),
         Ok(Need::Nothing) | Err(_) => false,
     }
+}
+
+/// Whether there may be one object more.
+fn has_place<D: Disk>(server: &Server<D>) -> bool
+    ensures { length server.now.view.carousel.objects.items
+        < server.now.view.journal.geometry.objects → result ≡ true }
+{
+    server.carousel().objects.len() < usize::from(server.geometry().objects)
+}
+
+/// Whether a gap holds the body.
+fn has_gap<D: Disk>(server: &Server<D>, wanted: &Wanted) -> bool
+    ensures { HasGapFor server.now.view (length wanted.now.body) → result ≡ true }
+{
+    wanted.body.length().get() <= server.longest_gap()
 }

@@ -1,12 +1,11 @@
 //! The source of wanted objects.
 ghost use Rattle.std.specs.Prelude.{◌≡◌, ◌+◌, ◌<◌, ◌≤◌, [], ◌∷◌, ℕ, Bool, true, List, Option, Some};
-ghost use Rattle.std.specs.Prelude.{◌≢◌, false, IfSome, MatchBool, MatchOption, None, ⊤, length};
+ghost use Rattle.std.specs.Prelude.{false, IfSome, MatchBool, MatchOption, None, ⊤, length};
 ghost use Rattle.std.specs.Prelude.{slice_get};
-ghost use Rattle.mot_update.specs.Looking.{Gives, was_settled};
+ghost use Rattle.mot_update.specs.Looking.{Gives, was_settled, was_stored};
 ghost use Rattle.mot_update.specs.Told.{Answer, TellsBoth, Withdrew, answers_of, was_accepted};
 ghost use Rattle.mot_update.specs.Updating.{is_known};
 ghost use Rattle.mot_update.specs.declared.settling.Settled.{Settled};
-ghost use Rattle.mot_update.specs.declared.settling.Settled.TheVariants.{Right};
 ghost use Rattle.mot_update.specs.declared.wanted.Wanted.{Wanted};
 
 use crate::{Settled, Wanted};
@@ -16,9 +15,9 @@ use std::alloc::Global;
 
 /// What an updated carousel is to have: names, all of them known at the beginning, and then the
 /// objects of these names one after the other. If no object of a name comes, the one that the
-/// carousel has of it stays as it is. An object that the carousel lacks is made to last where it
-/// comes from before its command is run: so after a power cut the source has what the carousel has,
-/// or what came later. The source learns what became of each.
+/// carousel has of it stays as it is. An object that the carousel lacks, and has room for, is made to
+/// last where it comes from before its command is run: so after a power cut the source has what the
+/// carousel has, or what came later. The source learns what became of each.
 pub trait Source {
     // The names that are known.
     ghost names: { Self → List (List ℕ) };
@@ -68,7 +67,7 @@ pub trait Source {
             (λ wanted. place self.new ≡ place self.old + 1) };
 
     /// Takes the object that it offered last, this one: whether it gives it. One that is new to the
-    /// carousel is made to last before, and left if that fails.
+    /// carousel, which has room for it, is made to last before, and left if that fails.
     fn take(&mut self, alloc: Global, wanted: &Wanted, is_new: bool) -> bool
         requires { last self.old ≡ wanted.now.name }
         ensures same { names self.new ≡ names self.old }
@@ -94,10 +93,10 @@ pub trait Source {
         ensures fine { is_fine self.new ≡ true
             → (is_fine self.old ≡ true) × (was_accepted attempt ≡ true) };
 
-    /// What became of the object that it offered last, and gave. If anything was done for it, it
-    /// was made to last.
+    /// What became of the object that it offered last, and gave. If it was stored, it was made to
+    /// last before.
     fn settled(&mut self, settled: Settled)
-        requires { settled ≢ Right → lasts self.old }
+        requires { was_stored settled ≡ true → lasts self.old }
         ensures same { names self.new ≡ names self.old }
         ensures stays { place self.new ≡ place self.old }
         ensures gives { Gives (given self.old) (given self.new) [] }

@@ -1,12 +1,14 @@
 -- What came of an object that a source offered: it was not given, or it was settled so, or a fault
 -- came.
-use Rattle.std.specs.Prelude.{◌≡◌, Bool, true, false, List, [], ◌∷◌, Option, Some, None, Result}
-use Rattle.std.specs.Prelude.{Ok, Err, ⊤}
+use Rattle.std.specs.Prelude.{◌≡◌, ◌<◌, ◌≤◌, ℕ, Bool, true, false, List, [], ◌∷◌, Option, Some, None}
+use Rattle.std.specs.Prelude.{Result, Ok, Err, length, ⊤}
+use Rattle.mot_carousel.specs.Gap.{IsLongestGap}
 use Rattle.mot_journal.specs.Image.{Standing}
 use Rattle.mot_journal.specs.declared.layout.Layout.{Layout}
 use Rattle.mot_numbers.specs.declared.refusal.Refusal.{Refusal}
 use Rattle.mot_objects.specs.Carousel.{Object}
 use Rattle.mot_objects.specs.declared.command.Command.{Command}
+use Rattle.mot_repository.specs.Repository.{RepositoryView}
 use Rattle.mot_update.specs.HasRun.{marks_of_settling}
 use Rattle.mot_update.specs.Told.{AreAttemptsOf, answers_of, commands_of}
 use Rattle.mot_update.specs.Updating.{settling}
@@ -21,6 +23,19 @@ is_command (Ok need.Nothing) = false
 is_command (Ok need.Put) = true
 is_command (Ok need.Replace) = true
 is_command (Err refusal) = false
+
+-- a gap holds so many bytes
+abbrev pub HasGapFor : RepositoryView → ℕ → Type 0
+HasGapFor view n =
+    (gap : ℕ) → IsLongestGap view.extents view.journal.geometry.area gap → n ≤ gap
+
+-- the object comes into the carousel: a command is needed, and there is room for what it brings
+abbrev pub HasRoomFor : RepositoryView → Need → Wanted → Type 0
+HasRoomFor view need.Nothing w = ⊥
+HasRoomFor view need.Put w =
+    (length view.carousel.objects.items < view.journal.geometry.objects)
+    × HasGapFor view (length w.body)
+HasRoomFor view need.Replace w = HasGapFor view (length w.body)
 
 -- what was given
 abbrev pub given_if : Result (Option Settled) Refusal → Wanted → List Wanted

@@ -1,12 +1,15 @@
-use Rattle.std.proofs.Common.{◌≡◌, Bool, true, false, Err, None, Ok, Result, Some, [], refl}
+use Rattle.std.proofs.Common.{◌≡◌, ◌∙◌, Bool, true, false, Err, None, Ok, Result, Some, [], ap, refl}
 use Rattle.disk_model.specs.Disk.{State}
 use Rattle.mot_numbers.specs.declared.refusal.Refusal.{Refusal}
 use Rattle.mot_numbers.proofs.Laws.{same_error}
 use Rattle.mot_playout.specs.Server.{ServerView}
+use Rattle.mot_repository.proofs.Laws.{some_standing}
 use Rattle.mot_update.specs.Faults.{StaysCalm, TellsFaults}
 use Rattle.mot_update.specs.HasRun.{marks_of_settling}
 use Rattle.mot_update.specs.Inner.Taking.{is_command}
+use Rattle.mot_update.specs.Looking.{was_stored}
 use Rattle.mot_update.specs.declared.settling.Need.{Need}
+use Rattle.mot_update.proofs.Room.{room_for}
 use Rattle.mot_update.proofs.Runs.{has_read, read_fault, read_then_run}
 use Rattle.mot_update.proofs.looking.settle_taken.Goals as goal
 
@@ -74,3 +77,14 @@ returns-clause-run g c = λ s holds honest.
     (g.met.D.Disk.sound old.disk holds.journal.honest) one.view one.player was
     (one.only_reads.unchanged was) holds (one.need s holds was)
     (λ t held. two.run t held honest)
+
+pub returns-clause-lasts : goal.returns-clause-lasts
+returns-clause-lasts g c = λ settled is stored.
+    let mid = c.need_of-need.new.server in
+    let some = some_standing mid.view in
+    let same : c.in_ok-settled.settled ≡ settled = cc in
+    let room = room_for mid.view some.0 some.1 mid.view.journal.layout c.in_ok-need.field-0
+    c.args.wanted c.in_ok-settled.settled (c.in_ok-settled.ensures.right some.0 some.1)
+    (ap was_stored same ∙ stored) in
+    c.take.ensures.lasts (c.comes_in.ensures.room c.in_ok-need.field-0 c.in_ok-need.was room)
+    c.if-not-take.false

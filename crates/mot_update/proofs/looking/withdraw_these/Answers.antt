@@ -117,7 +117,7 @@ loop-name-preserved g c =
                 (Withdraw n ∷ []) (marks_of (Ok attempt)) None)
                 c.in_ok-clone.ensures.cases (two.run t held))
                 (λ t held. subst (λ n. ComesOf mid.view.journal.layout t (Withdraw n) attempt)
-                c.in_ok-clone.ensures.cases (two.right t held))
+                c.in_ok-clone.ensures.cases (two.right t held.agrees))
                 c.withdrew.ensures.fine,
             both_trans (g.S.Source.was_told c.args.source.now)
                 (g.S.Source.was_told c.loop-name.source) (g.S.Source.was_told c.withdrew.new.self)
