@@ -5,7 +5,7 @@ import resource
 import shutil
 import time
 
-from . import dab
+from . import dab, disk
 from .air import AirCase, needs_strace, samples, send, traced, until
 from .program import run
 
@@ -138,6 +138,16 @@ class Samples(Status):
             self.expect(line, (self.checksum(other), True), (came, came not in (last, wanted)))
             last = came
         self.expect("the disk as before", wanted, told(self.place))
+
+    def test_an_id_of_the_directory_that_comes_back(self):
+        """On a disk whose ids go on before its directory's, the second of two commands gives the directory the same id."""
+        slots = [disk.slot(directory=7, last=65_535, tid=tid, start=at, size=1, name=name)
+                 for at, (tid, name) in enumerate(((2, b"a"), (4, b"b"), (6, b"c")))]
+        self.place.write_bytes(disk.disk_of(*slots, objects=40, area=100, body=b"abc"))
+        asked = self.folder({"1.lines": b"put d 1 0 - 64\nput e 1 0 - 65\n"}, name="lines")
+        told = self.motcar("play", self.place, "/dev/null", "--turns", "1", "--lines", asked, "--status", self.path)[1]
+        self.expect("two commands between two directories", True, b"done object 5 directory 7\n" in told)
+        self.expect("the figures are those of the new one", self.checksum(self.place), self.count("directory_checksum"))
 
     def test_an_object_that_is_replaced(self):
         """Another length of it is another turn, though there are as many objects as before."""

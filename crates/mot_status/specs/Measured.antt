@@ -7,11 +7,12 @@ use Rattle.mot_player.specs.Turn.{turn_of_carousel}
 use Rattle.mot_repository.specs.Repository.{RepositoryView}
 use Rattle.mot_status.specs.declared.turn.Measured.{Measured}
 
--- It is that of the carousel with this directory: it was known of it, or it is so many packets, and
--- their bytes, as the turn of the carousel has, and the checksum of its directory.
+-- It is that of the carousel with these ids of the directory and the cursor: it was known of it, or
+-- it is so many packets, and their bytes, as the turn of the carousel has, and the checksum of its
+-- directory.
 abbrev pub IsMeasured : (known : Option Measured) → RepositoryView → Measured → Type 0
 IsMeasured known view measured =
-    (measured.directory ≡ view.carousel.directory)
+    (measured.directory ≡ view.carousel.directory) × (measured.cursor ≡ view.carousel.cursor)
     × ((known ≡ Some measured)
     ⊎ ((bodies : List (List ℕ)) → AreBodiesOf view.carousel bodies
     → measured.turn ≡ size_of_turn (packet_room view.journal.geometry)

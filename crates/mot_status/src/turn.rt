@@ -10,8 +10,11 @@ use std::alloc::Global;
 /// What a turn takes, and the carousel of which that is known.
 #[derive(Clone, Copy)]
 pub struct Measured {
-    /// The transport id of its directory, which each change makes another one.
+    /// The transport id of its directory.
     pub directory: u16,
+    /// The id that was taken last. Each change makes another pair of the two, though on a disk whose
+    /// ids go on before its directory's the second change may give the directory the id that it had.
+    pub cursor: u16,
     /// What a turn takes.
     pub turn: TurnSize,
 }
@@ -27,16 +30,21 @@ pub(crate) fn measure<D: Disk>(
     ensures { IfSome result (λ measured. IsMeasured known server.now.view measured) }
 {
     let carousel = server.carousel();
-    let directory = carousel.directory.get();
+    let (directory, cursor) = (carousel.directory.get(), carousel.cursor.get());
     if let Some(measured) = known
         && measured.directory == directory
+        && measured.cursor == cursor
     {
         return known;
     }
     let geometry = server.geometry();
     let (size, length) = (geometry.size_of_segments(), geometry.length_of_packets());
     match turn_size(alloc, carousel, size, length) {
-        Ok(turn) => Some(Measured { directory, turn }),
+        Ok(turn) => Some(Measured {
+            directory,
+            cursor,
+            turn,
+        }),
         Err(_) => None,
     }
 }
