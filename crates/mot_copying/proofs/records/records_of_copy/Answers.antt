@@ -1,4 +1,5 @@
 use Rattle.std.proofs.Common.{◌≡◌, ◌<◌, ◌≤◌, ℕ, List, length, map, refl, ◌∙◌, ap, subst, arith}
+use Rattle.std.proofs.lemmas.List.{length-map}
 use Rattle.std.specs.Prelude.{unwrap_or}
 use Rattle.mot_copying.specs.Inner.Records.{bytes_of_bodies}
 use Rattle.mot_journal.specs.declared.record.Record.{Record}
@@ -8,9 +9,9 @@ use Rattle.mot_numbers.specs.declared.refusal.Refusal.TheVariants.{OutOfMemory}
 use Rattle.mot_objects.specs.declared.carousel.Carousel.{Carousel}
 use Rattle.mot_objects.specs.declared.object.Object.{Object}
 use Rattle.mot_repository.specs.Copy.{IsId, bytes_of_extents, ids_of_copy, packed_catalogue}
-use Rattle.mot_repository.specs.Copy.{copied_ids, is_directory_changed, no_room, no_memory}
+use Rattle.mot_repository.specs.Copy.{copied_ids, is_segment_resized, no_room, no_memory}
 use Rattle.mot_repository.specs.Records.{records_of_catalogue}
-use Rattle.mot_repository.proofs.Laws.{bytes-same}
+use Rattle.mot_repository.proofs.Laws.{bytes-same, copied_ids-count}
 use Rattle.mot_copying.proofs.records.records_of_copy.Given as given
 use Rattle.mot_copying.proofs.records.records_of_copy.Goals as goal
 use Rattle.mot_copying.proofs.records.records_of_copy.Goals.{Else-length_of_bodies-from}
@@ -61,9 +62,9 @@ returns-then-length_of_bodies-from-clause-refused g c =
     omega (arith, h, k, f2, sum) in
     no_room refl few more
 
-pub returns-in_err-directory-clause-refused : goal.returns-in_err-directory-clause-refused
-returns-in_err-directory-clause-refused g c =
-    let before = (goal.at.returns-in_err-directory-clause-refused g c).Else-length_of_bodies-from in
+pub returns-in_err-ids-clause-refused : goal.returns-in_err-ids-clause-refused
+returns-in_err-ids-clause-refused g c =
+    let before = (goal.at.returns-in_err-ids-clause-refused g c).Else-length_of_bodies-from in
     rw (same_error c.from_residual.result OutOfMemory c.from_residual.ensures.1)
     (no_memory refl (few g before) (room g before))
 
@@ -74,6 +75,14 @@ returns-in_err-records-clause-refused g c =
     c.from_residual-in_err-records.ensures.1)
     (no_memory refl (few g before) (room g before))
 
+pub packed_records-requires-clause-ids : goal.packed_records-requires-clause-ids
+packed_records-requires-clause-ids g c =
+    let x = c.carousel-carousel.result.now in
+    ap length (c.deref-2.ensures.value ∙ c.in_ok-ids.ensures.objects)
+    ∙ copied_ids-count c.args.after (is_segment_resized c.geometry.result c.args.geometry.now)
+    x.directory x.cursor (map (λ (o : Object). o.tid) x.objects.items)
+    ∙ length-map x.objects.items (λ (o : Object). o.tid)
+
 pub returns-clause-records : goal.returns-clause-records
 returns-clause-records g c =
     let view = c.args.from.now.view in
@@ -82,20 +91,21 @@ returns-clause-records g c =
     let before = (goal.at.returns-clause-records g c).Else-length_of_bodies-from in
     let is : c.carousel-carousel.result.now ≡ view.carousel = c.carousel-carousel.ensures.value in
     let Last : Carousel → Type 0 = λ x. IsId (unwrap_or after x.cursor) in
-    let made : Geometry → Carousel → ℕ × ℕ = λ old x. copied_ids after
-    (is_directory_changed old geometry) x.directory x.cursor
+    let made : Geometry → Carousel → List ℕ × ℕ = λ old x. copied_ids after
+    (is_segment_resized old geometry) x.directory x.cursor
     (map (λ (o : Object). o.tid) x.objects.items) in
-    let same : (c.in_ok-directory.directory, c.in_ok-directory.cursor)
-    ≡ ids_of_copy view geometry after =
-    c.in_ok-directory.ensures.ids
+    let pair : List ℕ → ℕ → List ℕ × ℕ = λ ids id. (ids, id) in
+    let given = made c.geometry.result c.carousel-carousel.result.now in
+    let directory = c.in_ok-ids.directory in
+    let same : pair c.deref-2.result.now directory ≡ ids_of_copy view geometry after =
+    ap (λ l. pair l directory) (c.deref-2.ensures.value ∙ c.in_ok-ids.ensures.objects)
+    ∙ ap (pair given.0) c.in_ok-ids.ensures.directory
     ∙ ap (λ old. made old c.carousel-carousel.result.now) c.geometry.ensures.value
     ∙ ap (made view.journal.geometry) is in
-    let Range : ℕ × ℕ → Type 0 = λ ids. IsId ids.0 × IsId ids.1 in
-    let records : Carousel → ℕ × ℕ → List Record = λ x ids.
+    let records : Carousel → List ℕ × ℕ → List Record = λ x ids.
     records_of_catalogue (packed_catalogue x ids) in
     c.know_copies.ensures geometry after c.in_ok-records.records.items
-    (subst Last is c.ids_of_copy.ensures.last)
-    (subst Range same c.in_ok-directory.ensures.range) (few g before) (room g before)
+    (subst Last is c.ids_of_copy.ensures.last) (few g before) (room g before)
     (c.in_ok-records.ensures
-    ∙ ap (λ x. records x (c.in_ok-directory.directory, c.in_ok-directory.cursor)) is
+    ∙ ap (λ x. records x (pair c.deref-2.result.now directory)) is
     ∙ ap (records view.carousel) same)
