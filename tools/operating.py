@@ -1,26 +1,31 @@
 #!/usr/bin/env python3
-"""Runs every command of README.md and of docs/OPERATING.md, in their order, and compares what each block prints with
-what stands there; and looks that those of README leave nothing in a clone that git does not ignore.
+"""Runs every block of commands of README.md and of docs/OPERATING.md, in their order and as it is pasted, and compares what
+it prints with what stands there; and looks that those of README leave nothing in a clone that git does not ignore.
 
     tools/operating.py [PROGRAM]
 
 The commands run in a temporary folder with examples/, and for the manual a copy of its logo.png; `motcar` is the built
-program. What only a test needs stands in a page as a comment that begins with the word test, which no reader sees; it
-runs before the next block, in one shell with it, and after the last block by itself.
+program. A `motcar play` at the end of a block has no end without `--turns`: it gets a Ctrl-C once all that the page wants
+was printed, and a second brought no more.
 """
+import contextlib
 import os
 import pathlib
 import re
+import select
 import shutil
+import signal
 import subprocess
 import sys
 import tempfile
+import time
 
 sys.dont_write_bytecode = True
 top = pathlib.Path(__file__).resolve().parent.parent
 sys.path.insert(0, str(top))
 from tests import program
 
+SECONDS, QUIET = 60, 1
 
 def is_tracked_or_ignored(name):
     """Whether a file of this name at the top of a clone is one of the repository, or is ignored."""
@@ -29,16 +34,32 @@ def is_tracked_or_ignored(name):
 
 
 def blocks_of(text):
-    """The commands of each block, those of a test before it, and what it prints."""
-    hidden = ""
-    block = r"<!-- test\n(.*?)-->|```sh\n(.*?)```\n(?:[^`]*?```text\n(.*?)```\n)?"
-    for test, commands, wanted in re.findall(block, text, re.DOTALL):
-        if commands:
-            yield hidden, commands, wanted
-            hidden = ""
-        hidden += test
-    if hidden:
-        yield hidden, "", ""
+    """The commands of each block, and what it prints."""
+    return re.findall(r"```sh\n(.*?)```\n(?:[^`]*?```text\n(.*?)```\n)?", text, re.DOTALL)
+
+
+def printed_by(commands, wanted, **more):
+    """What a block prints."""
+    has_end = not re.search(r"\nmotcar play (?!.*--turns).*\n$", commands)
+    shell = subprocess.Popen(["bash", "-c", commands], stdout=subprocess.PIPE, start_new_session=True, **more)
+    came, end = b"", time.monotonic() + SECONDS
+    while (rest := end - time.monotonic()) > 0:
+        waits = rest if has_end or len(came) < len(wanted.encode()) else QUIET
+        if not select.select([shell.stdout], [], [], waits)[0]:
+            break
+        part = os.read(shell.stdout.fileno(), 65_536)
+        if not part:
+            break
+        came += part
+    else:
+        came += f"(and no end in {SECONDS} seconds)".encode()
+    if not has_end:
+        os.killpg(shell.pid, signal.SIGINT)
+    with contextlib.suppress(subprocess.TimeoutExpired):
+        shell.wait(SECONDS)
+    shell.kill()
+    shell.stdout.close()
+    return came.decode()
 
 
 def rows_of(name, motcar):
@@ -50,10 +71,8 @@ def rows_of(name, motcar):
         for it in (room, path):
             pathlib.Path(it, "motcar").symlink_to(motcar)
         environment = {**os.environ, "PATH": f"{path}:{os.environ['PATH']}"}
-        for hidden, commands, wanted in blocks_of((top / name).read_text()):
-            shell = ["bash", "-c", hidden + commands]
-            done = subprocess.run(shell, cwd=room, env=environment, stdout=subprocess.PIPE, timeout=60)
-            yield f"{name}:\n{commands}", wanted, done.stdout.decode()
+        for commands, wanted in blocks_of((top / name).read_text()):
+            yield f"{name}:\n{commands}", wanted, printed_by(commands, wanted, cwd=room, env=environment)
         if name == "README.md":
             left = [it for it in os.listdir(room) if not is_tracked_or_ignored(it)]
             yield "what README.md leaves in a clone", [], left
