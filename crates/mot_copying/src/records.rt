@@ -77,7 +77,11 @@ fn ids_of_objects(alloc: Global, carousel: &Carousel) -> Result<Vec<TransportId>
     ensures { IfOk result
         (λ ids. ids.items ≡ map (λ (o : Object). o.tid) carousel.now.objects.items) }
 {
-    carousel.objects.iter().map(|object| object.tid).collect(alloc)
+    carousel
+        .objects
+        .iter()
+        .map(|object| object.tid)
+        .collect(alloc)
 }
 
 /// The directory's id if ids go on after this one: its own, or else a new one.
