@@ -230,9 +230,10 @@ class Places(Status):
         for _ in range(2):
             run(traced([self.program, *words], "trace=open,openat,creat,truncate,rename,renameat,renameat2", out=trace))
             calls = [it for it in trace.read_text().splitlines() if f'"{self.path}' in it]
-            opened = [re.search(r'"([^"]*)"', it)[1] for it in calls if "rename" not in it]
+            written = [it for it in calls if "rename" not in it and "O_RDONLY" not in it]
+            opened = [re.search(r'"([^"]*)"', it)[1] for it in written]
             renamed = [re.findall(r'"([^"]*)"', it) for it in calls if "rename" in it]
-            self.expect("only the file beside it is opened", {f"{self.path}.new"}, set(opened))
+            self.expect("only the file beside it is opened to be written", {f"{self.path}.new"}, set(opened))
             wanted = [[f"{self.path}.new", str(self.path)]] * 2
             self.expect("and takes its place, at the start and at the end", wanted, renamed)
 
