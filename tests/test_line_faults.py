@@ -149,6 +149,21 @@ class Faults(LineFiles):
             self.expect(f"{row}: and is done then", (["object", "object"], []), (told, self.left()))
             self.serve(self.place, ["withdraw a", "withdraw b"])
 
+    def test_a_file_that_somebody_else_removes(self):
+        """It was answered and seen at its name; its removal waits, and finds it gone."""
+        send(self.asked, "1.lines", b"period 1\n")
+        trace = self.room / "trace"
+        words = [self.program, "play", self.place, "/dev/null", "--lines", self.asked, "--every", "1"]
+        waits = "trace=statx,unlink", "inject=unlink:delay_enter=3000000:when=1"
+        player = self.started(traced(words, *waits, paths=[self.asked / "1.lines"], out=trace))
+        # (looked at by its name and its handle as it is opened, by its handle, and so again as it is removed)
+        until(lambda: trace.exists() and trace.read_text().count("statx(") == 5)
+        os.unlink(self.asked / "1.lines")
+        send(self.asked, "2.lines", b"period 2\n")
+        player.until("done directory 3")
+        self.expect("a file that is gone is removed, and the next is taken",
+                    (["done directory 2", "done directory 3"], []), (player.end(), self.left()))
+
     def test_a_link_that_takes_its_place(self):
         """The file was looked up; its opening waits, and opens what the link names."""
         secret, link = self.room / "secret", self.room / "link"

@@ -145,11 +145,19 @@ pub data IsNamed (handle : Handle) (path : List ℕ) (result : Result Bool Fault
       → new ≡ old ++ looked_at handle (Ok held) ∷ [] ++ looked path (Ok named) ∷ []
       → IsNamed handle path result old new
 
+-- what the system says of the removal of a file: what is gone is removed
+abbrev pub unless_gone : Result (Unit {0}) Fault → Result (Unit {0}) Fault
+unless_gone (Ok done) = Ok done
+unless_gone (Err (Absent error)) = Ok tt
+unless_gone (Err Busy) = Err Busy
+unless_gone (Err (System error)) = Err (System error)
+
 -- a path is removed only once it was seen to name the open file still
 pub data Removes (handle : Handle) (path : List ℕ) (result : Result (Unit {0}) Fault)
     (old new : List Call) : Type 0 where
-  named : (inner : List Call) → IsNamed handle path (Ok true) old inner
-      → new ≡ inner ++ removed path result ∷ [] → Removes handle path result old new
+  named : (answer : Result (Unit {0}) Fault) (inner : List Call) → result ≡ unless_gone answer
+      → IsNamed handle path (Ok true) old inner → new ≡ inner ++ removed path answer ∷ []
+      → Removes handle path result old new
   other : result ≡ Ok tt → IsNamed handle path (Ok false) old new
       → Removes handle path result old new
   unknown : (fault : Fault) → result ≡ Err fault → IsNamed handle path (Err fault) old new

@@ -2,7 +2,7 @@
 ghost use Rattle.std.specs.Prelude.{◌≡◌, ◌≤◌, ◌⊎◌, ◌↔◌, IfOk, IsTrue, length, string_bytes};
 ghost use Rattle.mot_line_folder.specs.LineFiles.{Begins, IsFound, IsLookedInto, IsNamed, IsWholeFront};
 ghost use Rattle.mot_line_folder.specs.LineFiles.{IsWord, Removes, Stamps, TakesAway, fault_found};
-ghost use Rattle.mot_line_folder.specs.LineFiles.{fault_named, word_len};
+ghost use Rattle.mot_line_folder.specs.LineFiles.{fault_named, unless_gone, word_len};
 ghost use Rattle.mot_line_folder.specs.LineReads.{ReadsLines};
 
 use crate::said::Stamp;
@@ -81,7 +81,7 @@ impl LineFile {
             (S.calls system.old) (S.calls system.new) }
     {
         match self.is_named(system) {
-            Ok(true) => system.remove(self.path.as_str()),
+            Ok(true) => unless_gone(system.remove(self.path.as_str())),
             Ok(false) => Ok(()),
             Err(fault) => Err(fault),
         }
@@ -178,6 +178,16 @@ fn refused_name(fault: Fault) -> Result<bool, Fault>
     match fault {
         Fault::Absent(_) => Ok(false),
         other => Err(other),
+    }
+}
+
+/// A file that somebody else removed at that moment is removed.
+fn unless_gone(answer: Result<(), Fault>) -> Result<(), Fault>
+    ensures { result ≡ unless_gone answer }
+{
+    match answer {
+        Err(Fault::Absent(_)) => Ok(()),
+        other => other,
     }
 }
 

@@ -28,7 +28,7 @@ const TORN: [u8; 2] = [b'\r', b'\n'];
 /// it was read to its end. So its lines come again after a crash, and none is lost. One whose
 /// reading fails is left, until it is another one or was changed; if that can't be remembered, it
 /// is the last. One that can't be removed is the last, too: else its lines would come again and
-/// again.
+/// again. One that is gone by then is removed.
 #[derive(Drop)]
 pub struct Spool<'a, S: System + Drop> {
     /// What finds the files.

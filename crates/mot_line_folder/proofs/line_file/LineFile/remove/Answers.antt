@@ -5,7 +5,8 @@ use Rattle.mot_line_folder.proofs.line_file.LineFile.remove.Goals as goal
 
 pub returns-in-Ok-true : goal.returns-in-Ok-true
 returns-in-Ok-true g c =
-    named (g.S.System.calls c.is_named.new.system) (rw c.in-Ok-true.field-0-test at c.in-Ok-true.ensures)
+    named c.remove.result (g.S.System.calls c.is_named.new.system) c.unless_gone.ensures
+    (rw c.in-Ok-true.field-0-test at c.in-Ok-true.ensures)
     (remove_step _ _ c.as_str.ensures.value c.remove.ensures)
 
 pub returns-in-Ok-false : goal.returns-in-Ok-false
