@@ -62,6 +62,15 @@ class Ids(AirCase):
             self.expect(f"{options}: nothing is fetched again", 0, heard.fetched)
             self.expect_right(f"{options}: and all is there", heard, place)
 
+    def test_a_move_to_other_ids(self):
+        old = self.logos("old")
+        for options, fetched in ((["--after", "300"], 0), (["--segment", "128"], 5), (["--segment", "128", "--after", "3"], 5)):
+            heard, place = self.listener(old), "new" + "".join(options)
+            self.motcar("copy", old, place, *options)
+            heard.hear(self.turn(place))
+            self.expect(f"{options}: how many are fetched again", fetched, heard.fetched)
+            self.expect_right(f"{options}: and all is there", heard, place)
+
     def test_a_move_when_ids_have_gone_round(self):
         ids = [*range(2, 51, 2), 11, *range(53, 102, 2)]
         sets = [disk.slot(directory=15, last=15, tid=tid, start=2 * at, name=b"%d.png" % tid, type=2, subtype=3)
