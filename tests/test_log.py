@@ -89,7 +89,8 @@ class Log(AirCase):
         with open(log, "wb") as told:
             ended = subprocess.run(list(map(str, words)), stdout=subprocess.DEVNULL, stderr=told, timeout=60)
         count = len(self.turns(disk, 3))
-        wanted = [f"play: motcar 0.2.0, {disk}, 0 objects, 1 packets a turn",
+        version = self.motcar("--version")[1].decode().strip()
+        wanted = [f"play: {version}, {disk}, 0 objects, 1 packets a turn",
                   "lines 1.lines:2 period 4 done directory 3", f"play: ended, 3 turns, {count} packets"]
         self.expect("a log that fails once", (0, wanted), (ended.returncode, log.read_text().splitlines()))
         self.expect("and both are stored", b"period 4\n", self.motcar("export", disk)[1])

@@ -94,12 +94,16 @@ class Version(Case):
     def setUp(self):
         super().setUp()
         source = (top / "crates/motcar/src/version.rt").read_text()
-        self.version = re.search(r'const VERSION: &str = "(.*)\\n";', source)[1].encode() + b"\n"
+        self.released = re.search(r'const VERSION: &str = "motcar (.*)\\n";', source)[1]
         for folder in ("bin", "share/motcar"):
             (self.room / folder).mkdir(parents=True)
         self.program = shutil.copy(self.program, self.room / "bin/motcar")
+        self.version = self.motcar("--version")[1]
 
     def test_without_a_note(self):
+        # (of a build between two releases with its commit: tools/version.sh)
+        form = rf"motcar {re.escape(self.released)}(\+git\d{{8}}\.\d{{6}}\.[0-9a-f]{{8,}}(\.dirty)?)?\n"
+        self.expect("the version of the sources", True, bool(re.fullmatch(form, self.version.decode())))
         for words in ("--version", "-V"):
             self.expect(words, (0, self.version, b""), self.motcar(words))
 

@@ -31,7 +31,7 @@ help)
 doc) [ -z "${CHAIN:-}" ] || { mkdir -p "$ROOM/kit/rattle" && echo "$ROOM/kit/rattle/START.md"; } ;;
 ci)
     [ $# -eq 1 ] || [ -n "${CHAIN:-}" ] || { echo "usage: rt ci"; exit 2; }
-    find . -type f | sort > "$ROOM/read"
+    find . -type f | LC_ALL=C sort > "$ROOM/read"
     if [ "${PROOF:-}" = held ]; then
         until [ -e "$ROOM/released" ]; do sleep 0.1; done
     else
@@ -39,7 +39,13 @@ ci)
     fi
     [ -z "${BROKEN:-}" ] || exit 1
     mkdir -p crates/motcar/out
-    printf '%s\n' '#!/bin/sh' '[ "$*" != --help ] || printf ".a \\\\e-\\n"' 'echo "proved $*"' > crates/motcar/out/motcar
+    version=$(sed -n 's/^const VERSION: .*"\(.*\).n".*/\1/p' crates/motcar/src/version.rt)
+    cp crates/mot_status/src/figures.rt "$ROOM/figures"
+    {
+        echo '#!/bin/sh'
+        echo "[ \"\$*\" != --version ] || { echo \"$version\"; exit; }"
+        printf '%s\n' '[ "$*" != --help ] || printf ".a \\\\e-\\n"' 'echo "proved $*"'
+    } > crates/motcar/out/motcar
     chmod +x crates/motcar/out/motcar ;;
 try)
     shift 2
@@ -76,9 +82,11 @@ class Clone:
             (self.top / "crates/motcar" / it).mkdir(parents=True)
             (self.top / "crates/motcar" / it / "file").touch()
         (self.top / "crates/motcar/src/version.rt").write_text('const VERSION: &str = "motcar 7.8.9\\n";\n')
+        (self.top / "crates/mot_status/src").mkdir(parents=True)
+        (self.top / "crates/mot_status/src/figures.rt").write_text('pub(crate) const VERSION: &str = "7.8.9";\n')
         for it in ("docs/help", "tools", "examples"):
             (self.top / it).mkdir(parents=True)
-        for it in ("tools/from_help.py", *(f"docs/help/{it}.txt" for it in ("motcar", "memory", *ON_FILES))):
+        for it in ("tools/from_help.py", "tools/version.sh", *(f"docs/help/{it}.txt" for it in ("motcar", "memory", *ON_FILES))):
             shutil.copy(top / it, self.top / it)
         (self.top / "examples/motcar.service").write_text("ExecStart=/usr/local/bin/motcar\n")
         for it in ("motcar.sysusers", "motcar.default"):
@@ -88,7 +96,7 @@ class Clone:
         (self.top / "docs/FORMATS.md").write_text("| 15 | DeviceFault | the disk, as `format` makes it |\n")
         (self.top / "crates/motcar/must-fail").mkdir()
         (self.top / "crates/motcar/must-fail/wrong.edit").touch()
-        (self.top / "crates.txt").write_text("mot_numbers:\nmotcar: mot_numbers\nmot_tests: motcar\n")
+        (self.top / "crates.txt").write_text("mot_numbers:\nmot_status:\nmotcar: mot_status\nmot_tests: motcar\n")
         (self.top / "HANDLES").write_text("Handles allowed: none.\n")
         shutil.copy(top / "motcar", self.top)
         shutil.copytree(top / "packaging", self.top / "packaging")
@@ -140,6 +148,23 @@ class Clone:
 
     def version(self):
         return self.run("--version")[1]
+
+    def git(self, *words, **settings):
+        names = {f"GIT_{who}_{what}": "a@b" for who in ("AUTHOR", "COMMITTER") for what in ("NAME", "EMAIL")}
+        environment = {**self.environment, **names, "GIT_CONFIG_GLOBAL": "/dev/null", **settings}
+        return subprocess.run(["git", *words], cwd=self.top, env=environment, capture_output=True, text=True, check=True).stdout
+
+    def commit(self, when):
+        """Commits all at this time; the version of a build then."""
+        if not (self.top / ".git").exists():
+            (self.top / ".gitignore").write_text("build/\n")
+            self.git("init", "-q")
+        self.git("add", "-A")
+        self.git("commit", "-q", "--allow-empty", "-m", "all", GIT_COMMITTER_DATE=when)
+        return self.stamped()
+
+    def stamped(self):
+        return subprocess.run([self.top / "tools/version.sh"], env=self.environment, capture_output=True, text=True).stdout.strip()
 
 
 def expect(wanted, came):
@@ -223,7 +248,7 @@ def unknown_modes_are_refused(clone):
 def a_proof_reads_what_the_program_is_made_of(clone):
     clone.proved()
     parts = [f"./crates/motcar/{it}" for it in ("proofs/file", "specs/file", "src/file", "src/version.rt")]
-    expect(["./HANDLES", "./crates.txt", *parts], (clone.room / "read").read_text().split())
+    expect(["./HANDLES", "./crates.txt", "./crates/mot_status/src/figures.rt", *parts], (clone.room / "read").read_text().split())
     expect_nothing_left(clone)
 
 
@@ -255,7 +280,7 @@ def the_last_crates_in_a_run_of_their_own(clone):
     status, printed, said = clone.run("serve", "disk", MOTCAR_BUILD="proved", CHAIN="yes", CORES="4")
     expect((0, "proved serve disk\n"), (status, printed))
     expect_in("which takes 15 to 30 minutes on four cores\n", said)
-    expect(["ci mot_numbers", "ci"], clone.calls("ci"))
+    expect(["ci mot_numbers mot_status", "ci"], clone.calls("ci"))
 
 
 def one_run_where_no_crate_is_proved_by_name(clone):
@@ -424,7 +449,8 @@ def installed_by_make_alone(clone):
     words = ["make", "-C", clone.top / "packaging", "install", f"DESTDIR={root}", "prefix=/usr"]
     done = subprocess.run(words, env=clone.environment, capture_output=True, text=True)
     expect((2, False), (done.returncode, root.exists()))
-    expect_in("build/motcar is missing, or older than its sources: ./motcar install proves it first\n", done.stderr)
+    expect_in("build/motcar is missing, older than its sources, or of another commit: ./motcar install proves it first\n",
+              done.stderr)
     expect([], clone.calls("ci"))
     clone.proved()
     subprocess.run(words, env=clone.environment, capture_output=True, check=True)
@@ -433,6 +459,58 @@ def installed_by_make_alone(clone):
     expect(0o755, (root / "usr/bin/motcar").stat().st_mode & 0o777)
     subprocess.run([*words[:3], "uninstall", *words[4:]], env=clone.environment, capture_output=True, check=True)
     expect([], [it for it in root.rglob("*") if it.is_file()])
+
+
+def the_program_says_its_commit(clone):
+    expect("7.8.9", clone.stamped())
+    first = clone.commit("2026-11-29T17:12:53+0200")
+    expect(f"7.8.9+git20261129.151253.{clone.git('rev-parse', 'HEAD')[:8]}", first)
+    expect_in(f"motcar {first}\ncommit ", clone.version())
+    clone.proved()
+    said = f"motcar {first}\ncommit {clone.git('rev-parse', '--short', 'HEAD')}proved with stand-in 1\n"
+    expect(said, clone.version())
+    expect(f'pub(crate) const VERSION: &str = "{first}";\n', (clone.room / "figures").read_text())
+
+
+def a_package_is_of_its_commit(clone):
+    first = clone.commit("2026-11-29T17:12:53+0200")
+    clone.proved()
+    second = clone.commit("2026-11-29T17:12:54+0200")
+    # a run takes the build of an earlier commit, if the sources are the same
+    expect_in(f"motcar {first}\n", clone.version())
+    words = ["make", "-C", clone.top / "packaging", "install", f"prefix={clone.room / 'prefix'}"]
+    done = subprocess.run(words, env=clone.environment, capture_output=True, text=True)
+    expect((2, False), (done.returncode, (clone.room / "prefix").exists()))
+    expect(0, clone.run("package", str(clone.room / "packages"))[0])
+    expect(2, len(clone.calls("ci")))
+    expect_in(f"motcar {second}\n", clone.version())
+    names = sorted(it.name for it in (clone.room / "packages").iterdir() if it.suffix in (".deb", ".gz"))
+    expect([True] * len(names), [second in it for it in names])
+    for it in (it for it in names if it.endswith(".deb")):
+        words = ["dpkg-deb", "--field", clone.room / "packages" / it, "Version"]
+        expect(f"{second}\n", subprocess.run(words, capture_output=True, text=True, check=True).stdout)
+    expect_in(f"motcar {second}\n", (clone.room / "packages/VERSION").read_text())
+
+
+def a_release_has_the_version_of_its_tag(clone):
+    clone.commit("2026-11-29T17:12:53+0200")
+    clone.git("tag", "v7.8.8")
+    expect_in("+git", clone.stamped())
+    clone.git("tag", "v7.8.9")
+    expect("7.8.9", clone.stamped())
+    expect_in("motcar 7.8.9\n", clone.proved().version())
+    (clone.top / "README.md").write_text("another one\n")
+    expect(f"7.8.9+git20261129.151253.{clone.git('rev-parse', 'HEAD')[:8]}.dirty", clone.stamped())
+
+
+def versions_rise_with_the_time(clone):
+    if not shutil.which("dpkg"):
+        return
+    days = ("2026-11-29T09:05:07Z", "2026-11-29T09:05:08Z", "2026-11-29T23:59:59Z", "2026-11-30T00:00:00Z", "2027-01-01T00:00:00Z")
+    order = ["7.8.8", "7.8.9", *map(clone.commit, days), "7.8.10", "7.9.0"]
+    for lower, higher in zip(order, order[1:]):
+        words = ["dpkg", "--compare-versions", lower, "lt", higher]
+        expect((lower, higher, 0), (lower, higher, subprocess.run(words).returncode))
 
 
 def without_make_nothing_is_installed(clone):

@@ -126,7 +126,8 @@ def play_shown(file):
     words += ["--folder", room / "objects", "--lines", room / "lines", "--types", room / "types"]
     words += ["--status", room / "status"]
     status, printed, said = built.run(["strace", "-f", "-y", "-e", "trace=%file,%desc", "-o", file.trace, *words])
-    yield f"play: status {status}: {'; '.join((printed + said).decode().replace(str(room), 'ROOM').splitlines())}"
+    told = re.sub(r"(?<=play: motcar )\S+(?=,)", "VERSION", (printed + said).decode().replace(str(room), "ROOM"))
+    yield f"play: status {status}: {'; '.join(told.splitlines())}"
     for line in file.trace.read_text().splitlines():
         is_call = re.match(r"\d+ +\w+\(", line) and not re.match(r"\d+ +(execve\(|write\([12]<)", line)
         if is_call and str(room) in line and f"{room}/disk" not in line:

@@ -59,7 +59,8 @@ def printed_by(commands, wanted, **more):
         shell.wait(SECONDS)
     shell.kill()
     shell.stdout.close()
-    return came.decode()
+    # (the page has the version of a release)
+    return re.sub(r"(?<=motcar )([\d.]+)\+git[\w.]+", r"\1", came.decode())
 
 
 def rows_of(name, motcar):

@@ -9,7 +9,7 @@ use mot_playout::Server;
 use mot_turn_size::TurnSize;
 
 /// The version of the program, which `motcar --version` prints, too.
-pub(crate) const VERSION: &str = "0.2.0";
+pub(crate) const VERSION: &str = "0.3.0";
 
 /// What is known of the carousel of a server, whose disk has this path and whose turn takes so
 /// much, after a last change at this second.

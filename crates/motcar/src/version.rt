@@ -5,7 +5,7 @@ use std::fs::read_to_string;
 use std::io::{self, Write};
 
 /// The version, as it is printed.
-const VERSION: &str = "motcar 0.2.0\n";
+const VERSION: &str = "motcar 0.3.0\n";
 
 /// Where an installation notes the version, the commit and the toolchain that proved it: from the
 /// folder of the program on.
