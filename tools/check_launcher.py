@@ -239,6 +239,13 @@ def unproved_starts_no_proof(clone):
     expect(False, (clone.top / "build").exists())
 
 
+def tests_are_called_with_their_words(clone):
+    (clone.top / "tools/test.py").write_text('#!/bin/sh\necho "tests $*"; exit 3\n')
+    (clone.top / "tools/test.py").chmod(0o755)
+    expect((3, "tests --quick\n", ""), clone.run("test", "--quick"))
+    expect((1, "", "motcar: the toolchain's command rt is not on the path\n"), clone.run("test", PATH="/usr/bin:/bin"))
+
+
 def unknown_modes_are_refused(clone):
     for fresh in (clone, clone.proved()):
         status, printed, said = fresh.run("help", MOTCAR_BUILD="prooved")
