@@ -8,9 +8,9 @@ format`, whose empty station.disk-wal is removed again. Then it looks whether bo
 whole packets come out of the pipes, and how `systemd-analyze security` rates the units. The status has to be written, also
 once the other unit has stopped, and the node exporter of that Debian has to serve it by the manual's link.
 
-It needs root, debootstrap and the network, to get each Debian once (a minute); --folder keeps them for later runs. A run
-starts over such a folder with a layer in memory, in namespaces of its own: it leaves nothing there, and nothing on this
-machine. --old-filter is a control: with the filter that the units once had, no start succeeds on trixie (systemd 257).
+PROGRAM may be a Debian package: dpkg installs it, and the units are those in it. It needs root, debootstrap, and the network
+to get each Debian once (two minutes); --folder keeps them for later runs. A run starts over such a folder with a layer in
+memory, in namespaces of its own: it leaves nothing there, and nothing on this machine. --old-filter is a control: with the filter that the units once had, no start succeeds on trixie (systemd 257).
 
 Exit status 1 if a row is not as it should be, 2 if it can't be run here.
 """
@@ -30,6 +30,7 @@ from campaign import top
 from tests import dab, program
 
 SYSTEMS = ("bookworm", "trixie")
+UNITS = ("motcar.service", "motcar@.service")
 PACKAGES = "systemd,prometheus-node-exporter"
 SECONDS = 30
 # A file that was changed within so many seconds waits for the next look.
@@ -242,15 +243,23 @@ def until(done, seconds=SECONDS):
 
 
 def install(system, options):
-    """The program, the units and the user."""
-    shutil.copy(options.program, system.place("/usr/local/bin/motcar"))
-    system.place("/usr/local/bin/motcar").chmod(0o755)
-    for it in ("motcar.service", "motcar@.service"):
-        text = (top / "examples" / it).read_text()
+    """The program, the units and the user: by hand, or by the package that was given."""
+    if options.program.endswith(".deb"):
+        shutil.copy(options.program, system.place("/root/motcar.deb"))
+        system.run("dpkg", "-i", "/root/motcar.deb")
+        units = system.place("/usr/lib/systemd/system")
+    else:
+        shutil.copy(options.program, system.place("/usr/local/bin/motcar"))
+        system.place("/usr/local/bin/motcar").chmod(0o755)
+        shutil.copy(top / "examples/motcar.sysusers", system.place("/usr/lib/sysusers.d/motcar.conf"))
+        system.run("systemd-sysusers")
+        units = system.place("/etc/systemd/system")
+        for it in UNITS:
+            shutil.copy(top / "examples" / it, units)
+    for it in UNITS if options.old_filter else ():
+        text = (units / it).read_text()
         assert text.count(FILTER) == 1, f"{it} has another filter"
-        system.place(f"/etc/systemd/system/{it}").write_text(text.replace(FILTER, OLD_FILTER) if options.old_filter else text)
-    shutil.copy(top / "examples/motcar.sysusers", system.place("/usr/lib/sysusers.d/motcar.conf"))
-    system.run("systemd-sysusers")
+        (units / it).write_text(text.replace(FILTER, OLD_FILTER))
     system.run("systemctl", "daemon-reload")
 
 
@@ -277,7 +286,8 @@ def lacking():
 
 def given():
     found = argparse.ArgumentParser(description=__doc__, formatter_class=argparse.RawDescriptionHelpFormatter)
-    found.add_argument("program", nargs="?", metavar="PROGRAM", help="the built program (the one that the tests find)")
+    found.add_argument("program", nargs="?", metavar="PROGRAM",
+                       help="the built program (the one that the tests find), or a Debian package of it")
     found.add_argument("--systems", default=",".join(SYSTEMS), help=f"names of Debian releases ({','.join(SYSTEMS)})")
     found.add_argument("--folder", type=pathlib.Path, help="where each Debian is kept (a temporary folder)")
     found.add_argument("--old-filter", action="store_true", help="a control: the units have the filter that they once had")
