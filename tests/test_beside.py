@@ -1,4 +1,6 @@
 """The empty file beside a disk: an opening that finds no disk leaves none."""
+import os
+
 from .program import Case, refused
 
 # Each command of a disk that is there, and the words behind the disk.
@@ -66,6 +68,23 @@ class Beside(Case):
         (self.room / "disk-wal").unlink()
         wanted = refused(18, "AlreadyFormatted", "disk: it is a motcar disk already")
         self.expect_none("format", wanted, "format", "disk")
+
+    def test_no_disk_takes_the_name_of_a_file_of_another(self):
+        """With a journal of such a name the other disk would not open."""
+        self.new_disk("disk")
+        self.new_disk("source")
+        (self.room / "link").symlink_to("nowhere")
+        os.mkdir(self.room / "folder")
+        why = "the name of a file of another disk; choose another name"
+        for path in (*[f"{it}{end}" for it in ("disk", "./disk", "link") for end in ("-journal", "-wal", "-shm")],
+                     f"{self.room}/folder/../disk-journal"):
+            wanted = refused(15, "DeviceFault", f"{path}: {why}")
+            for command in ("format",), ("copy", "source"), ("copy", "disk"):
+                self.expect_none(f"{command} {path}", wanted, *command, path)
+        self.expect("the disk opens again", 0, self.motcar("check", "disk")[0])
+        for path in ("none-journal", "folder-wal", "folder/disk-shm", "disk-wals", "-journal", "folder/-wal"):
+            words = ["format", "--", path] if path.startswith("-") else ["format", path]
+            self.expect(f"another name is taken: {path}", 0, self.motcar(*words)[0])
 
     def test_one_that_was_there_stays(self):
         self.write("zeros", bytes(90_000))

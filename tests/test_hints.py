@@ -21,7 +21,7 @@ HINTS = {
 OTHERS = [
     "in use by another program; end that program first", "neither a regular file nor a block device; check the path",
     "the file has a second name (a hard link); remove the other name", "a file is there; move it away",
-    "not a regular file of one name; move it away",
+    "not a regular file of one name; move it away", "the name of a file of another disk; choose another name",
 ]
 
 

@@ -128,7 +128,7 @@ module _ {S : Type 0} {start : Ghosts S} where
     unopened : MakesFile ending path used (before ++ in_vain (codes "disk") path ∷ []) after
         → OpensOrMakes ending path used before after
 
-  -- which calls `format` makes of the system beside those on its disk: that is made only if what its
-  -- path names was found free, and that changed nothing
+  -- which calls `format` makes of the system beside those on its disk: that is made only if its path
+  -- was found free, and that changed nothing
   abbrev pub LooksFirst : Text → UsedDisk S start → (old new : List Call) → Type 0
   LooksFirst path used old new = OnlyLooks old new × (IsUntouched used ⊎ IsFree path old new)

@@ -25,7 +25,7 @@ use std::alloc::Global;
 use std::io::Write;
 
 /// Makes a disk of the file at the path, as `format_free` does. No file is touched for a geometry
-/// out of range, or if the path names a device in use.
+/// out of range, or if the path names a device in use or a file of another disk.
 pub fn format_file<Y: System, S: Start, W: Write>(
     host: &mut Host<'_>,
     system: &mut Y,

@@ -79,7 +79,7 @@ module _ {S : Type 0} {start : Ghosts S} where
     unopened : MakesCopy ending path copy (before ++ in_vain (codes "disk") path ∷ []) after
         → ComesToCopy ending path copy before after
 
-  -- the system was only looked at, and what the path names was found free if it was opened or made
+  -- the system was only looked at, and the path was found free if it was opened or made
   abbrev pub LooksAtCopy : Text → Option (SecondDisk S start) → (old new : List Call) → Type 0
   LooksAtCopy path None old new = OnlyLooks old new
   LooksAtCopy path (Some disk) old new = OnlyLooks old new × IsFree path old new

@@ -43,7 +43,7 @@ type Copying<S> = (
 
 /// Copies the disk of a file to that of another, which is opened, or made if it can't be, and removed
 /// again if nothing was copied to it. That is not done for sizes that no disk has, or if it is a
-/// device in use. Prints how many bytes the copy has.
+/// device in use or a file of another disk. Prints how many bytes the copy has.
 pub fn copy_file<Y: System, S: Start, W: Write>(
     host: &mut Host<'_>,
     system: &mut Y,

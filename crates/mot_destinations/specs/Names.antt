@@ -1,8 +1,9 @@
 -- Which names are those of files of the disk.
 use Rattle.std.specs.Prelude.{◌≡◌, ℕ, Bool, true, false, List, [], ◌∷◌, ◌++◌, Result, Ok, Err}
-use Rattle.std.specs.Prelude.{Option, Some, None, bytes_eq, codes, take, drop, length, ◌&&◌, ◌||◌}
+use Rattle.std.specs.Prelude.{Option, Some, None, bytes_eq, codes, take, drop, length, ◌&&◌}
 use Rattle.std.specs.Path.{path_file_name, path_parent}
 use Rattle.mot_destinations.specs.Placing.{is_answer_of}
+use Rattle.mot_devices.specs.Beside.{is_store_end}
 use Rattle.mot_files.specs.Call.{Call, followed}
 use Rattle.mot_files.specs.declared.system.Fault.{Fault}
 use Rattle.mot_files.specs.declared.system.Seen.{Seen}
@@ -25,12 +26,7 @@ pub data IsSameFolder (path other : List ℕ) (result : Bool) (old new : List Ca
       → new ≡ old ++ followed path (Ok folder) ∷ [] ++ followed other answer ∷ []
       → IsSameFolder path other result old new
 
--- what the names of files that the disk's store may have beside the disk have behind its name
-abbrev pub is_store_end : List ℕ → Bool
-is_store_end end =
-    bytes_eq end (codes "-journal") || bytes_eq end (codes "-wal") || bytes_eq end (codes "-shm")
-
--- whether the name of a file is such a name, beside that of the disk
+-- whether the name of a file is one that the disk's store may have beside the disk
 abbrev pub is_store_name : (name disk : Option (List ℕ)) → Bool
 is_store_name None disk = false
 is_store_name (Some name) None = false

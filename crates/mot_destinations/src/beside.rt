@@ -1,9 +1,9 @@
 //! What the names of files beside others are, and whether a path leads to one file.
 ghost use Rattle.std.specs.Prelude.{◌≡◌, ◌∷◌, ◌++◌, [], Result};
 ghost use Rattle.std.specs.Path.{path_file_name};
-ghost use Rattle.mot_destinations.specs.Names.{IsOfDisk, IsSameFolder, folder_of};
-ghost use Rattle.mot_destinations.specs.Names.{is_store_end, is_store_name};
+ghost use Rattle.mot_destinations.specs.Names.{IsOfDisk, IsSameFolder, folder_of, is_store_name};
 ghost use Rattle.mot_destinations.specs.Placing.{is_answer_of};
+ghost use Rattle.mot_devices.specs.Beside.{is_store_end};
 ghost use Rattle.mot_files.specs.Call.{followed};
 ghost use Rattle.mot_files.specs.declared.system.Fault.{Fault};
 ghost use Rattle.mot_files.specs.declared.system.Seen.{Seen};

@@ -1,7 +1,8 @@
 -- Calls that change nothing, one after the other.
 use Rattle.std.proofs.Common.{◌≡◌, ◌∙◌, List, [], ◌∷◌, ◌++◌, ap, append_assoc, append-nil, sym, true}
 use Rattle.std.proofs.lemmas.List.Elements.{All-append, All-cons, All-nil}
-use Rattle.std.proofs.Common.{Err, IfErr, IfOk, IsErrAnd, Ok, OnOk, Result, if◌then◌else◌, is_ok}
+use Rattle.std.proofs.Common.{Err, IfErr, IfNone, IfOk, IfSome, IsErrAnd, None, Ok, OnOk, Option, Result}
+use Rattle.std.proofs.Common.{Some, if◌then◌else◌, is_ok}
 use Rattle.mot_devices.specs.Looking.{OnlyLooks, Within, changes_nothing}
 use Rattle.mot_files.specs.Call.{Call}
 
@@ -36,6 +37,15 @@ pub if_err : {T E : Type 0} {P Q : E → Type 0} → ((e : E) → P e → Q e) �
     → IfErr r P → IfErr r Q
 if_err follows (Ok v) is = tt
 if_err follows (Err e) is = follows e is
+
+pub if_none : {T P Q : Type 0} → (P → Q) → (r : Option T) → IfNone r P → IfNone r Q
+if_none follows None is = follows is
+if_none follows (Some v) is = tt
+
+pub if_some : {T : Type 0} {P Q : T → Type 0} → ((v : T) → P v → Q v) → (r : Option T) → IfSome r P
+    → IfSome r Q
+if_some follows None is = tt
+if_some follows (Some v) is = follows v is
 
 -- what was done between calls that change nothing
 pub within : (P : List Call → List Call → Type 0) (a b : List Call) → P a b → Within P a b

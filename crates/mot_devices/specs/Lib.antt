@@ -1,3 +1,4 @@
+pub mod Beside
 pub mod Inner
 pub mod Looking
 pub mod Mounts

@@ -1,4 +1,4 @@
--- What a block device is used for. Each relation goes from the calls that were made before to those
+-- What a block device is used for, or the path of a file of a disk. Each relation goes from the calls that were made before to those
 -- that were made once it was known.
 use Rattle.std.specs.Prelude.{◌≡◌, ℕ, Bool, true, false, List, [], ◌∷◌, ◌++◌, Ok, Err, None, Some}
 use Rattle.std.specs.Prelude.{Option, Result, codes, take}
@@ -10,6 +10,7 @@ use Rattle.mot_files.specs.declared.system.Fault.{Fault}
 use Rattle.mot_files.specs.declared.system.Fault.TheVariants.{Absent}
 use Rattle.mot_files.specs.declared.system.How.TheVariants as how
 use Rattle.mot_files.specs.declared.system.Seen.{Seen}
+use Rattle.mot_devices.specs.Beside.{IsApart, IsFileOfDisk}
 use Rattle.mot_devices.specs.Looking.{IsUnread, WasRead, Within}
 use Rattle.mot_devices.specs.Mounts.{mount_in}
 use Rattle.mot_devices.specs.Number.{number_text}
@@ -54,11 +55,18 @@ pub record IsFreeDevice (path : List ℕ) (number : ℕ) (old new : List Call) :
   pub unsigned : Within (BeginsWith path None) old new
 
 -- The path named no block device, and nothing but that was asked; or it names one that is free.
-pub data IsFree (path : List ℕ) (old new : List Call) : Type 0 where
+pub data IsFreeThere (path : List ℕ) (old new : List Call) : Type 0 where
   no_device : (answer : Result Seen Fault) → NamesNone answer
-      → new ≡ old ++ followed path answer ∷ [] → IsFree path old new
+      → new ≡ old ++ followed path answer ∷ [] → IsFreeThere path old new
   device : (seen : Seen) (number : ℕ) → seen.block ≡ Some number
-      → IsFreeDevice path number (old ++ followed path (Ok seen) ∷ []) new → IsFree path old new
+      → IsFreeDevice path number (old ++ followed path (Ok seen) ∷ []) new
+      → IsFreeThere path old new
+
+-- The path is not that of a file of a disk, and so it is free.
+pub record IsFree (path : List ℕ) (old new : List Call) : Type 0 where
+  pub inner : List Call
+  pub apart : IsApart path old inner
+  pub free : IsFreeThere path inner new
 
 -- One of these devices is mounted: the place is told as far as its name is kept. Or what is mounted
 -- is not known: the table was not read, or not to its end, or there was no memory for it.
@@ -110,10 +118,16 @@ pub data IsUsedDevice (path : List ℕ) (number : ℕ) (found : DeviceUse) (old 
 
 -- The path named a block device, and that is used; or the system refused to say what it names,
 -- though something is there.
-pub data IsUsed (path : List ℕ) (found : DeviceUse) (old new : List Call) : Type 0 where
+pub data IsUsedThere (path : List ℕ) (found : DeviceUse) (old new : List Call) : Type 0 where
   device : (seen : Seen) (number : ℕ) → seen.block ≡ Some number
       → IsUsedDevice path number found (old ++ followed path (Ok seen) ∷ []) new
-      → IsUsed path found old new
+      → IsUsedThere path found old new
   unseen : (fault : Fault) (error : Error) → found ≡ DeviceUse.Unseen error
       → (NamesNone (Err fault) → ⊥) → new ≡ old ++ followed path (Err fault) ∷ []
+      → IsUsedThere path found old new
+
+-- The path is that of a file of a disk, and nothing but that was asked; or it is used so.
+pub data IsUsed (path : List ℕ) (found : DeviceUse) (old new : List Call) : Type 0 where
+  of_disk : found ≡ DeviceUse.OfDisk → IsFileOfDisk path old new → IsUsed path found old new
+  there : (inner : List Call) → IsApart path old inner → IsUsedThere path found inner new
       → IsUsed path found old new

@@ -19,6 +19,8 @@ pub enum DeviceUse {
     Unknown(io::Error),
     /// It can't be looked at or read, for this reason.
     Unseen(io::Error),
+    /// It is no device, but the name of a file of a disk.
+    OfDisk,
 }
 
 impl Display for DeviceUse {
@@ -32,6 +34,7 @@ impl Display for DeviceUse {
             DeviceUse::HasSignature(signature) => signature.fmt(f),
             DeviceUse::Unknown(_) => f.pad("/proc/self/mountinfo does not say what is mounted"),
             DeviceUse::Unseen(error) => error.fmt(f),
+            DeviceUse::OfDisk => f.pad("the name of a file of another disk"),
         }
     }
 }

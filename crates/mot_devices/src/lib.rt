@@ -1,7 +1,9 @@
 //! Whether a block device is in use, by what the system says of it: mounted, a swap, held by another
-//! device, or with the signature of a file system or a partition table at its head.
+//! device, or with the signature of a file system or a partition table at its head. Or whether a path
+//! is that of a file of a disk.
 #![tactic(auto)]
 
+mod beside;
 mod device_use;
 mod mounts;
 mod number;

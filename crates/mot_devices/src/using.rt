@@ -4,13 +4,15 @@
 ghost use Rattle.std.specs.Prelude.{◌≡◌, IfErr, IfNone, IfSome, None, OnOk};
 ghost use Rattle.mot_devices.specs.Inner.Uses.{IsIdle};
 ghost use Rattle.mot_devices.specs.Looking.{OnlyLooks};
-ghost use Rattle.mot_devices.specs.Uses.{BeginsWith, IsBusy, IsFree, IsFreeDevice, IsMounted};
-ghost use Rattle.mot_devices.specs.Uses.{IsSigned, IsUsed, IsUsedDevice, MountsAt};
+ghost use Rattle.mot_devices.specs.Uses.{BeginsWith, IsBusy, IsFree, IsFreeDevice, IsFreeThere};
+ghost use Rattle.mot_devices.specs.Uses.{IsMounted, IsSigned, IsUsed, IsUsedDevice, IsUsedThere};
+ghost use Rattle.mot_devices.specs.Uses.{MountsAt};
 ghost use Rattle.mot_devices.specs.declared.device_use.DeviceUse.TheVariants.{Unseen};
 ghost use Rattle.std.specs.IoError.{error_kind};
 ghost use Rattle.std.specs.declared.io.Error.{Error};
 ghost use Rattle.std.specs.declared.io.ErrorKind.TheVariants.{OutOfMemory};
 
+use crate::beside::is_file_of_disk;
 use crate::device_use::DeviceUse;
 use crate::mounts::find_mount;
 use crate::number::Numbers;
@@ -31,11 +33,26 @@ pub const HEAD: usize = 65_608;
 /// What uses the block device that the path names; `None` if it is free, or if the path names none.
 /// Nothing is changed by this. A device is free if neither it nor a partition of it is mounted or a
 /// swap, no other device stands on it, and it has no signature. Its partitions, the swaps and what
-/// stands on it are known as far as the system lets their tables be read.
+/// stands on it are known as far as the system lets their tables be read. A path is in use, too, that
+/// is the name of a file of a disk.
 pub fn use_of<S: System>(system: &mut S, alloc: Global, path: &str) -> Option<DeviceUse>
     ensures looks { OnlyLooks (S.calls system.old) (S.calls system.new) }
     ensures free { IfNone result (IsFree path.now (S.calls system.old) (S.calls system.new)) }
     ensures used { IfSome result (λ found. IsUsed path.now found (S.calls system.old)
+        (S.calls system.new)) }
+{
+    if is_file_of_disk(system, path) {
+        return Some(DeviceUse::OfDisk);
+    }
+    use_there(system, alloc, path)
+}
+
+/// What uses the block device that the path names.
+fn use_there<S: System>(system: &mut S, alloc: Global, path: &str) -> Option<DeviceUse>
+    ensures looks { OnlyLooks (S.calls system.old) (S.calls system.new) }
+    ensures free { IfNone result (IsFreeThere path.now (S.calls system.old)
+        (S.calls system.new)) }
+    ensures used { IfSome result (λ found. IsUsedThere path.now found (S.calls system.old)
         (S.calls system.new)) }
 {
     let seen = match system.follow(path) {

@@ -232,6 +232,7 @@ fn hint_of_use(found: DeviceUse) -> &'static str {
         DeviceUse::HasSignature(_) => "; if nobody needs it, clear it: wipefs -a ",
         DeviceUse::Unknown(_) => "; mount /proc",
         DeviceUse::Unseen(_) => "",
+        DeviceUse::OfDisk => "; choose another name",
     }
 }
 
