@@ -1,5 +1,5 @@
--- What a block device is used for, or the path of a file of a disk. Each relation goes from the calls that were made before to those
--- that were made once it was known.
+-- What a block device is used for, or the path of a file of a disk. Each relation goes from the
+-- calls that were made before to those that were made once it was known.
 use Rattle.std.specs.Prelude.{◌≡◌, ℕ, Bool, true, false, List, [], ◌∷◌, ◌++◌, Ok, Err, None, Some}
 use Rattle.std.specs.Prelude.{Option, Result, codes, take}
 use Rattle.std.specs.IoError.{error_kind}
