@@ -154,18 +154,6 @@ class Samples(Events):
         ended = run(["promtool", "check", "metrics"], self.path.read_bytes())
         self.expect("promtool takes it", (0, b""), (ended[0], ended[1]))
 
-    @needs_strace
-    def test_that_it_lasts_before_it_takes_its_name(self):
-        trace = self.room / "trace"
-        words = ["play", self.place, "/dev/null", "--turns", "1", "--status", self.path]
-        run(traced([self.program, *words], "trace=openat,fsync,fdatasync,rename,renameat,renameat2",
-                   paths=[f"{self.path}.new"], out=trace))
-        calls = [it.split(maxsplit=1)[1].partition("(")[0] for it in trace.read_text().splitlines()]
-        wanted = ["opened", "synced", "renamed"]
-        names = {"openat": "opened", "fsync": "synced", "fdatasync": "synced"}
-        came = [names.get(it, "renamed") for it in calls if it in names or it.startswith("rename")]
-        self.expect("each status", (True, wanted * (len(came) // 3)), (len(came) > 3, came))
-
 
 class Levels(Events):
     def test_how_many_objects_go(self):
