@@ -245,8 +245,8 @@ def until(done, seconds=SECONDS):
 def install(system, options):
     """The program, the units and the user: by hand, or by the package that was given."""
     if options.program.endswith(".deb"):
-        shutil.copy(options.program, system.place("/root/motcar.deb"))
-        system.run("dpkg", "-i", "/root/motcar.deb")
+        shutil.copy(options.program, system.place("/tmp/motcar.deb"))
+        system.run("dpkg", "-i", "/tmp/motcar.deb")
         units = system.place("/usr/lib/systemd/system")
     else:
         shutil.copy(options.program, system.place("/usr/local/bin/motcar"))
