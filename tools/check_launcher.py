@@ -19,18 +19,14 @@ ON_FILES = ("format", "copy", "serve", "check", "migrate", "play", "sync", "list
             "inspect")
 STAND_IN = r"""#!/bin/sh
 # A stand-in for the toolchain: its proof takes PROOF seconds, or, where that is "held", until $ROOM/released is there;
-# its unproved run takes TRY seconds. It proves crates by name, and has a folder to keep proofs in, if CHAIN is set.
+# its unproved run takes TRY seconds, or, where that is "beside", until a proof is under way. A proof writes its priority and RT_JOBS.
 echo "$*" >> "$ROOM/calls"
 trap 'kill $!; exit 143' TERM
 case $1 in
 version) echo "stand-in 1" ;;
-help)
-    echo "  rt ci                   the merge gate"
-    [ -z "${CHAIN:-}" ] || echo "  rt ci NAME..            the same for these crates"
-    exit 2 ;;
-doc) [ -z "${CHAIN:-}" ] || { mkdir -p "$ROOM/kit/rattle" && echo "$ROOM/kit/rattle/START.md"; } ;;
 ci)
-    [ $# -eq 1 ] || [ -n "${CHAIN:-}" ] || { echo "usage: rt ci"; exit 2; }
+    [ $# -eq 1 ] || { echo "usage: rt ci"; exit 2; }
+    echo "$(nice) ${RT_JOBS:-}" > "$ROOM/given.new" && mv "$ROOM/given.new" "$ROOM/given"
     find . -type f | LC_ALL=C sort > "$ROOM/read"
     if [ "${PROOF:-}" = held ]; then
         until [ -e "$ROOM/released" ]; do sleep 0.1; done
@@ -51,7 +47,11 @@ try)
     shift 2
     mktemp -d > "$ROOM/folder"
     echo $$ > "$ROOM/trying.new" && mv "$ROOM/trying.new" "$ROOM/trying"
-    sleep "${TRY:-0}" & wait $!
+    if [ "${TRY:-}" = beside ]; then
+        until [ -e "$ROOM/given" ]; do sleep 0.1; done
+    else
+        sleep "${TRY:-0}" & wait $!
+    fi
     case " $* " in
     *wrong*) echo "run=ended status=0 not the last" >&2; echo "wrong words: $*" >&2; status=2 ;;
     *help*) echo "the help"; status=0 ;;
@@ -94,8 +94,8 @@ class Clone:
         (self.top / "CHANGELOG.md").touch()
         (self.top / "README.md").write_text("[there](docs/FORMATS.md#x), [not there](CONTRIBUTING.md)\n")
         (self.top / "docs/FORMATS.md").write_text("| 15 | DeviceFault | the disk, as `format` makes it |\n")
-        (self.top / "crates/motcar/must-fail").mkdir()
-        (self.top / "crates/motcar/must-fail/wrong.edit").touch()
+        (self.top / "crates/motcar/wrong").mkdir()
+        (self.top / "crates/motcar/wrong/wrong.edit").touch()
         (self.top / "crates.txt").write_text("mot_numbers:\nmot_status:\nmotcar: mot_status\nmot_tests: motcar\n")
         (self.top / "HANDLES").write_text("Handles allowed: none.\n")
         shutil.copy(top / "motcar", self.top)
@@ -283,18 +283,32 @@ def twenty_unproved_starts_at_once(clone):
     expect(1, len(clone.calls("ci")))
 
 
-def the_last_crates_in_a_run_of_their_own(clone):
-    status, printed, said = clone.run("serve", "disk", MOTCAR_BUILD="proved", CHAIN="yes", CORES="4")
+def a_first_proof_has_a_processor_a_check(clone):
+    status, printed, said = clone.run("serve", "disk", MOTCAR_BUILD="proved", CORES="4")
     expect((0, "proved serve disk\n"), (status, printed))
     expect_in("which takes 15 to 30 minutes on four cores\n", said)
-    expect(["ci mot_numbers mot_status", "ci"], clone.calls("ci"))
-
-
-def one_run_where_no_crate_is_proved_by_name(clone):
-    status, printed, said = clone.run("serve", "disk", MOTCAR_BUILD="proved", CORES="2")
-    expect((0, "proved serve disk\n"), (status, printed))
-    expect_in("which takes half an hour or more\n", said)
     expect(["ci"], clone.calls("ci"))
+    # (fewer, if the memory of this machine is at use)
+    expect_in((clone.room / "given").read_text(), [f"0 {it}\n" for it in (1, 2, 3, 4)])
+    (clone.top / "crates/motcar/src/file").touch()
+    expect(0, clone.run("serve", "disk", MOTCAR_BUILD="proved", CORES="4")[0])
+    expect(["0"], (clone.room / "given").read_text().split())
+
+
+def two_processors_take_longer(clone):
+    expect_in("which takes half an hour or more\n", clone.run("serve", "disk", MOTCAR_BUILD="proved", CORES="2")[2])
+
+
+def a_proof_begins_beside_the_run_without_one(clone):
+    status, printed, said = clone.run("memory", given="a line\n", PROOF="held", TRY="beside")
+    expect((0, "a line\n"), (status, printed))
+    expect_in("motcar: meanwhile the proved build", said)
+    expect("10", (clone.room / "given").read_text().split()[0])
+    priority = ["ps", "-o", "ni=", "-p", clone.prover()]
+    if os.geteuid() == 0:
+        expect("0", subprocess.run(priority, capture_output=True, text=True, check=True).stdout.strip())
+    clone.release()
+    until(lambda: (clone.top / "build/motcar").exists())
 
 
 def a_proof_that_fails_is_told(clone):
@@ -337,7 +351,7 @@ def signals_leave_nothing(clone):
         started.send_signal(number)
         expect(128 + number, started.wait(60))
         expect(True, is_gone(trying))
-        expect_nothing_left(clone)
+        until(lambda: not any(clone.temporary.iterdir()))
         (clone.room / "trying").unlink()
 
 
