@@ -150,6 +150,8 @@ def main():
         return report(side_by_side(CHECKS), False, 0)
     print("without a proof:", flush=True)
     with tempfile.TemporaryDirectory(prefix="motcar-tests-") as room:
+        # (rows of another user run the program, too)
+        os.chmod(room, 0o755)
         ended = without_a_proof(room)
     if options.quick:
         return report(ended, True, 0)

@@ -48,6 +48,7 @@ def main():
                 time.sleep(0.1)
             if found:
                 shutil.copy(found, sys.argv[1])
+                os.chmod(sys.argv[1], 0o755)
             trial.terminate()
             trial.wait()
             said.seek(0)
