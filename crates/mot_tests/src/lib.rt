@@ -19,7 +19,11 @@ mod journal;
 #[cfg(test)]
 mod lives;
 #[cfg(test)]
+mod looks;
+#[cfg(test)]
 mod memory;
+#[cfg(test)]
+mod memory_folder;
 #[cfg(test)]
 mod objects;
 #[cfg(test)]

@@ -6,10 +6,6 @@ mod answers;
 mod chance;
 mod judging;
 mod log;
-#[cfg(test)]
-mod memory_tests;
-#[cfg(test)]
-mod passing_tests;
 mod playing;
 mod reading;
 mod replacing;

@@ -151,7 +151,7 @@ fn text(at: u64) -> &'static [u8] {
 }
 
 /// An empty disk.
-pub fn new_disk(alloc: Global) -> Result<MemoryDisk, AllocError> {
+fn new_disk(alloc: Global) -> Result<MemoryDisk, AllocError> {
     let Some(mut disk) = MemoryDisk::new(alloc, SIZES.length()) else {
         return Err(AllocError);
     };

@@ -1,8 +1,8 @@
 //! A look does not read a file again that was not changed.
-use crate::playing::new_disk;
+use crate::disks::new_server;
+use mot_base::Geometry;
 use mot_folder::{FileTypes, Folder, look_at_folder};
 use mot_memory_files::MemorySystem;
-use mot_playout::Server;
 use mot_shelf::SystemShelf;
 use std::alloc::Global;
 use std::test::Fail;
@@ -17,7 +17,7 @@ fn looked(alloc: Global, looks: u64, age: u64) -> Result<(u64, usize), Fail> {
     let types = FileTypes::new(alloc)?;
     let shelf = SystemShelf::new(system, "folder", true);
     let mut folder = Folder::new(alloc, shelf, &types, false);
-    let Ok(mut server) = Server::open(alloc, new_disk(alloc)?) else {
+    let Ok(mut server) = new_server(alloc, &Geometry::default()) else {
         return Err(Fail::from("unopened"));
     };
     for _ in 0..looks {
