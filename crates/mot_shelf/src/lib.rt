@@ -1,14 +1,12 @@
 //! A folder of files as a program sees it: clauses can say what was listed and read of it.
 #![tactic(auto)]
 
-mod memory;
 mod pairs;
 mod seen;
 mod shelf;
 mod stamps;
 mod system;
 
-pub use memory::MemoryShelf;
 pub use pairs::Pairs;
 pub use seen::{LookNotes, Seen};
 pub use shelf::{FileRead, Shelf};

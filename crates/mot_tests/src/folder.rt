@@ -5,63 +5,76 @@ use mot_base::{Geometry, Refusal};
 use mot_events::LookEvent;
 use mot_folder::{FileTypes, Folder, look_at_folder};
 use mot_log::add_met_line;
-use mot_shelf::MemoryShelf;
+use mot_memory_files::{MemorySystem, Plan};
+use mot_shelf::SystemShelf;
 use std::alloc::Global;
 
-/// Of a look: the names of the folder, if it can be listed; the files that can be read; whether a
-/// folder without an object takes all off the air; and what is told.
+/// Of a look: the names in the folder with their bytes, whether every call on it fails, whether a folder
+/// without an object takes all off the air, and what is told.
 type Look = (
-    Option<&'static [u8]>,
-    &'static [(&'static [u8], &'static [u8])],
+    &'static [(&'static str, &'static [u8])],
+    bool,
     bool,
     &'static [u8],
 );
 
-/// Both files come, and one that is none. Then the second can't be read; then the folder can't be
-/// listed. Then it has the first alone, with other bytes; then none, at which the object is kept,
-/// and then withdrawn.
-const LOOKS: [Look; 6] = [
+/// Both files come, and one that is none. Then the folder can't be listed. Then it has the first alone,
+/// with other bytes; then none, at which the object is kept, and then withdrawn.
+const LOOKS: [Look; 5] = [
     (
-        Some(b"a.txt\0b.txt\0c.doc\0"),
-        &[(b"a.txt", b"one"), (b"b.txt", b"two")],
+        &[("a.txt", b"one"), ("b.txt", b"two"), ("c.doc", b"none")],
+        false,
         false,
         b"skip c.doc suffix\nput a.txt done object 2 directory 3\nput b.txt done object 4 directory 5\n",
     ),
     (
-        Some(b"a.txt\0b.txt\0c.doc\0"),
-        &[(b"a.txt", b"one")],
+        &[("a.txt", b"one")],
+        true,
         false,
-        b"skip c.doc suffix\nread b.txt refused 22 ReadFault: permission denied\n",
+        b"look folder refused 22 ReadFault: permission denied\n",
     ),
     (
-        None,
-        &[(b"a.txt", b"one")],
+        &[("a.txt", b"six")],
         false,
-        b"look memory refused 22 ReadFault: entity not found\n",
-    ),
-    (
-        Some(b"a.txt\0"),
-        &[(b"a.txt", b"six")],
         false,
         b"withdraw b.txt done directory 6\nreplace a.txt done object 7 directory 8\n",
     ),
-    (Some(b""), &[], false, b"look memory empty, kept\n"),
+    (&[], false, false, b"look folder empty, kept\n"),
     (
-        Some(b""),
         &[],
+        false,
         true,
-        b"note memory 1 of 1 objects go\nwithdraw a.txt done directory 9\n",
+        b"note folder 1 of 1 objects go\nwithdraw a.txt done directory 9\n",
     ),
 ];
+
+/// A folder with these files, each of whose calls fails if `fails` is set.
+fn folder_of(
+    alloc: Global,
+    files: &[(&'static str, &'static [u8])],
+    fails: bool,
+) -> Result<MemorySystem, Refusal> {
+    let mut system = MemorySystem::calm(alloc, "folder")?;
+    for (name, bytes) in files {
+        system.put(name, bytes)?;
+    }
+    let stop = u64::from(fails);
+    system.set_plan(Plan {
+        stop,
+        ..Plan::calm()
+    });
+    Ok(system)
+}
 
 /// What is told of a look at this folder.
 fn told_of(
     alloc: Global,
     server: &mut Server,
-    shelf: MemoryShelf,
+    system: MemorySystem,
     allows_empty: bool,
 ) -> Result<Vec<u8>, Refusal> {
     let types = FileTypes::new(alloc)?;
+    let shelf = SystemShelf::new(system, "folder", true);
     let mut folder = Folder::new(alloc, shelf, &types, allows_empty);
     look_at_folder(alloc, server, &mut folder)?;
     lines_of(alloc, folder.report.events.as_slice())
@@ -78,12 +91,13 @@ fn lines_of(alloc: Global, events: &[LookEvent]) -> Result<Vec<u8>, Refusal> {
 
 /// Whether a look is told so.
 fn is_told(alloc: Global, server: &mut Server, look: Look) -> Result<bool, Refusal> {
-    let (names, files, allows_empty, told) = look;
-    let lines = told_of(alloc, server, MemoryShelf::new(names, files), allows_empty)?;
+    let (files, fails, allows_empty, told) = look;
+    let system = folder_of(alloc, files, fails)?;
+    let lines = told_of(alloc, server, system, allows_empty)?;
     Ok(lines.as_slice() == told)
 }
 
-/// How many of the looks, one behind the other, are told so.
+/// How many of the looks, one after the other, are told so.
 fn told_looks(alloc: Global, server: &mut Server) -> Result<usize, Refusal> {
     for (place, look) in LOOKS.iter().enumerate() {
         if !is_told(alloc, server, *look)? {
