@@ -6,16 +6,16 @@ use Rattle.disk_model.proofs.Laws.{joins, keeps_on}
 use Rattle.disk_model.specs.Disk.{Elapses, IsHonestDisk, IsStill, Nothing, OnlySyncs}
 use Rattle.disk_model.specs.Disk.{State}
 use Rattle.disk_model.specs.Failures.{Rises}
-use Rattle.mot_ending.proofs.Laws.{opened_throughout}
+use Rattle.mot_update.proofs.Laws.{opened_throughout}
 use Rattle.mot_air.specs.Directory.{IsFrame}
-use Rattle.mot_ending.specs.Ending.{IsEnd, Leaves}
-use Rattle.mot_ending.specs.Ending as opening
+use Rattle.mot_update.specs.Ending.{IsEnd, Leaves}
+use Rattle.mot_update.specs.Ending as opening
 use Rattle.mot_air.specs.Playing.{HasAired, Plays, Tale}
 use Rattle.mot_air.specs.declared.manner.Manner.{Manner}
 use Rattle.mot_air.specs.Telling.{EndsAs, Same, first_sources, tale_told}
 use Rattle.mot_air.specs.Telling.EndsTelling.{broken}
-use Rattle.mot_ending.proofs.Laws.{AllAre}
-use Rattle.mot_ending.specs.Opening.{IsUnopened}
+use Rattle.mot_update.proofs.Laws.{AllAre}
+use Rattle.mot_update.specs.Opening.{IsUnopened}
 use Rattle.mot_feed.specs.Feeding.{Event, Stage}
 use Rattle.mot_feed.specs.Feeding.AreTold.{no_call}
 use Rattle.mot_feed.specs.Feeding.Stage.{Ready}

@@ -17,8 +17,8 @@ use Rattle.mot_numbers.specs.Refusal.{is_device_fault}
 use Rattle.mot_numbers.specs.declared.geometry.Geometry.{Geometry}
 use Rattle.mot_numbers.specs.declared.refusal.Refusal.{Refusal}
 use Rattle.mot_objects.specs.declared.command.Command.{Command}
-use Rattle.mot_ending.specs.Opening.{IsUnopened}
-use Rattle.mot_ending.proofs.Laws.{all_hold}
+use Rattle.mot_update.specs.Opening.{IsUnopened}
+use Rattle.mot_update.proofs.Laws.{all_hold}
 use Rattle.mot_repository.specs.Opening.{IsOpened}
 use Rattle.mot_playout.specs.Lives.{HasDone}
 use Rattle.mot_playout.specs.Server.{ServerView}

@@ -10,7 +10,7 @@ use Rattle.mot_air.specs.Playing.{HasAired, IsServed, Plays, Tale, look_of_feed,
 use Rattle.mot_air.specs.declared.manner.Manner.{Manner}
 use Rattle.mot_air.specs.Playing.{tale_of}
 use Rattle.mot_air.specs.Commands.{PlaysInto}
-use Rattle.mot_ending.proofs.Laws.{ends_off, opened_leaves}
+use Rattle.mot_update.proofs.Laws.{ends_off, opened_leaves}
 use Rattle.mot_destinations.specs.declared.packets.Target.{Target}
 use Rattle.mot_feed.specs.Ends.{NobodyStarves}
 use Rattle.mot_feed.specs.Feeding.{AreOf, AreTold, Event, FedPacketsAreContinuous}
@@ -29,10 +29,10 @@ use Rattle.mot_objects.specs.Rules.{AllKeepRules}
 use Rattle.mot_objects.specs.declared.command.Command.{Command}
 use Rattle.mot_player.specs.Place.{Place}
 use Rattle.mot_player.specs.Turn.{turn_of_carousel}
-use Rattle.mot_ending.proofs.Laws.{AllAre, all_hold, openable}
+use Rattle.mot_update.proofs.Laws.{AllAre, all_hold, openable}
 use Rattle.mot_feed.proofs.Laws.{happen-apart, often-front, rules_behind, rules_front, rules_of_turn}
 use Rattle.mot_feed.proofs.Laws.{rules_of_window}
-use Rattle.mot_ending.specs.Opening.{IsOpenable, first_place}
+use Rattle.mot_update.specs.Opening.{IsOpenable, first_place}
 use Rattle.mot_repository.proofs.Laws.{rules_kept, standings-are_sound}
 use Rattle.mot_repository.specs.Opening.{IsOpened}
 use Rattle.mot_repository.specs.Repository.{Agrees, Holds}

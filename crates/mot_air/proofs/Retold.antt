@@ -18,7 +18,7 @@ use Rattle.mot_feed_lines.specs.Answering.TellsBetween.{other_alone, then_lines}
 use Rattle.mot_feed_lines.specs.declared.lines.Lines.{Lines}
 use Rattle.mot_feed_lines.specs.declared.reported.Reported.{Reported}
 use Rattle.mot_folder.specs.Looked.{LooksSoFar, TellsLooks, TellsWatch, Watch}
-use Rattle.mot_ending.specs.declared.ended.Ended.{Ended}
+use Rattle.mot_update.specs.declared.ended.Ended.{Ended}
 use Rattle.mot_shelf.specs.Given.{Given}
 use Rattle.mot_playout.specs.Attempts.{fault_of}
 use Rattle.mot_feed.specs.Feeding.{AreTold, Event, Stage}

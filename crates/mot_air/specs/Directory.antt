@@ -2,7 +2,7 @@
 use Rattle.std.specs.Prelude.{◌≡◌, ℕ, ◌*◌, ◌-◌, ◌/◌, ◌^◌, ◌⊎◌, max, min, Option, Some, None, IsSomeAnd}
 use Rattle.disk_model.specs.Disk.{State}
 use Rattle.mot_turn_size.specs.Lengths.{frame_size}
-use Rattle.mot_ending.specs.Opening.{IsUnopened, OfStanding}
+use Rattle.mot_update.specs.Opening.{IsUnopened, OfStanding}
 use Rattle.mot_numbers.specs.declared.refusal.Refusal.{Refusal}
 
 -- how many packets of this length a frame of a sub-channel holds, and one at least

@@ -3,7 +3,7 @@ use Rattle.std.specs.Prelude.{◌≡◌, ℕ, ◌<◌, min, Bool, true, false, L
 use Rattle.std.specs.Prelude.{is_some}
 use Rattle.std.specs.Option.{option_map_or}
 use Rattle.disk_model.specs.Disk.{State}
-use Rattle.mot_ending.specs.Ending.{EndsBy, Leaves}
+use Rattle.mot_update.specs.Ending.{EndsBy, Leaves}
 use Rattle.mot_air.specs.declared.manner.Manner.{Manner}
 use Rattle.mot_feed.specs.Ends.{ServesAll}
 use Rattle.mot_feed.specs.Feeding.{AreOf, AreTold, EndsFeed, Event, Happen, Stage}
@@ -21,7 +21,7 @@ use Rattle.mot_packets.specs.Outlet.{Grows}
 use Rattle.mot_player.specs.Continuity.{IsContinuous}
 use Rattle.mot_player.specs.Place.{Place}
 use Rattle.mot_player.specs.Repeats.{ReadAsTurn, ReadsOnceAs}
-use Rattle.mot_ending.specs.Opening.{first_place}
+use Rattle.mot_update.specs.Opening.{first_place}
 use Rattle.mot_repository.specs.Repository.{IsOf}
 use Rattle.mot_playout.specs.Runs.{IsAfter, accepted_commands}
 use Rattle.mot_update.specs.Between.{Telling}

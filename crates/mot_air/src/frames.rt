@@ -2,7 +2,7 @@
 ghost use Rattle.std.specs.Prelude.{◌≡◌, ◌≤◌, IfErr, IfOk, MatchResult, None};
 ghost use Rattle.disk_model.specs.Disk.{OnlySyncs};
 ghost use Rattle.mot_air.specs.Directory.{IsFrame, frame_packets};
-ghost use Rattle.mot_ending.specs.Opening.{IsUnopened};
+ghost use Rattle.mot_update.specs.Opening.{IsUnopened};
 
 use disk_model::Disk;
 use mot_playout::{Refused, Server};

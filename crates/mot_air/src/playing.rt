@@ -13,7 +13,7 @@ ghost use Rattle.mot_folder.specs.Looked.{so_far, watch};
 ghost use Rattle.mot_lines.specs.Hand.{bytes_in_hand};
 ghost use Rattle.mot_numbers.specs.declared.geometry.Geometry.{Geometry};
 ghost use Rattle.mot_objects.specs.declared.command.Command.{Command};
-ghost use Rattle.mot_ending.specs.Opening.{IsUnopened};
+ghost use Rattle.mot_update.specs.Opening.{IsUnopened};
 ghost use Rattle.mot_line_folder.specs.Spool.{open_file, reads_of, spool_gave, spool_system};
 ghost use Rattle.mot_playout.specs.Attempts.{fault_of};
 ghost use Rattle.mot_status.specs.Teller.{TellerView, TellsEnd, starts, teller};

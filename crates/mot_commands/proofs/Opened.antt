@@ -8,8 +8,8 @@ use Rattle.mot_numbers.specs.Geometry.{packet_room}
 use Rattle.mot_player.specs.Place.{opened_place}
 use Rattle.mot_player.specs.Turn.{turn_of_carousel}
 use Rattle.mot_commands.specs.Serving.{OpensTo}
-use Rattle.mot_ending.specs.Opening.{OfClean}
-use Rattle.mot_ending.proofs.Laws.{AllAre, held, openable, opened_throughout}
+use Rattle.mot_update.specs.Opening.{OfClean}
+use Rattle.mot_update.proofs.Laws.{AllAre, held, openable, opened_throughout}
 use Rattle.mot_repository.specs.OnDisk.{OnDisk}
 use Rattle.mot_repository.specs.Repository.{Agrees, IsOf, Holds}
 use Rattle.mot_repository.specs.Opening.{IsOpened}

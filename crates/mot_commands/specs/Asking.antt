@@ -7,7 +7,7 @@ use Rattle.std.specs.Result.{result_unwrap_or}
 use Rattle.disk_model.specs.Disk.{State}
 use Rattle.disk_store.specs.declared.file.start.Start.{Ghosts}
 use Rattle.mot_commands.specs.Serving.{OpensTo}
-use Rattle.mot_ending.specs.Opening.{IsUnopened}
+use Rattle.mot_update.specs.Opening.{IsUnopened}
 use Rattle.mot_numbers.specs.declared.refusal.Refusal.{Refusal}
 use Rattle.mot_numbers.specs.declared.refusal.Refusal.TheVariants.{OutOfMemory, WriteFault}
 use Rattle.mot_outcome.specs.Outcome.{IsUntold}

@@ -3,7 +3,7 @@ use Rattle.std.specs.Prelude.{◌≡◌, ◌≢◌, ◌⊎◌, ◌↔◌, ℕ, B
 use Rattle.std.specs.Prelude.{Ok, Err, IsFalse, IsTrue, if◌then◌else◌, codes}
 use Rattle.std.specs.Io.KnownBytes.{Keeps}
 use Rattle.disk_model.specs.Disk.{State, IsStill, KeepsLength, OnlySyncs, Throughout}
-use Rattle.mot_ending.specs.Opening.{IsUnopened, OfClean}
+use Rattle.mot_update.specs.Opening.{IsUnopened, OfClean}
 use Rattle.mot_journal.specs.Image.{DiskRecords, Standing, records_of, stands_for}
 use Rattle.mot_journal.specs.Image.{IsClean, IsInLayoutTwo}
 use Rattle.mot_journal.specs.Making.{MakesDisk}

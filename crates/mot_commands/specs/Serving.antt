@@ -2,7 +2,7 @@
 use Rattle.std.specs.Prelude.{ℕ, ◌≡◌, ◌⊎◌, List, Option, None, Some, IsFalse}
 use Rattle.std.specs.Io.KnownBytes.{IsAtEnd, Keeps}
 use Rattle.disk_model.specs.Disk.{State}
-use Rattle.mot_ending.specs.Opening.{IsOpenable, IsUnopened, OfClean}
+use Rattle.mot_update.specs.Opening.{IsOpenable, IsUnopened, OfClean}
 use Rattle.mot_journal.specs.Image.{Standing}
 use Rattle.mot_lines.specs.Lines.{whole_lines, lines_of}
 use Rattle.mot_numbers.specs.declared.refusal.Refusal.{Refusal}

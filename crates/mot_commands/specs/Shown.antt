@@ -3,7 +3,7 @@ use Rattle.std.specs.Prelude.{◌≡◌, ◌⊎◌, ℕ, List, Option, None, Som
 use Rattle.disk_model.specs.Disk.{State, OnlySyncs}
 use Rattle.disk_model.specs.Failures.{Rises}
 use Rattle.mot_commands.specs.Report.{Reports}
-use Rattle.mot_ending.specs.Opening.{IsUnopened, OfStanding}
+use Rattle.mot_update.specs.Opening.{IsUnopened, OfStanding}
 use Rattle.mot_journal.specs.Image.{Standing, stands_for}
 use Rattle.mot_lines.specs.Listing.{listing_text}
 use Rattle.mot_numbers.specs.declared.refusal.Refusal.{Refusal}

@@ -12,7 +12,6 @@ ghost use Rattle.mot_endpoints.specs.Opened.{paths_of};
 use crate::finishing::finish;
 use disk_model::Disk;
 use disk_store::Start;
-use mot_ending::Ended;
 use mot_endpoints::Host;
 use mot_journal::Layout;
 use mot_numbers::Refusal;
@@ -20,6 +19,7 @@ use mot_objects::Carousel;
 use mot_outcome::{Finished, write_bytes, write_last};
 use mot_repository::Repository;
 use mot_session::write_listing;
+use mot_update::Ended;
 use std::alloc::Global;
 use std::io::Write;
 

@@ -5,9 +5,9 @@ ghost use Rattle.mot_outcome.specs.declared.used.Beside.{Beside};
 ghost use Rattle.mot_outcome.specs.declared.used.UsedDisk.TheVariants.{OfFile};
 
 use disk_store::{BegunFile, Start, WasThere};
-use mot_ending::Ended;
 use mot_endpoints::Host;
 use mot_outcome::{Beside, Finished, clear_after};
+use mot_update::Ended;
 
 /// A task ended on this disk, beside which nothing was done. What the opening has made beside its
 /// file is taken away if that is no disk, or not one for what was asked.

@@ -15,12 +15,12 @@ use disk_model::Disk;
 use disk_store::{Start, Unopened};
 use mot_destinations::Cause;
 use mot_devices::use_of;
-use mot_ending::Ended;
 use mot_endpoints::Host;
 use mot_files::System;
 use mot_journal::{Reason, format_from};
 use mot_numbers::{Geometry, Refusal, TransportId};
 use mot_outcome::{Beside, Finished, write_number};
+use mot_update::Ended;
 use std::alloc::Global;
 use std::io::Write;
 

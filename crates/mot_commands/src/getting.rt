@@ -16,12 +16,12 @@ ghost use Rattle.mot_repository.specs.Repository.{HasStanding, object_body};
 use crate::finishing::finish;
 use disk_model::Disk;
 use disk_store::Start;
-use mot_ending::Ended;
 use mot_endpoints::Host;
 use mot_numbers::Refusal;
 use mot_objects::Name;
 use mot_outcome::{Finished, write_last};
 use mot_repository::Repository;
+use mot_update::Ended;
 use std::alloc::Global;
 use std::io::Write;
 

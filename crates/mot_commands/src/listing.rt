@@ -11,13 +11,13 @@ ghost use Rattle.mot_endpoints.specs.Opened.{paths_of};
 use crate::finishing::finish;
 use disk_model::Disk;
 use disk_store::Start;
-use mot_ending::Ended;
 use mot_endpoints::Host;
 use mot_numbers::Refusal;
 use mot_objects::Carousel;
 use mot_outcome::{Finished, write_last};
 use mot_repository::Repository;
 use mot_session::write_listing;
+use mot_update::Ended;
 use std::alloc::Global;
 use std::io::Write;
 

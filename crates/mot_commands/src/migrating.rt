@@ -11,10 +11,10 @@ ghost use Rattle.mot_endpoints.specs.Opened.{paths_of};
 use crate::finishing::finish;
 use disk_model::Disk;
 use disk_store::Start;
-use mot_ending::Ended;
 use mot_endpoints::Host;
 use mot_outcome::{Finished, write_last};
 use mot_repository::Repository;
+use mot_update::Ended;
 use std::alloc::Global;
 use std::io::Write;
 

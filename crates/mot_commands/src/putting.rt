@@ -19,7 +19,6 @@ use crate::file_line::{Unput, line_of_file, refusal_of};
 use crate::finishing::finish;
 use disk_model::Disk;
 use disk_store::{OpenFault, Start};
-use mot_ending::Ended;
 use mot_endpoints::{Host, file_types};
 use mot_files::{Fault, System, Unread};
 use mot_lines::refusal_text;
@@ -27,6 +26,7 @@ use mot_numbers::Refusal;
 use mot_outcome::{Finished, write_last};
 use mot_playout::Server;
 use mot_suffixes::FileTypes;
+use mot_update::Ended;
 use std::alloc::Global;
 use std::io::Write;
 

@@ -13,13 +13,13 @@ ghost use Rattle.mot_endpoints.specs.Opened.{paths_of};
 use crate::finishing::finish;
 use disk_model::Disk;
 use disk_store::{RamDisk, Start};
-use mot_ending::Ended;
 use mot_endpoints::Host;
 use mot_journal::format;
 use mot_numbers::{Geometry, Refusal};
 use mot_outcome::{Finished, UsedDisk};
 use mot_playout::Server;
 use mot_session::{MAX_READS, serve};
+use mot_update::Ended;
 use std::alloc::Global;
 use std::io::{Read, Write};
 

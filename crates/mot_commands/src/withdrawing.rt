@@ -15,11 +15,11 @@ use crate::answering::answer;
 use crate::finishing::finish;
 use disk_model::Disk;
 use disk_store::Start;
-use mot_ending::Ended;
 use mot_endpoints::Host;
 use mot_numbers::Refusal;
 use mot_outcome::Finished;
 use mot_playout::Server;
+use mot_update::Ended;
 use std::alloc::{AllocError, Global};
 use std::io::Write;
 

@@ -23,7 +23,7 @@ use Rattle.mot_copy_command.specs.Inner.{CopiesView, OfView}
 use Rattle.mot_copying.specs.Copied.{IsNotCopied}
 use Rattle.mot_devices.specs.Looking.{OnlyLooks}
 use Rattle.mot_devices.specs.Uses.{IsFree}
-use Rattle.mot_ending.specs.Opening.{OfStanding}
+use Rattle.mot_update.specs.Opening.{OfStanding}
 use Rattle.mot_files.specs.Call.{Call}
 use Rattle.mot_journal.specs.Image.{Standing}
 use Rattle.mot_numbers.specs.Geometry.{IsValid, length_of}

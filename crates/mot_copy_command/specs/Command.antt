@@ -13,7 +13,7 @@ use Rattle.mot_cli.specs.declared.options.Options.{Options}
 use Rattle.mot_copy_command.specs.Copying.{Copies}
 use Rattle.mot_devices.specs.Looking.{OnlyLooks}
 use Rattle.mot_devices.specs.Uses.{IsFree}
-use Rattle.mot_ending.specs.Opening.{IsUnopened, OfStanding}
+use Rattle.mot_update.specs.Opening.{IsUnopened, OfStanding}
 use Rattle.mot_endpoints.specs.Opened.{in_vain}
 use Rattle.mot_files.specs.Call.{Call}
 use Rattle.mot_numbers.specs.Geometry.{IsValid, length_of}

@@ -23,13 +23,13 @@ use mot_cli::CopyTask;
 use mot_copying::{NotCopied, copy};
 use mot_destinations::{Cause, NewDiskFault};
 use mot_devices::use_of;
-use mot_ending::Ended;
 use mot_endpoints::Host;
 use mot_files::System;
 use mot_journal::Reason;
 use mot_numbers::{Geometry, Refusal, TransportId};
 use mot_outcome::{Finished, UsedDisk, clear_unfit, write_number};
 use mot_repository::Repository;
+use mot_update::Ended;
 use std::alloc::Global;
 use std::io::Write;
 

@@ -12,8 +12,8 @@ use Rattle.mot_objects.specs.Carousel.{Carousel}
 use Rattle.mot_objects.specs.Rebuilding.{rebuilding}
 use Rattle.mot_export.specs.Exporting.{Exports, PrintsLines, RebuildsByLines}
 use Rattle.mot_export.specs.Inner.Printing.{IsPrintingFault}
-use Rattle.mot_ending.specs.Opening.{OfStanding}
-use Rattle.mot_ending.proofs.Laws.{openable, read_so}
+use Rattle.mot_update.specs.Opening.{OfStanding}
+use Rattle.mot_update.proofs.Laws.{openable, read_so}
 use Rattle.mot_repository.proofs.Laws.{rules_kept, standings-are_sound}
 use Rattle.mot_repository.specs.OnDisk.{OnDisk}
 use Rattle.mot_repository.specs.Opening.{IsOpened}

@@ -27,8 +27,8 @@ use Rattle.mot_export.specs.Inspecting.{bytes_of_all, bytes_of_bodies, inspectio
 use Rattle.mot_export.specs.Inspecting.{sizes_text, turn_lengths_text, turn_text, use_text}
 use Rattle.mot_export.specs.Inspecting.{waits_text}
 use Rattle.mot_export.specs.Inner.Inspected.{HasInspected, IsCountingFault, IsInspectingFault}
-use Rattle.mot_ending.specs.Opening.{OfStanding, first_place}
-use Rattle.mot_ending.proofs.Laws.{openable, read_so}
+use Rattle.mot_update.specs.Opening.{OfStanding, first_place}
+use Rattle.mot_update.proofs.Laws.{openable, read_so}
 use Rattle.mot_repository.specs.Opening.{IsOpened}
 use Rattle.mot_repository.specs.Repository.{Agrees, HasStanding, RepositoryView}
 use Rattle.mot_playout.specs.Playing.{HasPlayedTurn}

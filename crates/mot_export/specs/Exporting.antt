@@ -8,7 +8,7 @@ use Rattle.mot_numbers.specs.declared.refusal.Refusal.{Refusal}
 use Rattle.mot_numbers.specs.declared.refusal.Refusal.TheVariants.{DeviceFault, WriteFault}
 use Rattle.mot_objects.specs.Carousel.{Carousel}
 use Rattle.mot_objects.specs.declared.command.Command.{Command}
-use Rattle.mot_ending.specs.Opening.{IsOpenable, IsUnopened, OfStanding}
+use Rattle.mot_update.specs.Opening.{IsOpenable, IsUnopened, OfStanding}
 use Rattle.mot_session.specs.Served.{WritesFront}
 use Rattle.mot_update.specs.Export.{IsEmpty, Rebuilds}
 

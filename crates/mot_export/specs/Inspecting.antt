@@ -23,7 +23,7 @@ use Rattle.mot_player.specs.Turn.{Turn, turn_of_carousel}
 use Rattle.mot_turn_size.specs.Lengths.{frame_size, lengths_of_turn}
 use Rattle.mot_export.specs.Filling.{frames_of, tenths_of}
 use Rattle.mot_export.specs.declared.filling.Frames.{Frames}
-use Rattle.mot_ending.specs.Opening.{IsOpenable, IsUnopened, OfStanding, first_place}
+use Rattle.mot_update.specs.Opening.{IsOpenable, IsUnopened, OfStanding, first_place}
 use Rattle.mot_carousel.specs.Gap.{IsLongestGap}
 use Rattle.mot_playout.specs.Playing.{HasPlayedTurn, IsGoing}
 use Rattle.mot_session.specs.Served.{WritesFront}

@@ -14,11 +14,11 @@ ghost use Rattle.mot_playout.specs.Attempts.{fault_of};
 ghost use Rattle.mot_session.specs.Output.{Writes};
 
 use disk_model::Disk;
-use mot_ending::Ended;
 use mot_lines::{period_text, put_text};
 use mot_numbers::Refusal;
 use mot_repository::Repository;
 use mot_session::write_whole;
+use mot_update::Ended;
 use std::alloc::Global;
 use std::io::Write;
 

@@ -28,7 +28,6 @@ ghost use Rattle.mot_session.specs.Served.{WritesFront};
 
 use crate::lengths::write_lengths;
 use disk_model::Disk;
-use mot_ending::Ended;
 use mot_journal::Layout;
 use mot_numbers::{Geometry, Refusal};
 use mot_objects::Object;
@@ -37,6 +36,7 @@ use mot_player::Played;
 use mot_playout::Server;
 use mot_session::write_whole;
 use mot_turn_size::GROUP_FRAME;
+use mot_update::Ended;
 use std::alloc::Global;
 use std::io::Write;
 

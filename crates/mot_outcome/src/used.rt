@@ -9,11 +9,11 @@ use disk_store::{
     Beginning, BegunFile, FileDiskFrom, OpenFault, RamDisk, SecondDisk, Start, Unopened,
 };
 use mot_destinations::{Cause, NewDiskFault, Taken};
-use mot_ending::Ended;
 use mot_journal::Reason;
 use mot_line_folder::LineNotes;
 use mot_numbers::Refusal;
 use mot_shelf::{LookNotes, Seen};
+use mot_update::Ended;
 
 /// The disk that a task worked on. The value of `S` is used up if a file is opened or made, so that
 /// whoever still has it has opened none.

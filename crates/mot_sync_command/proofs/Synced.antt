@@ -11,7 +11,7 @@ use Rattle.disk_model.specs.Disk.{State, IsHonestDisk, KeepsLength, OnlySyncs}
 use Rattle.mot_sync_command.specs.Inner.Looked.{LooksAndTells}
 use Rattle.mot_sync_command.specs.Inner.Looked as looks
 use Rattle.mot_sync_command.specs.Syncing.{HasSynced, IsEqual, Syncs, SyncsAndTells}
-use Rattle.mot_ending.proofs.Laws.{ends_off, opened_leaves}
+use Rattle.mot_update.proofs.Laws.{ends_off, opened_leaves}
 use Rattle.mot_feed.specs.Feeding.{IsFeedFault}
 use Rattle.mot_log.specs.Text.{met_line}
 use Rattle.mot_events.specs.declared.event.LookEvent.{LookEvent}
@@ -30,8 +30,8 @@ use Rattle.mot_numbers.specs.declared.refusal.Refusal.{Refusal}
 use Rattle.mot_numbers.specs.Geometry.{is_valid}
 use Rattle.mot_objects.specs.Carousel.{IsSound, carousel_after}
 use Rattle.mot_objects.specs.declared.command.Command.{Command}
-use Rattle.mot_ending.proofs.Laws.{AllAre, all_hold, openable}
-use Rattle.mot_ending.specs.Opening.{IsOpenable}
+use Rattle.mot_update.proofs.Laws.{AllAre, all_hold, openable}
+use Rattle.mot_update.specs.Opening.{IsOpenable}
 use Rattle.mot_repository.proofs.Laws.{standings-are_sound, stands_where}
 use Rattle.mot_repository.specs.Opening.{IsOpened}
 use Rattle.mot_repository.specs.Repository.{Agrees, Holds}

@@ -3,7 +3,7 @@ use Rattle.std.specs.Prelude.{◌≡◌, ◌⊎◌, ℕ, Bool, true, List, [], O
 use Rattle.std.specs.Io.KnownBytes.{Appends, Keeps}
 use Rattle.std.specs.List.{flat_map}
 use Rattle.disk_model.specs.Disk.{State}
-use Rattle.mot_ending.specs.Ending.{EndsBy, Leaves}
+use Rattle.mot_update.specs.Ending.{EndsBy, Leaves}
 use Rattle.mot_log.specs.Text.{met_line}
 use Rattle.mot_events.specs.declared.event.LookEvent.{LookEvent}
 use Rattle.mot_folder.specs.Looked.{IsLook, TellsRightly}

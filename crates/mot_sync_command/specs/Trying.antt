@@ -12,7 +12,7 @@ use Rattle.disk_store.specs.declared.memory.ram.RamDisk.{RamDisk}
 use Rattle.mot_sync_command.specs.Syncing.{Syncs}
 use Rattle.mot_cli.specs.declared.playing.LookRules.{LookRules}
 use Rattle.mot_endpoints.specs.Types.{IsTyped}
-use Rattle.mot_ending.specs.Opening.{IsUnopened, OfStanding}
+use Rattle.mot_update.specs.Opening.{IsUnopened, OfStanding}
 use Rattle.mot_numbers.specs.Geometry.{length_of}
 use Rattle.mot_numbers.specs.declared.refusal.Refusal.{Refusal}
 use Rattle.mot_numbers.specs.declared.refusal.Refusal.TheVariants.{DeviceFault, OutOfMemory}

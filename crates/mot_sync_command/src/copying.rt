@@ -9,9 +9,9 @@ ghost use Rattle.mot_numbers.specs.declared.refusal.Refusal.TheVariants.{DeviceF
 
 use disk_model::Disk;
 use disk_store::RamDisk;
-use mot_ending::Ended;
 use mot_numbers::Refusal;
 use mot_repository::Repository;
+use mot_update::Ended;
 use std::alloc::Global;
 
 /// Opens a disk, and copies the bytes that its geometry asks for into a disk in memory: the disk,

@@ -22,7 +22,6 @@ use disk_model::Disk;
 use disk_store::Start;
 use mot_cli::LookRules;
 use mot_destinations::Cause;
-use mot_ending::Ended;
 use mot_endpoints::{Host, file_types};
 use mot_events::LookEvent;
 use mot_files::System;
@@ -32,6 +31,7 @@ use mot_numbers::Refusal;
 use mot_outcome::{Beside, Finished, clear_after};
 use mot_playout::Server;
 use mot_shelf::{Seen, Shelf, SystemShelf};
+use mot_update::Ended;
 use std::alloc::Global;
 use std::io::Write;
 

@@ -16,12 +16,12 @@ use disk_model::Disk;
 use disk_store::Start;
 use mot_cli::LookRules;
 use mot_destinations::Cause;
-use mot_ending::Ended;
 use mot_endpoints::{Host, file_types};
 use mot_files::System;
 use mot_folder::FileTypes;
 use mot_outcome::{Beside, Finished, clear_after};
 use mot_shelf::{Seen, SystemShelf};
+use mot_update::Ended;
 use std::alloc::Global;
 use std::io::Write;
 

@@ -14,3 +14,8 @@ pub use Rattle.mot_update.proofs.Answers.{tells_on}
 pub use Rattle.mot_update.proofs.Made.{made}
 -- a new carousel takes what another one was
 pub use Rattle.mot_update.proofs.Exported.{exports_are_taken}
+-- what a disk that was just opened stands for, and one that an opening refused
+pub use Rattle.mot_update.proofs.Opened.{AllAre, all_hold, held, openable}
+pub use Rattle.mot_update.proofs.Opened.{opened_throughout, read_so, unopened_is}
+-- what commands leave behind an opening, and how they ended
+pub use Rattle.mot_update.proofs.Endings.{ends_off, opened_leaves}

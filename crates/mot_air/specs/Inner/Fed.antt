@@ -1,6 +1,6 @@
 -- What became of a disk that was to be played.
 use Rattle.std.specs.Prelude.{◌≡◌, Err, Ok, Option, Result, Some}
-use Rattle.mot_ending.specs.declared.ended.Ended.{Ended}
+use Rattle.mot_update.specs.declared.ended.Ended.{Ended}
 use Rattle.mot_numbers.specs.declared.refusal.Refusal.{Refusal}
 use Rattle.mot_playout.specs.Attempts.{fault_of}
 use Rattle.mot_playout.specs.Server.{ServerView}

@@ -1,5 +1,5 @@
 use Rattle.mot_air.proofs.frames.frame_on.Goals as goal
-use Rattle.mot_ending.proofs.Laws.{unopened_is}
+use Rattle.mot_update.proofs.Laws.{unopened_is}
 
 pub returns-in-Err-clause-refused : goal.returns-in-Err-clause-refused
 returns-in-Err-clause-refused g c =

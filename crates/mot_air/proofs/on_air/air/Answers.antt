@@ -8,7 +8,7 @@ use Rattle.mot_air.specs.Directory.{IsFrame}
 use Rattle.mot_air.specs.Playing.{Plays, Tale}
 use Rattle.mot_air.specs.declared.manner.Manner.{Manner}
 use Rattle.mot_air.specs.Telling.{EndsAs, Same, tale_told, watch_in, watched}
-use Rattle.mot_ending.specs.Opening.{IsUnopened}
+use Rattle.mot_update.specs.Opening.{IsUnopened}
 use Rattle.mot_feed.proofs.Laws.{grows_nil}
 use Rattle.mot_feed.specs.Feeding.Stage.{Ready}
 use Rattle.mot_line_folder.specs.declared.folder.LineFolder.{LineFolder}

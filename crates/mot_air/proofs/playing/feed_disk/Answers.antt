@@ -9,7 +9,7 @@ use Rattle.mot_feed.proofs.Laws.{grows_nil}
 use Rattle.mot_feed.specs.Feeding.{Feeds}
 use Rattle.mot_feed.specs.Feeding.AreTold.{no_call}
 use Rattle.mot_feed.specs.Often.{IsOften, look_in, server_for}
-use Rattle.mot_ending.proofs.Laws.{unopened_is}
+use Rattle.mot_update.proofs.Laws.{unopened_is}
 use Rattle.mot_playout.specs.Attempts.{fault_of}
 
 pub returns-in-Err-clause-ended : goal.returns-in-Err-clause-ended

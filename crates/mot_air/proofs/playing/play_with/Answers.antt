@@ -3,7 +3,7 @@ use Rattle.std.specs.Prelude.{IsSomeAnd}
 use Rattle.mot_air.specs.Lives.{AirsOn}
 use Rattle.mot_air.specs.Playing.{Plays, tale_of}
 use Rattle.mot_air.proofs.playing.play_with.Goals as goal
-use Rattle.mot_ending.specs.Opening.{IsUnopened}
+use Rattle.mot_update.specs.Opening.{IsUnopened}
 use Rattle.mot_playout.specs.Attempts.{fault_of}
 
 pub returns-in-Ok-clause-ended : goal.returns-in-Ok-clause-ended

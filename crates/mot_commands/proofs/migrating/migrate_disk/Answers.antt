@@ -15,7 +15,7 @@ use Rattle.mot_commands.specs.Report.{IsMigrated, Migrates, migrated_line}
 use Rattle.mot_outcome.specs.Outcome.{Prints}
 use Rattle.mot_playout.proofs.Laws.{rises_on, still_unchanged}
 use Rattle.mot_commands.proofs.Opened.{migrates_held, migrates_under}
-use Rattle.mot_ending.proofs.Laws.{opened_throughout}
+use Rattle.mot_update.proofs.Laws.{opened_throughout}
 use Rattle.mot_commands.proofs.migrating.migrate_disk.Given as given
 use Rattle.mot_commands.proofs.migrating.migrate_disk.Goals as goal
 

@@ -1,7 +1,7 @@
 use Rattle.std.proofs.Common.{inl, subst, sym}
 use Rattle.std.proofs.KnownBytes.{Keeps-refl}
 use Rattle.mot_export.specs.Exporting.{Exports}
-use Rattle.mot_ending.proofs.Laws.{unopened_is}
+use Rattle.mot_update.proofs.Laws.{unopened_is}
 use Rattle.mot_export.proofs.Exported.{exports, rebuilds_standing}
 use Rattle.mot_export.proofs.exporting.export_disk.Goals as goal
 use Rattle.mot_playout.specs.Attempts.{fault_of}

@@ -1,7 +1,7 @@
 use Rattle.std.proofs.Common.{inl, subst, sym}
 use Rattle.std.proofs.KnownBytes.{Keeps-refl}
 use Rattle.mot_export.specs.Inspecting.{Inspects}
-use Rattle.mot_ending.proofs.Laws.{unopened_is}
+use Rattle.mot_update.proofs.Laws.{unopened_is}
 use Rattle.mot_export.proofs.Inspected.{inspects, printed}
 use Rattle.mot_export.proofs.Played.{turns-have-their-lengths, turns-have-their-packets}
 use Rattle.mot_export.proofs.inspecting.inspect_disk.Goals as goal

@@ -6,7 +6,7 @@ use Rattle.mot_sync_command.specs.Syncing.{Syncs}
 use Rattle.mot_folder.specs.declared.known.Known.{Known}
 use Rattle.mot_sync_command.proofs.Synced.{syncs}
 use Rattle.mot_sync_command.proofs.syncing.sync_disk.Goals as goal
-use Rattle.mot_ending.proofs.Laws.{unopened_is}
+use Rattle.mot_update.proofs.Laws.{unopened_is}
 use Rattle.mot_playout.specs.Attempts.{fault_of}
 
 pub returns-in-Err : goal.returns-in-Err

@@ -2,7 +2,7 @@
 use Rattle.std.specs.Prelude.{◌≡◌, ◌⊎◌, ℕ, List, [], ◌++◌, Bool, Option, Some, None, IsSomeAnd}
 use Rattle.disk_model.specs.Disk.{KeepsLength, State, Throughout}
 use Rattle.disk_model.specs.Failures.{Rises}
-use Rattle.mot_ending.specs.Opening.{IsOpenable, IsUnopened, OfClean}
+use Rattle.mot_update.specs.Opening.{IsOpenable, IsUnopened, OfClean}
 use Rattle.mot_journal.specs.Image.{Standing}
 use Rattle.mot_numbers.specs.declared.refusal.Refusal.{Refusal}
 use Rattle.mot_numbers.specs.declared.refusal.Refusal.TheVariants.{DeviceFault, OutOfMemory}

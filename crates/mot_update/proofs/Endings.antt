@@ -5,13 +5,13 @@ use Rattle.std.specs.Prelude.{IsFalse, MatchResult}
 use Rattle.disk_model.specs.Disk.{IsHonestDisk, IsStill, State}
 use Rattle.disk_model.specs.Failures.{Rises}
 use Rattle.disk_model.proofs.Laws.{joins}
-use Rattle.mot_ending.specs.Ending.{IsEnd, Leaves}
-use Rattle.mot_ending.specs.Ending as ending
+use Rattle.mot_update.specs.Ending.{IsEnd, Leaves}
+use Rattle.mot_update.specs.Ending as ending
 use Rattle.mot_journal.specs.Image.{Standing}
 use Rattle.mot_numbers.specs.declared.refusal.Refusal.{Refusal}
 use Rattle.mot_numbers.specs.declared.refusal.Refusal.TheVariants.{WriteFault}
 use Rattle.mot_objects.specs.declared.command.Command.{Command}
-use Rattle.mot_ending.proofs.Opened.{AllAre, opened_throughout}
+use Rattle.mot_update.proofs.Opened.{AllAre, opened_throughout}
 use Rattle.mot_repository.specs.Repository.{RepositoryView}
 use Rattle.mot_playout.specs.RunEnds.{RunLeaves}
 use Rattle.mot_playout.specs.Runs.{StandsAfterSome, accepted_commands, commands_in_flight}

@@ -6,7 +6,7 @@ use Rattle.disk_model.proofs.Laws.{begins, stays}
 use Rattle.mot_journal.specs.Image.{Standing, stands_for}
 use Rattle.mot_numbers.specs.Refusal.{IsCalm}
 use Rattle.mot_numbers.specs.declared.refusal.Refusal.{Refusal}
-use Rattle.mot_ending.specs.Opening.{IsOpenable, IsUnopened}
+use Rattle.mot_update.specs.Opening.{IsOpenable, IsUnopened}
 use Rattle.mot_repository.specs.Opening.{IsOpened, IsOpeningRefusal}
 use Rattle.mot_repository.specs.Repository.{RepositoryView, HasStanding, IsOf, Holds}
 use Rattle.mot_playout.proofs.Laws.{opened_holds, opened_standing}
