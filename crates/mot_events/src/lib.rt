@@ -6,11 +6,15 @@
 #![tactic(auto)]
 
 mod event;
+mod inlet;
+mod line_count;
 mod listed;
 mod tells;
 mod words;
 
 pub use event::{Asked, Deed, Event, LookEvent, Met, Reply, Skip, Why};
+pub use inlet::Inlet;
+pub use line_count::LineCount;
 pub use listed::is_listed;
 pub use tells::Tells;
 pub use words::Words;

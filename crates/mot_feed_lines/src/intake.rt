@@ -1,5 +1,5 @@
 //! What has come of lines.
-use mot_inlet::LineCount;
+use mot_events::LineCount;
 use mot_lines::Hand;
 
 /// What has come of lines: the front of the next one, and of which file they are.

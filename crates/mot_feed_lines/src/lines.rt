@@ -16,7 +16,7 @@ use crate::answering::answer_there;
 use crate::intake::Intake;
 use crate::reported::Reported;
 use disk_model::Disk;
-use mot_inlet::{Inlet, LineCount};
+use mot_events::{Inlet, LineCount};
 use mot_lines::Hand;
 use mot_numbers::Refusal;
 use mot_playout::Server;

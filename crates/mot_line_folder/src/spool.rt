@@ -14,9 +14,8 @@ ghost use Rattle.mot_files.specs.declared.system.Fault.{Fault};
 use crate::finder::Finder;
 use crate::line_file::LineFile;
 use crate::line_notes::LineNotes;
-use mot_events::Tells;
+use mot_events::{Inlet, LineCount, Tells};
 use mot_files::{Fault, System};
-use mot_inlet::{Inlet, LineCount};
 use std::alloc::Global;
 use std::io;
 

@@ -2,8 +2,8 @@
 ghost use Rattle.std.specs.Prelude.{◌≡◌, ◌≤◌, ℕ, List, [], ◌∷◌, ◌++◌, length, take};
 ghost use Rattle.mot_events.specs.Told.{AreOfFiles, Entry, HearsAll};
 
+use crate::Tells;
 use crate::line_count::LineCount;
-use mot_events::Tells;
 
 /// What gives bytes of lines and waits for none. What each read gave is noted for clauses.
 pub trait Inlet {
