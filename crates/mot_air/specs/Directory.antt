@@ -1,7 +1,7 @@
 -- How often the directory is sent, and when a look may come.
 use Rattle.std.specs.Prelude.{◌≡◌, ℕ, ◌*◌, ◌-◌, ◌/◌, ◌^◌, ◌⊎◌, max, min, Option, Some, None, IsSomeAnd}
 use Rattle.disk_model.specs.Disk.{State}
-use Rattle.mot_turn_size.specs.Lengths.{frame_size}
+use Rattle.mot_listening.specs.Lengths.{frame_size}
 use Rattle.mot_update.specs.Opening.{IsUnopened, OfStanding}
 use Rattle.mot_numbers.specs.declared.refusal.Refusal.{Refusal}
 

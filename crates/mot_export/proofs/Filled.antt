@@ -8,9 +8,9 @@ use Rattle.mot_export.specs.Inner.Lengths.{entities_line}
 use Rattle.mot_objects.specs.Stands.{AreBodiesOf, carousel_of}
 use Rattle.mot_objects.specs.declared.carousel.Carousel.{Carousel}
 use Rattle.mot_player.specs.Turn.{turn_of_carousel}
-use Rattle.mot_turn_size.proofs.Laws.{carousel-lengths, sizes}
-use Rattle.mot_turn_size.specs.Entities.{turn_lengths}
-use Rattle.mot_turn_size.specs.Lengths.{lengths_of_turn}
+use Rattle.mot_listening.proofs.Laws.{carousel-lengths, sizes}
+use Rattle.mot_listening.specs.Entities.{turn_lengths}
+use Rattle.mot_listening.specs.Lengths.{lengths_of_turn}
 
 -- a text of four lists, with the same lists
 same : (text : List ℕ → List ℕ → List ℕ → List ℕ → List ℕ) (p q r s p' q' r' s' : List ℕ) → p ≡ p'

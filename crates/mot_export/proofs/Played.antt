@@ -20,12 +20,12 @@ use Rattle.mot_player.specs.Place.{Place, Request, Sent, Step, UnderWay, first_s
 use Rattle.mot_player.specs.Place.{next_sent, packet_sent, request, sent_by, to_send, with_begun}
 use Rattle.mot_player.specs.Sending.{packets_sent}
 use Rattle.mot_player.specs.Turn.{segments_of_turn}
-use Rattle.mot_turn_size.proofs.Laws.{count-segments}
-use Rattle.mot_turn_size.specs.Lengths.{lengths_of_segments}
+use Rattle.mot_listening.proofs.Laws.{count-segments}
+use Rattle.mot_listening.specs.Lengths.{lengths_of_segments}
 use Rattle.mot_export.specs.Filling.{TurnsHaveTheirLengths}
 use Rattle.mot_export.specs.Inspecting.{TurnsHaveTheirPackets}
-use Rattle.mot_turn_size.specs.Entities.{group_lengths, packet_length, packet_lengths}
-use Rattle.mot_turn_size.proofs.Laws.{group-lengths}
+use Rattle.mot_listening.specs.Entities.{group_lengths, packet_length, packet_lengths}
+use Rattle.mot_listening.proofs.Laws.{group-lengths}
 
 -- ---- a group's packets, one after the other
 

@@ -1,7 +1,7 @@
 -- Frames filled, as they were measured behind a multiplexer.
 use Rattle.std.proofs.Common.{◌≡◌, true, false, [], ◌∷◌, replicate, refl}
 use Rattle.mot_player.specs.Turn.{Turn}
-use Rattle.mot_turn_size.specs.Lengths.{frame_size, lengths_of_turn}
+use Rattle.mot_listening.specs.Lengths.{frame_size, lengths_of_turn}
 use Rattle.mot_export.specs.Filling.{frames_of}
 use Rattle.mot_export.specs.Filling.{tenths_of}
 use Rattle.mot_export.specs.Inspecting.{filled_above, filled_below}

@@ -6,7 +6,7 @@ use Rattle.mot_player.specs.Laws.{IsAtTurnsBeginning}
 use Rattle.mot_player.specs.Place.{Place}
 use Rattle.mot_export.specs.declared.filling.Frames.{Frames}
 use Rattle.mot_playout.specs.Playing.{HasPlayedTurn}
-use Rattle.mot_turn_size.specs.Lengths.{lengths_of_turn}
+use Rattle.mot_listening.specs.Lengths.{lengths_of_turn}
 
 -- no frame was begun
 abbrev pub no_frames : Frames

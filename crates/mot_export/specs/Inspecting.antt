@@ -20,7 +20,7 @@ use Rattle.mot_listening.specs.Waits.{longest_group, round_for, soon_for, turn_p
 use Rattle.mot_player.specs.Laws.{IsAtTurnsBeginning}
 use Rattle.mot_player.specs.Place.{Place, directory_packets}
 use Rattle.mot_player.specs.Turn.{Turn, turn_of_carousel}
-use Rattle.mot_turn_size.specs.Lengths.{frame_size, lengths_of_turn}
+use Rattle.mot_listening.specs.Lengths.{frame_size, lengths_of_turn}
 use Rattle.mot_export.specs.Filling.{frames_of, tenths_of}
 use Rattle.mot_export.specs.declared.filling.Frames.{Frames}
 use Rattle.mot_update.specs.Opening.{IsOpenable, IsUnopened, OfStanding, first_place}

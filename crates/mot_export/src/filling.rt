@@ -5,14 +5,14 @@ ghost use Rattle.mot_numbers.specs.PacketLength.{room_of};
 ghost use Rattle.mot_objects.specs.declared.body.TheConstants.{MAX_BODY};
 ghost use Rattle.mot_objects.specs.declared.object.Object.{Object};
 ghost use Rattle.mot_export.specs.Filling.{frames_of, no_frames, with_packet};
-ghost use Rattle.mot_turn_size.specs.Entities.{entity_lengths, group_lengths, packet_length};
-ghost use Rattle.mot_turn_size.specs.Entities.{turn_lengths};
+ghost use Rattle.mot_listening.specs.Entities.{entity_lengths, group_lengths, packet_length};
+ghost use Rattle.mot_listening.specs.Entities.{turn_lengths};
 
 use mot_groups::segment_count;
+use mot_listening::{GROUP_FRAME, packet_for};
 use mot_numbers::{PacketLength, SegmentSize};
 use mot_objects::Object;
 use mot_packets::packet_count;
-use mot_turn_size::{GROUP_FRAME, packet_for};
 
 /// Frames that packets fill, each packet whole in one.
 #[derive(Clone, Copy)]

@@ -18,3 +18,10 @@ pub use Rattle.mot_listening.proofs.TuneIn.{hears-settled, hears-two_ends, hears
 -- a turn ends however many changes come, and up to its end each body that stays comes whole
 pub use Rattle.mot_listening.proofs.Ends.{turns_end_soon}
 pub use Rattle.mot_listening.proofs.Whole.{bodies_come_whole}
+-- the packets of a group and of segments, by their lengths
+pub use Rattle.mot_listening.proofs.Counted.{count-segments, group-lengths}
+-- those of a carousel's turn, by the length of its directory and those of its objects
+pub use Rattle.mot_listening.proofs.Counted.{carousel-lengths, sizes}
+-- what is counted of packets one after the other
+pub use Rattle.mot_listening.proofs.Counted.{entity-more, packet-more, packets-all, segment-more}
+pub use Rattle.mot_listening.proofs.Counted.{segments-all}

@@ -1,4 +1,5 @@
 pub mod Collected
+pub mod Counted
 pub mod Counts
 pub mod DirectoryNext
 pub mod Early
@@ -10,5 +11,6 @@ pub mod ListeningRows
 pub mod OfTurn
 pub mod Renews
 pub mod Rest
+mod Rows
 pub mod TuneIn
 pub mod Whole

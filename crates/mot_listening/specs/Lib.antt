@@ -1,3 +1,6 @@
 pub mod Ends
+pub mod Entities
+pub mod Lengths
 pub mod Listening
+pub mod TurnSize
 pub mod Waits

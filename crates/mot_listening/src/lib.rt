@@ -3,5 +3,9 @@
 #![tactic(auto)]
 
 mod law;
+mod lengths;
+mod turn;
 
 pub use law::listening_laws;
+pub use lengths::{GROUP_FRAME, packet_for};
+pub use turn::{TurnSize, turn_size};

@@ -5,7 +5,7 @@ use Rattle.mot_objects.specs.declared.object.Object.{Object}
 use Rattle.mot_carousel.specs.Gap.{IsLongestGap}
 use Rattle.mot_repository.specs.Repository.{RepositoryView}
 use Rattle.mot_status.specs.declared.figures.TheConstants.{VERSION}
-use Rattle.mot_turn_size.specs.declared.turn.TurnSize.{TurnSize}
+use Rattle.mot_listening.specs.declared.turn.TurnSize.{TurnSize}
 
 -- the bytes of the bodies of these objects together
 abbrev pub bytes_of : List Object → ℕ

@@ -1,6 +1,6 @@
 -- What is known of the turn of a carousel.
 use Rattle.std.specs.Prelude.{◌≡◌, ◌⊎◌, List, Option, Some, ℕ}
-use Rattle.mot_turn_size.specs.TurnSize.{size_of_turn}
+use Rattle.mot_listening.specs.TurnSize.{size_of_turn}
 use Rattle.mot_numbers.specs.Geometry.{packet_room}
 use Rattle.mot_objects.specs.Stands.{AreBodiesOf, carousel_of}
 use Rattle.mot_player.specs.Turn.{turn_of_carousel}

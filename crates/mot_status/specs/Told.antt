@@ -22,7 +22,7 @@ use Rattle.mot_status.specs.Clock.{seconds_or}
 use Rattle.mot_status.specs.Figures.{AreFigures}
 use Rattle.mot_status.specs.declared.figures.TheConstants.{VERSION}
 use Rattle.mot_status.specs.declared.turn.Measured.{Measured}
-use Rattle.mot_turn_size.specs.declared.turn.TurnSize.{TurnSize}
+use Rattle.mot_listening.specs.declared.turn.TurnSize.{TurnSize}
 use Rattle.mot_update.specs.Watching.{LooksKnown}
 use Rattle.mot_update.specs.declared.moment.Moment.{Moment}
 use Rattle.mot_update.specs.declared.moment.Moment.TheVariants.{BetweenTurns}

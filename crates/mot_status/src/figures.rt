@@ -3,10 +3,10 @@ ghost use Rattle.std.specs.Prelude.{◌≡◌, ◌^◌, ◌-◌, min, sum_by};
 ghost use Rattle.mot_status.specs.Figures.{AreFigures, bytes_of};
 
 use disk_model::Disk;
+use mot_listening::TurnSize;
 use mot_metrics::Figures;
 use mot_objects::Object;
 use mot_playout::Server;
-use mot_turn_size::TurnSize;
 
 /// The version of the program, which `motcar --version` prints, too.
 pub(crate) const VERSION: &str = "0.3.0";

@@ -3,8 +3,8 @@ ghost use Rattle.std.specs.Prelude.{◌≡◌, IfSome, None, Some};
 ghost use Rattle.mot_status.specs.Measured.{IsMeasured};
 
 use disk_model::Disk;
+use mot_listening::{TurnSize, turn_size};
 use mot_playout::Server;
-use mot_turn_size::{TurnSize, turn_size};
 use std::alloc::Global;
 
 /// What a turn takes, and the carousel of which that is known.

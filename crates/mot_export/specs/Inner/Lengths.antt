@@ -1,7 +1,7 @@
 -- How long a turn is, by the lengths of directory and bodies alone.
 use Rattle.std.specs.Prelude.{ℕ, List}
 use Rattle.mot_export.specs.Inspecting.{seconds_line}
-use Rattle.mot_turn_size.specs.Entities.{turn_lengths}
+use Rattle.mot_listening.specs.Entities.{turn_lengths}
 
 -- how long the turn of these entities is in a sub-channel of this rate
 abbrev pub entities_line : (rate size : ℕ) → List ℕ → List ℕ

@@ -2,8 +2,8 @@ use Rattle.std.proofs.Common.{◌≡◌, ◌∙◌, ◌+◌, ◌-◌, min, ap, a
 use Rattle.std.specs.List.{fold}
 use Rattle.mot_numbers.specs.PacketLength.{room_of}
 use Rattle.mot_export.specs.Filling.{with_packet}
-use Rattle.mot_turn_size.specs.Entities.{segment_lengths}
-use Rattle.mot_turn_size.proofs.Laws.{segment-more}
+use Rattle.mot_listening.specs.Entities.{segment_lengths}
+use Rattle.mot_listening.proofs.Laws.{segment-more}
 use Rattle.mot_export.proofs.filling.fill_entity.Goals as goal
 
 pub loop-preserved : goal.loop-preserved

@@ -2,8 +2,8 @@ use Rattle.std.proofs.Common.{◌∙◌, ◌+◌, ◌-◌, ap, arith}
 use Rattle.std.specs.List.{fold}
 use Rattle.mot_numbers.specs.PacketLength.{room_of}
 use Rattle.mot_export.specs.Filling.{with_packet}
-use Rattle.mot_turn_size.specs.Entities.{packet_lengths}
-use Rattle.mot_turn_size.proofs.Laws.{packet-more}
+use Rattle.mot_listening.specs.Entities.{packet_lengths}
+use Rattle.mot_listening.proofs.Laws.{packet-more}
 use Rattle.mot_export.proofs.filling.fill_group.Goals as goal
 
 pub loop-preserved : goal.loop-preserved

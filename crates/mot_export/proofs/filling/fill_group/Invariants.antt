@@ -2,7 +2,7 @@ use Rattle.std.proofs.Common.{◌≡◌, ◌+◌, ◌-◌, ◌≤◌}
 use Rattle.std.specs.List.{fold}
 use Rattle.mot_numbers.specs.PacketLength.{room_of}
 use Rattle.mot_export.specs.Filling.{with_packet}
-use Rattle.mot_turn_size.specs.Entities.{packet_lengths}
+use Rattle.mot_listening.specs.Entities.{packet_lengths}
 use Rattle.mot_export.proofs.filling.fill_group.Given as goal
 
 -- what is left to fill makes of these frames what all of it makes of the first

@@ -2,7 +2,7 @@ use Rattle.std.proofs.Common.{◌≡◌, ◌+◌, ◌*◌, ◌≤◌, ◌∷◌,
 use Rattle.mot_numbers.specs.PacketLength.{room_of}
 use Rattle.mot_objects.specs.declared.object.Object.{Object}
 use Rattle.mot_export.specs.Filling.{frames_of}
-use Rattle.mot_turn_size.specs.Entities.{turn_lengths}
+use Rattle.mot_listening.specs.Entities.{turn_lengths}
 use Rattle.mot_export.proofs.filling.turn_frames.Given as goal
 
 -- the frames of the directory and of the bodies so far

@@ -10,11 +10,11 @@ use Rattle.mot_objects.specs.Stands.{carousel_of}
 use Rattle.mot_objects.specs.declared.carousel.Carousel.{Carousel}
 use Rattle.mot_objects.specs.declared.object.Object.{Object}
 use Rattle.mot_player.specs.Turn.{turn_of_carousel}
-use Rattle.mot_turn_size.specs.Lengths.{lengths_of_turn}
+use Rattle.mot_listening.specs.Lengths.{lengths_of_turn}
 use Rattle.mot_export.specs.Inner.Lengths.{entities_line}
 use Rattle.mot_export.specs.Inspecting.{filled_above, filled_below, filled_line, rates_of}
 use Rattle.mot_export.specs.Inspecting.{seconds_line, usual_rates}
-use Rattle.mot_turn_size.proofs.Laws.{sizes}
+use Rattle.mot_listening.proofs.Laws.{sizes}
 use Rattle.mot_export.proofs.Filled.{carousel-lines}
 use Rattle.mot_export.proofs.lengths.write_lengths.Goals as goal
 

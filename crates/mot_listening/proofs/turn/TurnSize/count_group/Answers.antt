@@ -1,10 +1,10 @@
 use Rattle.std.proofs.Common.{◌∙◌, ◌+◌, ◌-◌, ap}
 use Rattle.std.specs.List.{fold}
 use Rattle.mot_numbers.specs.PacketLength.{room_of}
-use Rattle.mot_turn_size.specs.TurnSize.{with_counted}
-use Rattle.mot_turn_size.specs.Entities.{packet_lengths}
-use Rattle.mot_turn_size.proofs.Counted.{packet-more}
-use Rattle.mot_turn_size.proofs.turn.TurnSize.count_group.Goals as goal
+use Rattle.mot_listening.specs.TurnSize.{with_counted}
+use Rattle.mot_listening.specs.Entities.{packet_lengths}
+use Rattle.mot_listening.proofs.Counted.{packet-more}
+use Rattle.mot_listening.proofs.turn.TurnSize.count_group.Goals as goal
 
 pub loop-preserved : goal.loop-preserved
 loop-preserved c =

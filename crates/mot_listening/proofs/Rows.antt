@@ -1,6 +1,6 @@
 -- The lengths of packets, as they were measured behind a multiplexer.
 use Rattle.std.proofs.Common.{◌≡◌, [], ◌∷◌, refl}
-use Rattle.mot_turn_size.specs.Lengths.{lengths_of_group}
+use Rattle.mot_listening.specs.Lengths.{lengths_of_group}
 
 -- a group's last packet is the shortest that holds the rest
 cut-96 : lengths_of_group 91 101 ≡ 96 ∷ 24 ∷ []

@@ -1,7 +1,7 @@
 //! The lengths of the packets of a group.
 ghost use Rattle.std.specs.Prelude.{◌≡◌};
 ghost use Rattle.mot_numbers.specs.PacketLength.{room_of};
-ghost use Rattle.mot_turn_size.specs.Entities.{packet_length};
+ghost use Rattle.mot_listening.specs.Entities.{packet_length};
 
 use mot_numbers::PacketLength;
 

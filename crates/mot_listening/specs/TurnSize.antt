@@ -2,8 +2,8 @@
 use Rattle.std.specs.Prelude.{ℕ, ◌+◌, List, min}
 use Rattle.std.specs.List.{fold}
 use Rattle.mot_base.specs.Checksum.{crc_of}
-use Rattle.mot_turn_size.specs.Lengths.{lengths_of_turn}
-use Rattle.mot_turn_size.specs.declared.turn.TurnSize.{TurnSize}
+use Rattle.mot_listening.specs.Lengths.{lengths_of_turn}
+use Rattle.mot_listening.specs.declared.turn.TurnSize.{TurnSize}
 use Rattle.mot_player.specs.Turn.{Turn}
 
 -- no packet so far

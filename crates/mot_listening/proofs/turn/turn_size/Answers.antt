@@ -1,14 +1,14 @@
 use Rattle.std.proofs.Common.{◌≡◌, ◌≤◌, ◌∙◌, ◌∷◌, ℕ, zero, suc, List, [], ap, arith, length, refl, subst, take}
 use Rattle.mot_base.specs.Checksum.{crc_of}
-use Rattle.mot_turn_size.specs.Lengths.{lengths_of_turn}
+use Rattle.mot_listening.specs.Lengths.{lengths_of_turn}
 use Rattle.mot_numbers.specs.PacketLength.{room_of}
 use Rattle.mot_objects.specs.Stands.{carousel_of}
 use Rattle.mot_objects.specs.declared.object.Object.{Object}
-use Rattle.mot_turn_size.specs.TurnSize.{size_of}
+use Rattle.mot_listening.specs.TurnSize.{size_of}
 use Rattle.mot_player.specs.Turn.{turn_of_carousel}
-use Rattle.mot_turn_size.specs.Entities.{turn_lengths}
-use Rattle.mot_turn_size.proofs.Counted.{carousel-lengths, sizes}
-use Rattle.mot_turn_size.proofs.turn.turn_size.Goals as goal
+use Rattle.mot_listening.specs.Entities.{turn_lengths}
+use Rattle.mot_listening.proofs.Counted.{carousel-lengths, sizes}
+use Rattle.mot_listening.proofs.turn.turn_size.Goals as goal
 
 -- as many as there are, or more, are all of them
 all_taken : {X : Type 0} (n : ℕ) (xs : List X) → length xs ≤ n → take n xs ≡ xs

@@ -1,8 +1,8 @@
 //! How many packets a turn has, and how many bytes these; and the checksum of its directory.
 ghost use Rattle.std.specs.Prelude.{◌≡◌, ◌+◌, ◌≤◌, IfErr, IfOk, List, ℕ};
 ghost use Rattle.std.specs.List.{fold};
-ghost use Rattle.mot_turn_size.specs.Entities.{entity_lengths, group_lengths};
-ghost use Rattle.mot_turn_size.specs.TurnSize.{begun, size_of_turn, with_counted};
+ghost use Rattle.mot_listening.specs.Entities.{entity_lengths, group_lengths};
+ghost use Rattle.mot_listening.specs.TurnSize.{begun, size_of_turn, with_counted};
 ghost use Rattle.mot_numbers.specs.PacketLength.{room_of};
 ghost use Rattle.mot_numbers.specs.declared.refusal.Refusal.TheVariants.{OutOfMemory};
 ghost use Rattle.mot_objects.specs.Stands.{AreBodiesOf, carousel_of};

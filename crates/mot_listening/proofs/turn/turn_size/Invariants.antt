@@ -2,9 +2,9 @@ use Rattle.std.proofs.Common.{◌≡◌, ◌∷◌, length, map, take}
 use Rattle.mot_base.specs.Checksum.{crc_of}
 use Rattle.mot_numbers.specs.PacketLength.{room_of}
 use Rattle.mot_objects.specs.declared.object.Object.{Object}
-use Rattle.mot_turn_size.specs.TurnSize.{size_of}
-use Rattle.mot_turn_size.specs.Entities.{turn_lengths}
-use Rattle.mot_turn_size.proofs.turn.turn_size.Given as goal
+use Rattle.mot_listening.specs.TurnSize.{size_of}
+use Rattle.mot_listening.specs.Entities.{turn_lengths}
+use Rattle.mot_listening.proofs.turn.turn_size.Given as goal
 
 -- the size of the directory and of the bodies so far
 abbrev pub invariant-loop-object : goal.invariant-loop-object

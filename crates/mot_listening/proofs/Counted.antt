@@ -18,9 +18,9 @@ use Rattle.mot_packets.specs.Cut.{pieces_from}
 use Rattle.mot_packets.specs.Packet.{PacketFields}
 use Rattle.mot_player.specs.Place.{packets_of_segments}
 use Rattle.mot_player.specs.Turn.{Turn, bodies_with_ids, segments_of_bodies, turn_of_carousel}
-use Rattle.mot_turn_size.specs.Lengths.{lengths_of_group, lengths_of_segments, lengths_of_turn}
-use Rattle.mot_turn_size.specs.Entities.{entity_lengths, group_lengths, packet_length}
-use Rattle.mot_turn_size.specs.Entities.{packet_lengths, segment_lengths, turn_lengths}
+use Rattle.mot_listening.specs.Lengths.{lengths_of_group, lengths_of_segments, lengths_of_turn}
+use Rattle.mot_listening.specs.Entities.{entity_lengths, group_lengths, packet_length}
+use Rattle.mot_listening.specs.Entities.{packet_lengths, segment_lengths, turn_lengths}
 
 -- ---- a turn's packets are those of its entities' lengths
 

@@ -1,3 +1,0 @@
-pub mod Entities
-pub mod Lengths
-pub mod TurnSize
