@@ -1,6 +1,8 @@
 pub mod Counters
+pub mod Inner
 pub mod Log
 pub mod Look
 pub mod Shown
+pub mod Status
 pub mod Tally
 pub mod Text

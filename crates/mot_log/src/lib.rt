@@ -7,10 +7,13 @@
 mod counters;
 mod log;
 mod look;
+mod sample;
+mod status;
 mod tally;
 mod text;
 
 pub use counters::Counters;
 pub use log::EventLog;
+pub use status::{Figures, write_status};
 pub use tally::{Level, Tally};
 pub use text::{add_met_line, add_name, add_number, add_reason, add_refusal, add_text};

@@ -1,6 +1,6 @@
 -- What is known of a carousel on air, beside what happened.
 use Rattle.std.specs.Prelude.{◌≡◌, ◌-◌, List, sum_by, ℕ}
-use Rattle.mot_metrics.specs.declared.status.Figures.{Figures}
+use Rattle.mot_log.specs.declared.status.Figures.{Figures}
 use Rattle.mot_objects.specs.declared.object.Object.{Object}
 use Rattle.mot_carousel.specs.Gap.{IsLongestGap}
 use Rattle.mot_repository.specs.Repository.{RepositoryView}

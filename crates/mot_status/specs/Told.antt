@@ -7,12 +7,12 @@ use Rattle.mot_destinations.specs.declared.fault.PacketsFault.{PacketsFault}
 use Rattle.mot_destinations.specs.declared.status_file.StatusFile.{StatusFile}
 use Rattle.mot_log.specs.Counters.{counted}
 use Rattle.mot_log.specs.Look.{counted_look, logged_met, new_events}
-use Rattle.mot_metrics.specs.Status.{status_text}
+use Rattle.mot_log.specs.Status.{status_text}
 use Rattle.mot_log.specs.Text.{began_text, ended_text, logged_as}
 use Rattle.mot_log.specs.Text.{status_refused_text, status_written_text}
 use Rattle.mot_log.specs.declared.counters.Counters.{Counters}
 use Rattle.mot_events.specs.declared.event.LookEvent.{LookEvent}
-use Rattle.mot_metrics.specs.declared.status.Figures.{Figures}
+use Rattle.mot_log.specs.declared.status.Figures.{Figures}
 use Rattle.mot_log.specs.declared.tally.Tally.TheVariants.{News, Packet, Refusal, Turn}
 use Rattle.mot_files.specs.Call.{Call, told_time}
 use Rattle.mot_files.specs.declared.system.Time.{Time}

@@ -4,7 +4,7 @@ ghost use Rattle.mot_status.specs.Figures.{AreFigures, bytes_of};
 
 use disk_model::Disk;
 use mot_listening::TurnSize;
-use mot_metrics::Figures;
+use mot_log::Figures;
 use mot_objects::Object;
 use mot_playout::Server;
 

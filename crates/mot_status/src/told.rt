@@ -3,14 +3,13 @@ ghost use Rattle.std.specs.Prelude.{◌≡◌, List, false, is_ok, not};
 ghost use Rattle.std.specs.Prelude.{true, ℕ};
 ghost use Rattle.std.specs.Io.KnownBytes.{Appends};
 ghost use Rattle.mot_destinations.specs.Status.{status_beside, status_disk, status_system};
-ghost use Rattle.mot_metrics.specs.Status.{status_text};
+ghost use Rattle.mot_log.specs.Status.{status_text};
 ghost use Rattle.mot_status.specs.Told.{Tries, place_of, status_counted, status_line};
 
 use mot_destinations::{PacketsFault, StatusFile};
 use mot_events::{Event, LookEvent, Tells};
 use mot_files::System;
-use mot_log::{Counters, EventLog};
-use mot_metrics::{Figures, write_status};
+use mot_log::{Counters, EventLog, Figures, write_status};
 use std::alloc::Global;
 use std::io::Write;
 
