@@ -86,11 +86,16 @@ fn next_id(id: TransportId) -> TransportId {
     }
 }
 
-// The 250 ids behind this one, but for one of them.
-fn ids_behind(alloc: Global, cursor: TransportId, but: u16) -> Result<Vec<TransportId>, Refusal> {
+// So many ids behind this one, but for one of them.
+fn ids_behind(
+    alloc: Global,
+    cursor: TransportId,
+    count: u16,
+    but: u16,
+) -> Result<Vec<TransportId>, Refusal> {
     let mut ids = Vec::new(alloc);
     let mut id = cursor;
-    for _ in 0..250 {
+    for _ in 0..count {
         id = next_id(id);
         if id.get() != but {
             ids.push(id)?;
@@ -99,11 +104,11 @@ fn ids_behind(alloc: Global, cursor: TransportId, but: u16) -> Result<Vec<Transp
     Ok(ids)
 }
 
-// The id that is taken behind this one, where the 250 behind it are used, but for one of them.
-fn taken_behind(alloc: Global, cursor: u16, but: u16) -> Result<u16, Refusal> {
+// The id that is taken behind this one, where so many behind it are used, but for one of them.
+fn taken_behind(alloc: Global, cursor: u16, count: u16, but: u16) -> Result<u16, Refusal> {
     let cursor = TransportId::new(cursor).ok_or(Refusal::BadNumber)?;
-    let used = ids_behind(alloc, cursor, but)?;
-    if used.len() > 250 {
+    let used = ids_behind(alloc, cursor, count, but)?;
+    if used.len() >= 65_535 {
         return Err(Refusal::BadNumber);
     }
     Ok(free_id(cursor, &used).get())
@@ -111,14 +116,18 @@ fn taken_behind(alloc: Global, cursor: u16, but: u16) -> Result<u16, Refusal> {
 
 #[test]
 fn the_one_free_id_is_taken(rt: HostRuntime) {
+    let all = 65_535;
     let rows = [
-        (65_409, 7, 7),
-        (65_409, 65_535, 65_535),
-        (65_409, 200, 125),
-        (65_535, 250, 250),
-        (65_535, 251, 251),
+        (65_409, 250, 7, 7),
+        (65_409, 250, 65_535, 65_535),
+        (65_409, 250, 200, 125),
+        (65_535, 250, 250, 250),
+        (65_535, 250, 251, 251),
+        (3, all, 7, 7),
+        (7, all, 7, 7),
+        (8, all, 7, 7),
     ];
-    for (cursor, but, taken) in rows {
-        expect(&rt, taken_behind(rt.alloc(), cursor, but), Ok(taken));
+    for (cursor, count, but, taken) in rows {
+        expect(&rt, taken_behind(rt.alloc(), cursor, count, but), Ok(taken));
     }
 }
