@@ -39,6 +39,10 @@ mod journal;
 #[cfg(test)]
 mod playing;
 #[cfg(test)]
+mod program;
+#[cfg(test)]
 mod refused;
 #[cfg(test)]
 mod running;
+#[cfg(test)]
+mod serving;
