@@ -1,13 +1,22 @@
 /* Refuses the Nth request for memory of the program that it is loaded into, N from the environment's REFUSE, and with
-   LASTING each one after it. */
+   LASTING each one after it. When it does, it makes the file that REFUSED names. */
 #define _GNU_SOURCE
 #include <dlfcn.h>
 #include <errno.h>
+#include <fcntl.h>
 #include <stddef.h>
 #include <stdlib.h>
+#include <unistd.h>
 
 static long left = -1;
 static int lasts;
+
+static int refuse(void) {
+    const char *mark = getenv("REFUSED");
+    if (mark) close(creat(mark, 0600));
+    if (!lasts) left = 0;
+    return 1;
+}
 
 static int is_refused(void) {
     if (left < 0) {
@@ -15,8 +24,9 @@ static int is_refused(void) {
         left = number ? atol(number) : 0;
         lasts = getenv("LASTING") != NULL;
     }
-    if (left == 1 && lasts) return 1;
-    return left > 0 && --left == 0;
+    if (left > 1) left--;
+    else if (left == 1) return refuse();
+    return 0;
 }
 
 void *malloc(size_t size) {

@@ -1,8 +1,9 @@
-//! What holds whichever request for memory is refused, and where none is:
-//! `campaigns/refused_growth.sh` refuses each in its turn.
+//! What holds whichever requests for memory are refused, and where none is:
+//! `tests/test_refused_growth.py` refuses each in its turn.
 use crate::commands::gaps;
 use crate::disks::{Server, TIGHT, image_of, new_server, open};
 use crate::expecting::expect;
+use crate::playing::{next_turn_and_index, server_of_eight};
 use disk_store::MemoryDisk;
 use mot_base::Refusal;
 use mot_server::{RunEnd, restart};
@@ -107,5 +108,17 @@ fn a_refused_growth_refuses_a_restart(rt: HostRuntime) {
         && end.fault.is_none()
     {
         expect(&rt, is_restarted(rt.alloc(), disk), true);
+    }
+}
+
+// Two turns take no memory, and a call that plays a whole turn does.
+#[test]
+fn a_refused_growth_stops_no_packet(rt: HostRuntime) {
+    if let Ok(mut server) = server_of_eight(rt.alloc()) {
+        for number in 1..=16 {
+            let seen = next_turn_and_index(&mut server);
+            expect(&rt, (number, seen), (number, Ok((number % 8 == 0, 0))));
+        }
+        expect(&rt, is_turn(rt.alloc(), &mut server, 8), true);
     }
 }
