@@ -350,6 +350,11 @@ class Memory:
             os.replace(it.name, self.place(edit))
 
 
+def tell(edits):
+    for edit in edits:
+        print(f"{edit}: {edit.result}", flush=True)
+
+
 def words_given():
     words = argparse.ArgumentParser(description="Tries the wrong bodies of crates, several in one check.")
     words.add_argument("--look", action="store_true", help="only look whether each applies, and count the checks")
@@ -376,15 +381,17 @@ def main():
         checks = sum(len(batches_of(it)) for it in left.values())
         print(*bad, f"{len(edits)} edits, {known} remembered; the others take {checks} checks", sep="\n")
         return 1 if bad else 0
+    tell([it for it in edits if it.crate not in left])
+    checks = 0
     with concurrent.futures.ThreadPoolExecutor(max(options.jobs, 1)) as pool:
-        tasks = {crate: pool.submit(try_crate, repository, crate, some) for crate, some in left.items()}
-        for edit in edits:
-            if edit.crate in tasks:
-                tasks[edit.crate].result()
-            memory.keep(edit)
-            print(f"{edit}: {edit.result}", flush=True)
+        tasks = {pool.submit(try_crate, repository, crate, some): crate for crate, some in left.items()}
+        for task in concurrent.futures.as_completed(tasks):
+            checks += task.result()
+            for edit in left[tasks[task]]:
+                memory.keep(edit)
+            tell([it for it in edits if it.crate == tasks[task]])
     used, refused = resource.getrusage(resource.RUSAGE_CHILDREN), sum(it.result.startswith(REFUSED) for it in edits)
-    print(f"{known} remembered, {sum(it.result() for it in tasks.values())} checks, "
+    print(f"{known} remembered, {checks} checks, "
           f"{(used.ru_utime + used.ru_stime) / 60:.0f} minutes of processor time")
     print(f"wrong bodies: {refused} refused, {len(edits) - refused} not")
     return 1 if refused < len(edits) else 0
