@@ -16,6 +16,8 @@ SOURCE = """\
 #![tactic(auto)]
 ghost use Rattle.std.specs.Prelude.{◌≡◌, ◌+◌, ◌*◌, ◌≤◌};
 
+mod far;
+
 const STEP: u8 = 1;
 
 /// A number that is counted up.
@@ -56,6 +58,22 @@ pub fn threes(count: u8) -> u64
     sum
 }
 """
+FAR = """\
+//! Longer ways.
+ghost use Rattle.std.specs.Prelude.{◌≡◌, ◌+◌, ◌≤◌};
+
+use crate::Counter;
+
+impl Counter {
+    /// How far it is after ten steps more.
+    pub fn after_ten(&self) -> u8
+        requires { self.now.number ≤ 90 }
+        ensures number { result ≡ self.now.number + 10 }
+    {
+        self.number + 10
+    }
+}
+"""
 INVARIANTS = """\
 use Rattle.std.proofs.Common.{◌≡◌, ◌+◌, ◌*◌, ◌≤◌}
 use Rattle.small.proofs.threes.Given as goal
@@ -66,9 +84,10 @@ invariant-loop-left l = (l.sum + 3 * l.left ≡ 3 * l.count) × (l.left ≤ l.co
 abbrev pub decreases-loop-left : goal.decreases-loop-left
 decreases-loop-left l = l.left
 """
-# Of each edit: its lines `old:` and `new:`, others, and the beginning of what is said of it. The first batch has a body of each function;
-# the next two change functions that the batch has changed already, and one of those does not compile.
+# Of each edit: its lines `old:` and `new:`, others, and what is said of it. The first batch has four bodies, each of another function; the next
+# two have bodies of the same functions, and leave them open, as one does not compile and one is right; the edits of a constant stand alone.
 EDITS = {
+    "a_method_elsewhere": ("self.number + 10", "self.number + 11", "file: src/far.rt\n", r"refused by returns"),
     "a_step_of_none": ("self.number + STEP", "self.number + 0", "", r"refused by returns"),
     "a_step_too_far": ("    next + STEP", "    next + STEP + STEP", "", r"refused by returns"),
     "begins_at_one": ("let mut sum = 0;", "let mut sum = 1;", "", r"refused by loop-left-init"),
@@ -111,18 +130,19 @@ def main():
             (folder / it).mkdir(parents=True)
         (top / "crates.txt").write_text("# Each crate.\nsmall:\n")
         (folder / "src/lib.rt").write_text(SOURCE)
+        (folder / "src/far.rt").write_text(FAR)
         (folder / "proofs/threes/Invariants.antt").write_text(INVARIANTS)
         for name, (old, new, others, _) in EDITS.items():
             write(folder / "wrong", name, old, new, others)
-        expect("a look", r"small/has_gone: BAD: .*\n10 edits, 0 remembered; the others take 4 checks\n", tried("--look")[1])
+        expect("a look", r"small/has_gone: BAD: .*\n11 edits, 0 remembered; the others take 5 checks\n", tried("--look")[1])
         status, said, results = tried("--jobs", "2")
         expect("status", "1", str(status))
         for name, (*_, wanted) in EDITS.items():
             expect(name, wanted, results.get(name, said))
-        expect("the count", r".*\n0 remembered, \d+ checks, \d+ minutes of processor time\nwrong bodies: 6 refused, 4 not\n", said)
+        expect("the count", r".*\n0 remembered, 9 checks, \d+ minutes of processor time\nwrong bodies: 7 refused, 4 not\n", said)
         for it in ("does_not_compile", "has_gone", "means_the_same", "names_another_local"):
             (folder / f"wrong/{it}.edit").unlink()
-        expect("what was refused is remembered", r"0 small/.*\n6 remembered, 0 checks, .*: 6 refused, 0 not\n", "{} {}".format(*tried("small")))
+        expect("what was refused is remembered", r"0 small/.*\n7 remembered, 0 checks, .*: 7 refused, 0 not\n", "{} {}".format(*tried("small")))
         (folder / "src/lib.rt").write_text(SOURCE.replace("self.number + STEP", "self.number + 2"))
         expect("a crate that is not proved", r"1 .*begins_at_one: NOT TRIED: as it stands the crate is not proved: .*", "{} {}".format(*tried()))
     rows = len(EDITS) + 5

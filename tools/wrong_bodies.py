@@ -39,6 +39,7 @@ import tempfile
 
 PARTS = ("src", "specs", "proofs")
 FUNCTION = re.compile(r"^( *)(?:pub(?:\([a-z]+\))? )?(?:const )?(?:unsafe )?fn (\w+)", re.M)
+TYPE = re.compile(r"^(?:pub(?:\([a-z]+\))? )?(?:struct|enum|union|trait) (\w+)", re.M)
 BLOCK = re.compile(r"^(?:pub )?(?:impl|trait)\b[^{;]*", re.M)
 # What the toolchain says of a function, a type or an impl; of a goal without an answer; of an error in a proof file.
 JUDGED = re.compile(r"^[a-z]+ \w+?::(\S+): (not proved|no proof|could not tell|not stated)(.*)", re.M)
@@ -57,12 +58,13 @@ class NotApplied(Exception):
 
 @dataclasses.dataclass
 class Edit:
-    """A wrong body: the texts that it changes, and the functions in whose bodies they stand."""
+    """A wrong body: the texts that it changes, and the functions in whose bodies they stand, or whose proof refuses it."""
     crate: "Crate"
     name: str
     text: str
     changes: list
     functions: set = dataclasses.field(default_factory=set)
+    is_of_bodies: bool = False
     result: str = ""
 
     def __str__(self):
@@ -150,7 +152,14 @@ def block_name(head):
     return "".join(reversed(words))
 
 
-def function_at(file, text, at, with_head=False):
+@functools.lru_cache(None)
+def homes(crate):
+    """The modules of the crate's types, by their names."""
+    texts = {it: it.read_text() for it in crate.sources() if it.suffix == ".rt"}
+    return {name: module_of(str(it.relative_to(crate.folder))) for it, text in texts.items() for name in TYPE.findall(text)}
+
+
+def function_at(crate, file, text, at, with_head=False):
     """The path of the function in whose body, or whole text, the position is, by the layout of `rt fmt`; or None."""
     found = None
     for it in FUNCTION.finditer(text if file.startswith("src/") else ""):
@@ -160,8 +169,11 @@ def function_at(file, text, at, with_head=False):
             found = it
     if not found:
         return None
-    block = [it for it in BLOCK.finditer(text, 0, found.start())][-1:] if found[1] else []
-    return "::".join([*module_of(file), *(block_name(it[0]) for it in block), found[2]])
+    block = [it[0] for it in BLOCK.finditer(text, 0, found.start())][-1:] if found[1] else []
+    names = [block_name(it) for it in block]
+    # (a method of a type stands where the type does, and one of a trait where it is written)
+    module = homes(crate).get(*names, module_of(file)) if block and " for " not in block[0] else module_of(file)
+    return "::".join([*module, *names, found[2]])
 
 
 def is_of(name, functions):
@@ -189,7 +201,7 @@ def changed_functions(edit):
     found = set()
     for file, old, new in edit.changes:
         same = len(os.path.commonprefix([old, new]))
-        found.add(function_at(file, texts[file], texts[file].index(old) + min(same, len(old) - 1)))
+        found.add(function_at(edit.crate, file, texts[file], texts[file].index(old) + min(same, len(old) - 1)))
         texts[file] = texts[file].replace(old, new)
     return found - {None}
 
@@ -203,7 +215,8 @@ def read_edit(crate, path):
     edit = Edit(crate, path.stem, text, changes, functions)
     try:
         texts_with([edit])
-        edit.functions = functions or changed_functions(edit)
+        changed = changed_functions(edit)
+        edit.functions, edit.is_of_bodies = functions or changed, not functions and bool(changed)
     except NotApplied:
         edit.result = "BAD: there is no such file, or an old: text does not stand in it once"
     return edit
@@ -216,7 +229,7 @@ def batches_of(edits):
             texts_with([*batch, edit])
         except NotApplied:
             return False
-        return edit.functions and not any(not it.functions or it.functions & edit.functions for it in batch)
+        return edit.is_of_bodies and not any(not it.is_of_bodies or it.functions & edit.functions for it in batch)
 
     batches = []
     for edit in edits:
@@ -238,7 +251,7 @@ def judged(crate, said):
         # (an edit changes lines, and adds none)
         text = (crate.folder / file).read_text()
         at = len("".join(text.splitlines(True)[:int(line) - 1]))
-        path = function_at(file, text, at, with_head=True)
+        path = function_at(crate, file, text, at, with_head=True)
         for name in [it for it in found if path and is_of(it, [path])]:
             found[name].append(goal)
     for file, goal, why in ERROR.findall(said):
