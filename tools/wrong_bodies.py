@@ -20,8 +20,8 @@ function. What it leaves open is tried alone. Each edit has a line, `CRATE/NAME:
 The status is 0 if all were refused. --look only looks whether each applies, and counts the checks. What was refused is
 remembered in ~/.cache/motcar-wrong-bodies by the texts of the edit, of its crate and of the crates below, and by the
 toolchain; --anew tries it again. --jobs N works on N crates at once: as many as there are processors, if it is not
-given. The libraries below a crate are those that `rt ci` left in out/; if these are older than their sources, or are not
-there, `rt check` proves the crate, and makes them.
+given. The libraries below a crate are those that the gate left in out/; build/gate has its time. If a source is newer, or
+there is none of them, `rt check` proves the crate, and makes them.
 """
 import argparse
 import concurrent.futures
@@ -89,10 +89,10 @@ class Crate:
         return self.folder / "out/rlib" / f"{self.name}.rlib"
 
     def is_made(self):
-        """Whether `rt ci` made the library of the sources as they are: `rt check` leaves a stamp beside its own."""
-        made = self.library() / "format"
-        return made.is_file() and not (made.parent.parent / "stamp").is_file() and \
-            made.stat().st_ctime > max(it.stat().st_mtime for it in self.sources())
+        """Whether the gate made the library of the sources as they are: `rt check` leaves a stamp beside its own."""
+        gate, made = self.top / "build/gate", self.library()
+        return gate.is_file() and made.is_dir() and not (made.parent / "stamp").is_file() and \
+            gate.stat().st_mtime > max(it.stat().st_mtime for it in self.sources())
 
 
 class Repository:
@@ -321,7 +321,7 @@ class Trial:
 
 
 def is_ready(repository, crate):
-    """Makes the libraries below the crate, if `rt ci` did not; returns why the crate can't be tried, or ""."""
+    """Makes the libraries below the crate, if the gate did not; returns why the crate can't be tried, or ""."""
     if all(it.is_made() for it in [*repository.below(crate), crate]):
         return ""
     status, said = run(["rt", "check", "--jobs", "1"], crate.folder)
