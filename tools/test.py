@@ -101,13 +101,16 @@ def without_a_proof(room):
 
 def with_the_program(program):
     """The second part, over a proved program."""
-    calls = ["tools/file_calls.py", program, "--check"]
-    if not shutil.which("strace"):
+    steps = [
+        Step("rows", [sys.executable, "-m", "tests"], program=program),
+        Step("blocks of the manual", ["tools/operating.py", program]),
+        Step("short campaigns", ["campaigns/short.py", program]),
+    ]
+    if shutil.which("strace"):
+        steps.append(Step("calls on files", ["tools/file_calls.py", program, "--check"]))
+    else:
         print("  calls on files: skipped: no strace", flush=True)
-    ended = [run(Step("rows", [sys.executable, "-m", "tests"], program=program))]
-    ended += [run(Step("blocks of the manual", ["tools/operating.py", program]))]
-    ended += [run(Step("short campaigns", ["campaigns/short.py", program]))]
-    return ended + ([run(Step("calls on files", calls))] if shutil.which("strace") else [])
+    return side_by_side(steps)
 
 
 def proved():
