@@ -232,4 +232,8 @@ impl<'a, T: Files<File = File> + Clock> System for HostSystem<'a, T> {
         self.calls.note(&Event::Told(answer), &[], &[]);
         answer
     }
+
+    fn into_calls(self) -> CallLog {
+        self.calls
+    }
 }

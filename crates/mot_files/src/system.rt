@@ -5,6 +5,7 @@ ghost use Rattle.mot_files.specs.Call.{peeked, read, removed, renamed, resolved,
 ghost use Rattle.mot_files.specs.Call.{told_terminal, wrote};
 ghost use Rattle.mot_files.specs.Stamping.{stamp_of};
 
+use crate::call_log::CallLog;
 use std::io::{self, ErrorKind};
 
 /// The number of what is open. It means what the system says that handed it out.
@@ -229,4 +230,8 @@ pub trait System {
     /// The time of day, if it is known.
     fn now(&mut self) -> Option<Time>
         ensures { calls self.new ≡ calls self.old ++ told_time result ∷ [] };
+
+    /// The calls so far, as a list that only clauses read. No more are made.
+    fn into_calls(self) -> CallLog
+        ensures { result.all ≡ calls self };
 }

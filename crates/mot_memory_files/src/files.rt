@@ -237,4 +237,8 @@ impl System for MemorySystem {
         self.calls.note(&Event::Told(answer), &[], &[]);
         answer
     }
+
+    fn into_calls(self) -> CallLog {
+        self.calls
+    }
 }
