@@ -101,6 +101,7 @@ CITED_BY_NONE = [
     ("mot_folder/Log", "TellsAnswers TellsOf not_accepted waiting_in", "private functions of `look_at_folder`"),
     ("mot_feed_lines/Logged", "LogHas", "private functions of `answer_there`"),
     ("mot_line_folder/LineFiles", "refusal_of", "private functions of `Spool`"),
+    ("mot_shelf/Gives", "GoesOnSo", "private functions of `look_at_folder`"),
     ("mot_status/Measured", "IsMeasured", "private functions of `Reporter`"),
     ("mot_air/Telling", "EndsAs", "private functions of `mot_air::play`"),
     ("mot_cli/Asked", "AskBy", "proofs of `mot_server`"),

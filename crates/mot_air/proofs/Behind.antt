@@ -12,7 +12,7 @@ use Rattle.mot_update.specs.Ending.{IsEnd, Leaves}
 use Rattle.mot_update.specs.Ending as opening
 use Rattle.mot_air.specs.Playing.{HasAired, Plays, Tale}
 use Rattle.mot_air.specs.declared.manner.Manner.{Manner}
-use Rattle.mot_air.specs.Telling.{EndsAs, Same, first_sources, tale_told}
+use Rattle.mot_air.specs.Telling.{BesideView, EndsAs, Same, first_sources, tale_told}
 use Rattle.mot_air.specs.Telling.EndsTelling.{broken}
 use Rattle.mot_update.proofs.Laws.{AllAre}
 use Rattle.mot_update.specs.Opening.{IsUnopened}
@@ -27,7 +27,6 @@ use Rattle.mot_numbers.specs.Refusal.{IsCalm}
 use Rattle.mot_numbers.specs.declared.refusal.Refusal.{Refusal}
 use Rattle.mot_objects.specs.Carousel.{Carousel}
 use Rattle.mot_objects.specs.declared.command.Command.{Command}
-use Rattle.mot_shelf.specs.Given.{Given}
 use Rattle.mot_playout.proofs.Laws.{after_none, none_of}
 use Rattle.mot_playout.specs.Runs.{StandsAfterSome, accepted_commands, commands_in_flight}
 use Rattle.mot_status.specs.Teller.{TellerView}
@@ -168,19 +167,16 @@ plays_behind start mid now opens calm sound tale how ending before after is =
 
 -- of a disk that was not opened nothing is told
 pub none_told : (same : Same) (w : Option Watch) (reads : Option (List ℕ × ℕ)) (how : Manner)
-    (given : List Given) (read : List (List ℕ)) (refused : Bool) (first : TellerView) → given ≡ []
-    → read ≡ [] → refused ≡ false → (limit : ℕ) (c : Carousel)
-    → tale_told same w reads how given read refused first first limit c Ready [] [] [] c
-none_told same w None how given read refused first looks lines any limit c = (
+    (refused : Bool) (first : BesideView) → refused ≡ false → (limit : ℕ) (c : Carousel)
+    → tale_told same w reads how refused first first limit c Ready [] [] [] c
+none_told same w None how refused first any limit c = (
   first_sources [] first,
-  record { looks = sym looks; any = sym any; teller = refl },
-  lines,
+  record { folder = refl; any = sym any; lines = refl; teller = refl },
   no_call,
 )
-none_told same w (Some (hand, between)) how given read refused first looks lines any limit c = (
+none_told same w (Some (hand, between)) how refused first any limit c = (
   first_sources hand first,
-  record { looks = sym looks; any = sym any; teller = refl },
-  sym lines,
+  record { folder = refl; any = sym any; lines = refl; teller = refl },
   no_call,
 )
 

@@ -10,7 +10,7 @@ use Rattle.mot_folder.specs.declared.known.Known.{Known}
 use Rattle.mot_numbers.specs.declared.refusal.Refusal.{Refusal}
 use Rattle.mot_playout.specs.Attempts.{fault_of}
 use Rattle.mot_repository.specs.Repository.{RepositoryView}
-use Rattle.mot_shelf.specs.Given.{Given}
+use Rattle.mot_shelf.specs.View.{FolderView}
 use Rattle.mot_status.specs.Teller.{TellerView, TellsEnd}
 use Rattle.mot_update.proofs.Laws.{not_none}
 use Rattle.mot_update.specs.Watching.{looks_known}
@@ -31,15 +31,16 @@ is_ended (Ok u) = ((λ is. refl), (λ none. refl))
 is_ended (Err r) = ((λ is. let h = is in cc), (λ none. absurd (not_none r none)))
 
 -- no look has come
-pub none_yet : (left : ℕ) (given : List Given) (refused : Bool) (count : ℕ)
-    (events before : List LookEvent) (files : List Known) → left ≡ 0 → given ≡ [] → refused ≡ false → count ≡ 0
-    → events ≡ [] → before ≡ [] → files ≡ []
-    → so_far left given refused (looks_known count events before) files ≡ no_looks
-none_yet left given refused count events before files due none fine uncounted untold unknown no_file =
-    ap (λ n. so_far n given refused (looks_known count events before) files) due
-    ∙ ap (λ g. so_far 0 g refused (looks_known count events before) files) none
-    ∙ ap (λ r. so_far 0 [] r (looks_known count events before) files) fine
-    ∙ ap (λ n. so_far 0 [] false (looks_known n events before) files) uncounted
-    ∙ ap (λ e. so_far 0 [] false (looks_known 0 e before) files) untold
-    ∙ ap (λ b. so_far 0 [] false (looks_known 0 [] b) files) unknown
-    ∙ ap (so_far 0 [] false (looks_known 0 [] [])) no_file
+pub none_yet : (left : ℕ) (folder at : FolderView) (refused : Bool) (count : ℕ)
+    (events before : List LookEvent) (files : List Known) → left ≡ 0 → folder ≡ at
+    → refused ≡ false → count ≡ 0 → events ≡ [] → before ≡ [] → files ≡ []
+    → so_far left folder refused (looks_known count events before) files ≡ no_looks at
+none_yet left folder at refused count events before files due same fine uncounted untold unknown
+    no_file =
+    ap (λ n. so_far n folder refused (looks_known count events before) files) due
+    ∙ ap (λ f. so_far 0 f refused (looks_known count events before) files) same
+    ∙ ap (λ r. so_far 0 at r (looks_known count events before) files) fine
+    ∙ ap (λ n. so_far 0 at false (looks_known n events before) files) uncounted
+    ∙ ap (λ e. so_far 0 at false (looks_known 0 e before) files) untold
+    ∙ ap (λ b. so_far 0 at false (looks_known 0 [] b) files) unknown
+    ∙ ap (so_far 0 at false (looks_known 0 [] [])) no_file

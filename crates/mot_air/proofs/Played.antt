@@ -9,7 +9,10 @@ use Rattle.disk_model.specs.Disk.{State, IsHonestDisk, KeepsLength, OnlySyncs}
 use Rattle.mot_air.specs.Playing.{HasAired, IsServed, Plays, Tale, look_of_feed, place_at_start}
 use Rattle.mot_air.specs.declared.manner.Manner.{Manner}
 use Rattle.mot_air.specs.Playing.{tale_of}
-use Rattle.mot_air.specs.Commands.{PlaysInto}
+use Rattle.mot_air.specs.Commands.{PlaysInto, Sends}
+use Rattle.mot_destinations.specs.declared.packets.Destination.{Destination}
+use Rattle.mot_files.specs.Call.{Call}
+use Rattle.mot_files.specs.declared.system.Handle.{Handle}
 use Rattle.mot_update.proofs.Laws.{ends_off, opened_leaves}
 use Rattle.mot_destinations.specs.declared.packets.Target.{Target}
 use Rattle.mot_feed.specs.Ends.{NobodyStarves}
@@ -279,8 +282,24 @@ module _ {D : Type 0} (state : D → State) (disk : D) (server new : ServerView 
     }
 
 -- a disk that was played into a target kept its length
-pub into_keeps : (target : Target) (told : Tale) (how : Manner) (ending : Option Refusal)
-    (begun taken : List (List ℕ)) (start now : State)
-    → PlaysInto target told how ending begun taken start now → KeepsLength start now
-into_keeps target told how ending begun taken start now (inl is) = is.keeps
-into_keeps target told how ending begun taken start now (inr lost) = lost.2.keeps
+pub into_keeps : (target : Target) (told : Tale) (Reads : Option Refusal → Type 0) (how : Manner)
+    (ending : Option Refusal) (begun taken : List (List ℕ)) (start now : State)
+    → PlaysInto target told Reads how ending begun taken start now → KeepsLength start now
+into_keeps target told Reads how ending begun taken start now (inl is) = is.0.keeps
+into_keeps target told Reads how ending begun taken start now (inr lost) = lost.2.keeps
+
+-- what was sent so was sent so, too
+pub sends_as : (destination : Destination) (handle : Handle) (ending : Option Refusal)
+    (P Q : (begun taken : List (List ℕ)) → Type 0) (old new : List Call)
+    → ((begun taken : List (List ℕ)) → P begun taken → Q begun taken)
+    → Sends destination handle ending P old new → Sends destination handle ending Q old new
+sends_as destination handle ending P Q old new more is = record {
+  sent = is.sent;
+  then_handle = is.then_handle;
+  played = more _ _ is.played;
+  told = is.told;
+  fault = is.fault;
+  cause = is.cause;
+  reason = is.reason;
+  ended = is.ended;
+}

@@ -7,7 +7,7 @@ use Rattle.mot_air.specs.declared.manner.Manner.{Manner}
 use Rattle.mot_air.specs.Inner.Beside.{SourcesOf, beside, tells_alone_of, tells_answered}
 use Rattle.mot_air.specs.Inner.Beside.{tells_lines_of, tells_reported}
 use Rattle.mot_air.specs.Inner.Fed.{Fed, IsEndOf, disk_of, ending_of}
-use Rattle.mot_air.specs.Telling.{Same, Sources, first_sources, no_looks, tale_told, tale_with}
+use Rattle.mot_air.specs.Telling.{BesideView, Same, Sources, first_sources, no_looks, tale_told, tale_with}
 use Rattle.mot_air.specs.Telling.{tells_alone, tells_lines}
 use Rattle.mot_events.specs.Told.{Entry, HearsAll}
 use Rattle.mot_events.specs.declared.event.Event as event
@@ -19,7 +19,8 @@ use Rattle.mot_feed_lines.specs.declared.lines.Lines.{Lines}
 use Rattle.mot_feed_lines.specs.declared.reported.Reported.{Reported}
 use Rattle.mot_folder.specs.Looked.{LooksSoFar, TellsLooks, TellsWatch, Watch}
 use Rattle.mot_update.specs.declared.ended.Ended.{Ended}
-use Rattle.mot_shelf.specs.Given.{Given}
+use Rattle.mot_line_folder.specs.Spool.{SpoolView}
+use Rattle.mot_line_folder.specs.Spooling.{GaveLines}
 use Rattle.mot_playout.specs.Attempts.{fault_of}
 use Rattle.mot_feed.specs.Feeding.{AreTold, Event, Stage}
 use Rattle.mot_feed.specs.Feeding.AreTold.{no_call, one_asked, one_call, one_played}
@@ -188,13 +189,14 @@ module _ {W : Type 0} (view : W → TellerView) (same : Same) where
   }
 
   -- what stands between lines
-  between_on : {other : W → Telling} {then_other : TellerView → Telling} {P : Type 0} {left : ℕ}
-      {hand then_hand : List ℕ} {earlier later : List (List ℕ)} {c : Carousel} {now : W}
+  between_on : {V : Type 0} {Gives : V → V → List ℕ → Type 0} {other : W → Telling}
+      {then_other : TellerView → Telling} {P : Type 0} {left : ℕ}
+      {hand then_hand : List ℕ} {earlier later : V} {c : Carousel} {now : W}
       → ((told : W) (commands : List Command) (marks : List Bool) (fault : Option Refusal)
       → other told c commands marks fault → P × then_other (view told) c commands marks fault)
       → (commands : List Command) (marks : List Bool) (fault : Option Refusal)
-      → TellsBetween HearsSo left hand then_hand earlier later other now c commands marks fault
-      → P × TellsBetween (HearsAll Hears Misses) left hand then_hand earlier later then_other
+      → TellsBetween HearsSo Gives left hand then_hand earlier later other now c commands marks fault
+      → P × TellsBetween (HearsAll Hears Misses) Gives left hand then_hand earlier later then_other
       (view now) c commands marks fault
   between_on {now = now} on commands marks fault
       (other_alone these so_marked broken undue kept none tells) =
@@ -218,29 +220,31 @@ module _ {W : Type 0} (view : W → TellerView) (same : Same) where
       )
 
   -- calls between which so many come
-  in_turn : (between : ℕ) {other : W → Telling} {then_other : TellerView → Telling}
-      {P : Type 0} {left then_left : ℕ} {hand then_hand : List ℕ} {earlier later : List (List ℕ)}
+  in_turn : (between : ℕ) {V : Type 0} {Gives : V → V → List ℕ → Type 0} {other : W → Telling}
+      {then_other : TellerView → Telling}
+      {P : Type 0} {left then_left : ℕ} {hand then_hand : List ℕ} {earlier later : V}
       {c : Carousel} {commands : List Command} {marks : List Bool} {fault : Option Refusal} {at : W}
       → ((told : W) (commands : List Command) (marks : List Bool) (fault : Option Refusal)
       → other told c commands marks fault → P × then_other (view told) c commands marks fault)
-      → TellsInTurn HearsSo between left then_left hand then_hand earlier later other at c commands
+      → TellsInTurn HearsSo Gives between left then_left hand then_hand earlier later other at c commands
       marks fault
-      → P × TellsInTurn (HearsAll Hears Misses) between left then_left hand then_hand earlier later
+      → P × TellsInTurn (HearsAll Hears Misses) Gives between left then_left hand then_hand earlier later
       then_other (view at) c commands marks fault
   in_turn between {commands = commands} {marks = marks} {fault = fault} on tells =
       let one = between_on on commands marks fault tells.1 in (one.0, (tells.0, one.1))
 
   -- calls that go on keep how many come between two that read
-  on_time : {other : W → Telling} {then_other : TellerView → Telling} {P : Type 0}
+  on_time : {V : Type 0} {Gives : V → V → List ℕ → Type 0} {other : W → Telling}
+      {then_other : TellerView → Telling} {P : Type 0}
       {between now then left then_left : ℕ} {hand then_hand : List ℕ}
-      {earlier later : List (List ℕ)} {c : Carousel} {commands : List Command}
+      {earlier later : V} {c : Carousel} {commands : List Command}
       {marks : List Bool} {fault : Option Refusal} {at : W}
       → ((told : W) (commands : List Command) (marks : List Bool) (fault : Option Refusal)
       → other told c commands marks fault → P × then_other (view told) c commands marks fault)
       → now ≡ between
-      → TellsOnTime HearsSo now then left then_left hand then_hand earlier later other at c commands
+      → TellsOnTime HearsSo Gives now then left then_left hand then_hand earlier later other at c commands
       marks fault
-      → P × ((then ≡ between) × TellsInTurn (HearsAll Hears Misses) between left then_left hand
+      → P × ((then ≡ between) × TellsInTurn (HearsAll Hears Misses) Gives between left then_left hand
       then_hand earlier later then_other (view at) c commands marks fault)
   on_time {between = between} {left = left} {then_left = then_left} {commands = commands}
       {marks = marks} {fault = fault} on stays tells =
@@ -258,16 +262,16 @@ module _ {W : Type 0} (view : W → TellerView) (same : Same) where
 
 -- ---- any update, of what stands beside the disk
 
-begins : {U : Type 0} (update so : U) (late : ℕ) (lines : List (List ℕ)) (hand kept : List ℕ)
-    (teller t : TellerView) → update ≡ so → late ≡ 0 → lines ≡ [] → hand ≡ kept → teller ≡ t
+begins : {U V : Type 0} (update so : U) (late : ℕ) (lines at : V) (hand kept : List ℕ)
+    (teller t : TellerView) → update ≡ so → late ≡ 0 → lines ≡ at → hand ≡ kept → teller ≡ t
     → record { update = update; late = late; lines = lines; hand = hand; teller = teller }
-    ≡ beside so kept t
-begins {U} update so late lines hand kept teller t is due unread same starts =
+    ≡ beside so at kept t
+begins {U} {V} update so late lines at hand kept teller t is due unread same starts =
     ap (λ (u : U). record { update = u; late = late; lines = lines; hand = hand; teller = teller }) is
     ∙ ap (λ n. record { update = so; late = n; lines = lines; hand = hand; teller = teller }) due
-    ∙ ap (λ l. record { update = so; late = 0; lines = l; hand = hand; teller = teller }) unread
-    ∙ ap (λ h. beside so h teller) same
-    ∙ ap (beside so kept) starts
+    ∙ ap (λ (l : V). record { update = so; late = 0; lines = l; hand = hand; teller = teller }) unread
+    ∙ ap (λ h. beside so at h teller) same
+    ∙ ap (beside so at kept) starts
 
 module _ {U W : Type 0} (view : W → TellerView) (same : Same) (known : U → LooksKnown)
     (tells : U → U → Moment → Telling) (how : Manner) where
@@ -276,160 +280,187 @@ module _ {U W : Type 0} (view : W → TellerView) (same : Same) (known : U → L
       → view first.watch ≡ t → update ≡ last.update
       → Retells
       (tale_of (tells_reported (Begins view same) (Ends view same) known tells) how first last)
-      (tale_of (tells_alone_of same known tells) how (beside first.update [] t)
-      (beside update [] (view last.watch)))
+      (tale_of (tells_alone_of {V = Unit {0}} same known tells) how (beside first.update tt [] t)
+      (beside update tt [] (view last.watch)))
   reported_retold first last update starts is limit c stage events commands marks made told =
-      let see : Reported U W → SourcesOf U = λ r. beside r.update [] (view r.watch) in
-      let one = told_as (tells_alone_of same known tells) see (λ r. Unit {0})
+      let see : Reported U W → SourcesOf U (Unit {0}) = λ r. beside r.update tt [] (view r.watch) in
+      let one = told_as (tells_alone_of {V = Unit {0}} same known tells) see (λ r. Unit {0})
       (λ u v moment found these so_marked fault stays tale.
       watched_on view same {P = Unit {0}} (λ them so_answered broken one. (tt, one))
       these so_marked fault tale) tt stage events commands marks last made told in
-      subst (λ (b : SourcesOf U). AreTold (tells_alone_of same known tells) (look_of_feed how) limit b c
-      stage events commands marks (beside update [] (view last.watch)) made)
-      (ap (beside first.update []) starts)
-      (subst (λ (u : U). AreTold (tells_alone_of same known tells) (look_of_feed how) limit
-      (see first) c stage events commands marks (beside u [] (view last.watch)) made) (sym is) one.1)
+      subst (λ (b : SourcesOf U (Unit {0})). AreTold (tells_alone_of same known tells)
+      (look_of_feed how) limit b c stage events commands marks (beside update tt [] (view last.watch))
+      made) (ap (beside first.update tt []) starts)
+      (subst (λ (u : U). AreTold (tells_alone_of {V = Unit {0}} same known tells) (look_of_feed how)
+      limit (see first) c stage events commands marks (beside u tt [] (view last.watch)) made)
+      (sym is) one.1)
 
 -- lines, and the update behind which they are answered
-abbrev pub seen : {R U W : Type 0} → Lines R U W → (W → TellerView) → (R → List (List ℕ)) → SourcesOf U
-seen l view gave = record {
+abbrev pub seen : {R U V W : Type 0} → Lines R U W → (W → TellerView) → (R → V) → SourcesOf U V
+seen l view see = record {
   update = l.reported.update;
   late = l.left;
-  lines = gave l.reader;
+  lines = see l.reader;
   hand = l.intake.hand;
   teller = view l.reported.watch;
 }
 
-module _ {R U W : Type 0} (first last : Lines R U W) (view : W → TellerView)
-    (gave : R → List (List ℕ)) where
+module _ {R U V W : Type 0} (first last : Lines R U W) (view : W → TellerView)
+    (Gives : V → V → List ℕ → Type 0) (see : R → V) where
   pub answered_retold : (same : Same) (known : U → LooksKnown) (tells : U → U → Moment → Telling)
-      (how : Manner) (between : ℕ) (update : U) (hand : List ℕ)
-      {t : TellerView} → first.between ≡ between → first.left ≡ 0 → gave first.reader ≡ []
+      (how : Manner) (between : ℕ) (update : U) (at : V) (hand : List ℕ)
+      {t : TellerView} → first.between ≡ between → first.left ≡ 0 → see first.reader ≡ at
       → first.intake.hand ≡ hand → first.reported.update ≡ update
       → view first.reported.watch ≡ t
       → Retells
-      (tale_of (tells_answered (HearsSo view same) (Begins view same) (Ends view same) gave known
+      (tale_of (tells_answered (HearsSo view same) (Begins view same) (Ends view same) Gives see known
       tells) how first last)
-      (tale_of (tells_lines_of same between known tells) how (beside update hand t)
-      (seen last view gave))
-  answered_retold same known tells how between update hand {t} apart due unread kept is
+      (tale_of (tells_lines_of same Gives between known tells) how (beside update at hand t)
+      (seen last view see))
+  answered_retold same known tells how between update at hand {t} apart due unread kept is
       starts limit c stage events commands marks made told =
-      let one = told_as (tells_lines_of same between known tells) (λ l. seen l view gave)
+      let one = told_as (tells_lines_of same Gives between known tells) (λ l. seen l view see)
       (λ l. l.between ≡ between) (λ u v moment found these so_marked fault stays tale.
       let one = on_time view same {P = Unit {0}} (λ told them so_answered broken one.
       watched_on view same {P = Unit {0}} (λ those so_marked up one. (tt, one))
       them so_answered broken one) stays tale in one.1)
       apart stage events commands marks last made told in
-      subst (λ (b : SourcesOf U). AreTold (tells_lines_of same between known tells) (look_of_feed how)
-      limit b c stage events commands marks (seen last view gave) made)
-      (begins first.reported.update update first.left (gave first.reader) first.intake.hand hand
+      subst (λ (b : SourcesOf U V). AreTold (tells_lines_of same Gives between known tells)
+      (look_of_feed how) limit b c stage events commands marks (seen last view see) made)
+      (begins first.reported.update update first.left (see first.reader) at first.intake.hand hand
       (view first.reported.watch) t is due unread kept starts) one.1
 
-module _ {U : Type 0} (same : Same) (how : Manner) (given : List Given) (read : List (List ℕ))
-    (update : U) (last : SourcesOf U) where
+-- In these what stands beside the disk was first so.
+module _ {U : Type 0} (same : Same) (how : Manner) (update : U) (first : BesideView) where
   module _ (at : U → Watch) (looks : U → LooksSoFar) (w : Watch) (refused : Bool)
-      (begun : at update ≡ w) (none : looks update ≡ no_looks)
-      (looked : (looks last.update).given ≡ given)
-      (any : (looks last.update).refused ≡ refused) where
-    -- what is seen of looks
-    abbrev of_looks : SourcesOf U → Sources
-    of_looks b = record {
+      (begun : at update ≡ w) (none : looks update ≡ no_looks first.folder) where
+    -- what is seen of looks, with these lines
+    abbrev of_looks : {V : Type 0} → (V → SpoolView) → SourcesOf U V → Sources
+    of_looks see b = record {
       looks = looks b.update;
       late = b.late;
-      lines = b.lines;
+      lines = see b.lines;
       hand = b.hand;
       teller = b.teller;
     }
 
-    begin_so : (hand : List ℕ) (t : TellerView)
-        → of_looks (beside update hand t) ≡ first_sources hand t
-    begin_so hand t = ap (λ (l : LooksSoFar).
-        record { looks = l; late = 0; lines = []; hand = hand; teller = t }) none
+    begin_so : {V : Type 0} (see : V → SpoolView) (lines : V) (hand : List ℕ)
+        → see lines ≡ first.lines
+        → of_looks see (beside update lines hand first.teller) ≡ first_sources hand first
+    begin_so see lines hand is = ap (λ (l : LooksSoFar).
+        record { looks = l; late = 0; lines = see lines; hand = hand; teller = first.teller }) none
+        ∙ ap (λ (l : SpoolView). record {
+          looks = no_looks first.folder;
+          late = 0;
+          lines = l;
+          hand = hand;
+          teller = first.teller;
+        }) is
 
     -- looks alone
-    pub looks_retold : {t : TellerView} → read ≡ [] → Retells
+    pub looks_retold : (last : SourcesOf U (Unit {0}))
+        → (looks last.update).refused ≡ refused → Retells
         (tale_of (tells_alone_of same (λ u. (looks u).known)
         (λ u v moment. TellsWatch (at u) (at v) moment (looks u) (looks v))) how
-        (beside update [] t) last)
-        (tale_told same (Some w) None how given read refused t last.teller)
-    looks_retold {t} unread limit c stage events commands marks made told =
-        let is = told_as (tells_alone same (Some w)) of_looks (λ b. at b.update ≡ w)
+        (beside update tt [] first.teller) last)
+        (tale_told same (Some w) None how refused first (record {
+          folder = (looks last.update).folder;
+          lines = first.lines;
+          teller = last.teller;
+        }))
+    looks_retold last any limit c stage events commands marks made told =
+        let see : Unit {0} → SpoolView = λ _. first.lines in
+        let is = told_as (tells_alone same (Some w)) (of_looks see) (λ b. at b.update ≡ w)
         (λ u v moment found these so_marked fault stays tale.
-        watched_on (λ t. t) same (λ them so_answered broken one.
+        let one = watched_on (λ t. t) same (λ them so_answered broken one.
         watch_on w (at u.update) (at v.update) moment (looks u.update) (looks v.update) found them
-        so_answered broken stays one) these so_marked fault tale)
+        so_answered broken stays one) these so_marked fault tale in (one.0, (refl, one.1)))
         begun stage events commands marks last made told in (
-          of_looks last,
-          record { looks = looked; any = any; teller = refl },
-          unread,
+          of_looks see last,
+          record { folder = refl; any = any; lines = refl; teller = refl },
           subst (λ (b : Sources). AreTold (tells_alone same (Some w)) (look_of_feed how) limit b c
-              stage events commands marks (of_looks last) made) (begin_so [] t) is.1,
+              stage events commands marks (of_looks see last) made) (begin_so see tt [] refl) is.1,
         )
 
     -- looks and lines
-    pub lines_retold : (between : ℕ) (hand : List ℕ) {t : TellerView}
-        → last.lines ≡ read → Retells
-        (tale_of (tells_lines_of same between (λ u. (looks u).known)
+    pub lines_retold : (between : ℕ) (hand : List ℕ) (last : SourcesOf U SpoolView)
+        → (looks last.update).refused ≡ refused → Retells
+        (tale_of (tells_lines_of same GaveLines between (λ u. (looks u).known)
         (λ u v moment. TellsWatch (at u) (at v) moment (looks u) (looks v))) how
-        (beside update hand t) last)
-        (tale_told same (Some w) (Some (hand, between)) how given read refused t last.teller)
-    lines_retold between hand {t} heard limit c stage events commands marks made told =
-        let is = told_as (tells_lines same between (Some w)) of_looks (λ b. at b.update ≡ w)
+        (beside update first.lines hand first.teller) last)
+        (tale_told same (Some w) (Some (hand, between)) how refused first (record {
+          folder = (looks last.update).folder;
+          lines = last.lines;
+          teller = last.teller;
+        }))
+    lines_retold between hand last any limit c stage events commands marks made told =
+        let see : SpoolView → SpoolView = λ v. v in
+        let is = told_as (tells_lines same between (Some w)) (of_looks see) (λ b. at b.update ≡ w)
         (λ u v moment found these so_marked fault stays tale.
         in_turn (λ t. t) same between (λ told them so_answered broken one.
         watched_on (λ t. t) same (λ those so_accepted up one.
         watch_on w (at u.update) (at v.update) moment (looks u.update) (looks v.update) found those
         so_accepted up stays one) them so_answered broken one) tale)
         begun stage events commands marks last made told in (
-          of_looks last,
-          record { looks = looked; any = any; teller = refl },
-          heard,
+          of_looks see last,
+          record { folder = refl; any = any; lines = refl; teller = refl },
           subst (λ (b : Sources). AreTold (tells_lines same between (Some w)) (look_of_feed how)
-              limit b c stage events commands marks (of_looks last) made) (begin_so hand t) is.1,
+              limit b c stage events commands marks (of_looks see last) made)
+              (begin_so see first.lines hand refl) is.1,
         )
 
-  module _ (unlooked : given ≡ []) {refused : Bool} (fine : false ≡ refused) where
-    -- what is seen where there are no looks
-    abbrev of_none : SourcesOf U → Sources
-    of_none b = record {
-      looks = no_looks;
+  module _ {refused : Bool} (fine : false ≡ refused) where
+    -- what is seen where there are no looks, with these lines
+    abbrev of_none : {V : Type 0} → (V → SpoolView) → SourcesOf U V → Sources
+    of_none see b = record {
+      looks = no_looks first.folder;
       late = b.late;
-      lines = b.lines;
+      lines = see b.lines;
       hand = b.hand;
       teller = b.teller;
     }
 
     -- no looks
-    pub none_retold : {t : TellerView} → read ≡ [] → Retells
-        (tale_of (tells_alone_of same (λ u. no_looks.known)
-        (λ u v moment c commands marks fault. commands ≡ [])) how (beside update [] t) last)
-        (tale_told same None None how given read refused t last.teller)
-    none_retold unread limit c stage events commands marks made told =
-        let is = told_as (tells_alone same None) of_none (λ b. Unit {0})
+    pub none_retold : (last : SourcesOf U (Unit {0})) → Retells
+        (tale_of (tells_alone_of same (λ u. (no_looks first.folder).known)
+        (λ u v moment c commands marks fault. commands ≡ [])) how
+        (beside update tt [] first.teller) last)
+        (tale_told same None None how refused first (record {
+          folder = first.folder;
+          lines = first.lines;
+          teller = last.teller;
+        }))
+    none_retold last limit c stage events commands marks made told =
+        let see : Unit {0} → SpoolView = λ _. first.lines in
+        let is = told_as (tells_alone same None) (of_none see) (λ b. Unit {0})
         (λ u v moment found these so_marked fault stays tale.
-        watched_on (λ t. t) same {P = Unit {0}} (λ them so_answered broken one. (tt, (refl, one)))
-        these so_marked fault tale) tt stage events commands marks last made told in (
-          of_none last,
-          record { looks = sym unlooked; any = fine; teller = refl },
-          unread,
+        let one = watched_on (λ t. t) same {P = Unit {0}} (λ them so_answered broken one.
+        (tt, (refl, one))) these so_marked fault tale in (one.0, (refl, one.1)))
+        tt stage events commands marks last made told in (
+          of_none see last,
+          record { folder = refl; any = fine; lines = refl; teller = refl },
           is.1,
         )
 
     -- lines alone
-    pub lines_alone : (between : ℕ) (hand : List ℕ) {t : TellerView}
-        → last.lines ≡ read → Retells
-        (tale_of (tells_lines_of same between (λ u. no_looks.known)
-        (λ u v moment c commands marks fault. commands ≡ [])) how (beside update hand t) last)
-        (tale_told same None (Some (hand, between)) how given read refused t last.teller)
-    lines_alone between hand heard limit c stage events commands marks made told =
-        let is = told_as (tells_lines same between None) of_none (λ b. Unit {0})
+    pub lines_alone : (between : ℕ) (hand : List ℕ) (last : SourcesOf U SpoolView) → Retells
+        (tale_of (tells_lines_of same GaveLines between (λ u. (no_looks first.folder).known)
+        (λ u v moment c commands marks fault. commands ≡ [])) how
+        (beside update first.lines hand first.teller) last)
+        (tale_told same None (Some (hand, between)) how refused first (record {
+          folder = first.folder;
+          lines = last.lines;
+          teller = last.teller;
+        }))
+    lines_alone between hand last limit c stage events commands marks made told =
+        let see : SpoolView → SpoolView = λ v. v in
+        let is = told_as (tells_lines same between None) (of_none see) (λ b. Unit {0})
         (λ u v moment found these so_marked fault stays tale.
         in_turn (λ t. t) same between {P = Unit {0}} (λ told them so_answered broken one.
         watched_on (λ t. t) same {P = Unit {0}} (λ those so_accepted up one. (tt, (refl, one)))
         them so_answered broken one) tale) tt stage events commands marks last made told in (
-          of_none last,
-          record { looks = sym unlooked; any = fine; teller = refl },
-          heard,
+          of_none see last,
+          record { folder = refl; any = fine; lines = refl; teller = refl },
           is.1,
         )
 
@@ -469,8 +500,8 @@ ended_out ended out Tells same told =
 
 -- whoever tells, it is so
 pub whoever : (same : Same) (w : Option Watch) (reads : Option (List ℕ × ℕ)) (how : Manner)
-    (given : List Given) (read : List (List ℕ)) (refused : Bool) (first last : TellerView)
-    → Retells (tale_told same w reads how given read refused first last)
-    (tale_with w reads how given read refused)
-whoever same w reads how given read refused first last limit c stage events commands marks made told =
-    (same, first, last, told)
+    (refused : Bool) (first last : BesideView)
+    → Retells (tale_told same w reads how refused first last)
+    (tale_with w reads how refused first.folder last.folder first.lines last.lines)
+whoever same w reads how refused first last limit c stage events commands marks made told =
+    (same, first.teller, last.teller, told)

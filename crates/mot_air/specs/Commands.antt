@@ -1,6 +1,6 @@
 -- What the commands on air do.
-use Rattle.std.specs.Prelude.{ℕ, ◌≡◌, ◌⊎◌, ◌++◌, ◌-◌, Bool, true, not, List, [], ◌∷◌, Option}
-use Rattle.std.specs.Prelude.{Some, None, codes, option_map, unwrap_or}
+use Rattle.std.specs.Prelude.{ℕ, ◌≡◌, ◌≢◌, ◌⊎◌, ◌++◌, ◌-◌, Bool, true, false, not, List, [], ◌∷◌}
+use Rattle.std.specs.Prelude.{Option, Some, None, Ok, Err, codes, option_map, unwrap_or}
 use Rattle.std.specs.Io.KnownBytes.{Keeps}
 use Rattle.clap.specs.Words.{Text}
 use Rattle.disk_model.specs.Disk.{State}
@@ -9,24 +9,45 @@ use Rattle.disk_store.specs.declared.file.start.Start.{Ghosts}
 use Rattle.mot_air.specs.Directory.{IsFrame, directory_of, early_of, look_of}
 use Rattle.mot_air.specs.Playing.{Plays, Tale}
 use Rattle.mot_air.specs.declared.manner.Manner.{Manner}
-use Rattle.mot_air.specs.Telling.{tale_with, watch_in, watched}
+use Rattle.mot_air.specs.Telling.{EndsReading, lines_at, tale_with, watch_in, watched}
 use Rattle.mot_destinations.specs.declared.packets.Target.{Target}
 use Rattle.mot_destinations.specs.declared.packets.Target.TheVariants.{File, Output}
 use Rattle.mot_endpoints.specs.Lines.{IsUnlined}
 use Rattle.mot_endpoints.specs.Opened.{named}
-use Rattle.mot_destinations.specs.Packets.{IsPlaced, IsTarget, writes_of}
+use Rattle.std.specs.Borrow.{Bor}
+use Rattle.mot_destinations.specs.Packets.{IsReason, IsTakenAway, IsTarget, OpensInto, TakesItsPlace}
+use Rattle.mot_destinations.specs.Packets.{target_in, writes_to}
+use Rattle.mot_destinations.specs.declared.fault.Cause.{Cause}
+use Rattle.mot_destinations.specs.declared.fault.PacketsFault.{PacketsFault}
+use Rattle.mot_destinations.specs.declared.packets.Destination.{Destination}
+use Rattle.mot_endpoints.specs.LinePlaces.{ChecksLines}
+use Rattle.mot_endpoints.specs.declared.lines.Others.{Others}
+use Rattle.mot_files.specs.Call.{Call}
+use Rattle.mot_files.specs.declared.system.Handle.{Handle}
+use Rattle.mot_line_folder.specs.Spool.{SpoolView}
+use Rattle.mot_shelf.specs.View.{FolderView, folder_at}
+use Rattle.mot_outcome.specs.declared.used.Beside.{Beside}
 use Rattle.mot_endpoints.specs.Types.{IsTyped, IsUntyped}
 use Rattle.mot_numbers.specs.declared.refusal.Refusal.{Refusal}
 use Rattle.mot_numbers.specs.declared.refusal.Refusal.TheVariants.{DeviceFault, WriteFault}
 use Rattle.mot_outcome.specs.Outcome.{OnFile}
 use Rattle.mot_outcome.specs.declared.used.UsedDisk.{UsedDisk}
-use Rattle.mot_shelf.specs.Given.{Given}
 use Rattle.mot_folder.specs.Looked.{Watch}
 use Rattle.mot_suffixes.specs.Types.{SuffixType}
 use Rattle.mot_cli.specs.declared.playing.PlayTask.{PlayTask}
-use Rattle.mot_line_folder.specs.Spool.{reads_of}
 
 -- In these a frame holds so many packets.
+
+-- a folder of objects at this path, if one is given
+abbrev pub objects_at : Option (Bor (List ℕ)) → (at_once : Bool) → FolderView
+objects_at None at_once = folder_at [] false []
+objects_at (Some path) at_once = folder_at path.now at_once []
+
+-- the folder of lines at this path, if one is given, once it was found to keep apart from the others
+abbrev pub LinesOf : Option (Bor (List ℕ)) → Others → SpoolView → Type 0
+LinesOf None others lines = lines ≡ lines_at [] []
+LinesOf (Some path) others lines = (calls : List Call) × ChecksLines path.now others (Ok tt) [] calls
+    × (lines ≡ lines_at path.now calls)
 
 -- how it is played with the numbers that are asked for: as good as without end, where no number of
 -- turns is
@@ -43,28 +64,68 @@ abbrev pub watch_asked : List SuffixType → PlayTask → (frame : ℕ) → Opti
 watch_asked table p frame = watched p.folder
     (λ path. watch_in (played_as p frame) path.now table p.rules.allow_empty)
 
+-- the folder of objects that is asked for, before it is looked at
+abbrev pub folder_asked : PlayTask → FolderView
+folder_asked p = objects_at p.folder p.rules.at_once
+
+-- the folder of lines that is asked for, by these calls no other file of the command stands in it
+abbrev pub LinesAsked : PlayTask → SpoolView → Type 0
+LinesAsked p lines = LinesOf p.lines (record {
+  objects = p.folder;
+  disk = p.disk;
+  packets = p.packets;
+  types = p.types;
+}) lines
+
 -- what is told of playing it: no line has begun, and lines are read at every eighth packet, where
 -- no other number is asked for
-abbrev pub tale_asked : List SuffixType → PlayTask → (frame : ℕ) → (given : List Given)
-    → (read : List (List ℕ)) → (refused : Bool) → Tale
-tale_asked table p frame = tale_with (watch_asked table p frame)
-    (option_map (λ path. ([], unwrap_or p.every 8 - 1)) p.lines) (played_as p frame)
+abbrev pub tale_asked : List SuffixType → PlayTask → (lines : SpoolView) → (frame : ℕ)
+    → (refused : Bool) → (then_folder : FolderView) → (then_lines : SpoolView) → Tale
+tale_asked table p lines frame refused then_folder then_lines = tale_with (watch_asked table p frame)
+    (option_map (λ path. ([], unwrap_or p.every 8 - 1)) p.lines) (played_as p frame) refused
+    (folder_asked p) then_folder lines then_lines
 
 -- The disk was played into this target, up to this ending; or all was played, and the file did not
--- take its place.
-abbrev pub PlaysInto : Target → Tale → Manner → Option Refusal → (begun taken : List (List ℕ))
-    → (start now : State) → Type 0
-PlaysInto target tale how ending begun taken start now =
-    Plays tale how ending (Some begun) (Some taken) start now
+-- take its place. By the ending of playing the reads of lines ended.
+abbrev pub PlaysInto : Target → Tale → (Reads : Option Refusal → Type 0) → Manner → Option Refusal
+    → (begun taken : List (List ℕ)) → (start now : State) → Type 0
+PlaysInto target tale Reads how ending begun taken start now =
+    (Plays tale how ending (Some begun) (Some taken) start now × Reads ending)
     ⊎ ((target ≡ File) × (ending ≡ Some WriteFault)
-    × Plays tale how None (Some begun) (Some taken) start now)
+    × Plays tale how None (Some begun) (Some taken) start now × Reads None)
 
 -- the same, as the task asks: by as many packets as a frame holds of the rate that is asked for
-abbrev pub PlaysAsked : Target → ((frame : ℕ) → Tale) → PlayTask → Option Refusal
-    → (begun taken : List (List ℕ)) → (start now : State) → Type 0
-PlaysAsked target tale p ending begun taken start now =
+abbrev pub PlaysAsked : Target → ((frame : ℕ) → Tale) → (Reads : Option Refusal → Type 0) → PlayTask
+    → Option Refusal → (begun taken : List (List ℕ)) → (start now : State) → Type 0
+PlaysAsked target tale Reads p ending begun taken start now =
     (frame : ℕ) × IsFrame p.rate frame ending start now
-    × PlaysInto target (tale frame) (played_as p frame) ending begun taken start now
+    × PlaysInto target (tale frame) Reads (played_as p frame) ending begun taken start now
+
+-- How packets were sent that so many calls of a handle came before: to it alone they were written,
+-- and what each write took was so played. Then, at the end, a new file took its place; or it did not,
+-- or was taken away.
+pub data EndsSending (destination : Destination) (handle : Handle) (ending : Option Refusal)
+    (old new : List Call) : Type 0 where
+  placed : ending ≡ None → TakesItsPlace destination handle (Ok tt) old new
+      → EndsSending destination handle ending old new
+  unplaced : (fault : PacketsFault) → ending ≡ Some WriteFault
+      → TakesItsPlace destination handle (Err fault) old new
+      → EndsSending destination handle ending old new
+  taken_away : ending ≢ None → IsTakenAway destination handle old new
+      → EndsSending destination handle ending old new
+
+pub record Sends (destination : Destination) (handle : Handle) (ending : Option Refusal)
+    (Played : (begun taken : List (List ℕ)) → Type 0) (old new : List Call) : Type 0 where
+  pub sent : List Call
+  -- what was sent tells the number of a handle: where it goes on, the handle is the same
+  pub then_handle : Handle
+  pub played : Played (writes_to handle old) (writes_to then_handle sent)
+  -- why a packet was not taken
+  pub told : List Call
+  pub fault : Option PacketsFault
+  pub cause : Option Cause
+  pub reason : IsReason destination then_handle fault cause sent told
+  pub ended : EndsSending destination then_handle ending told new
 
 -- Whether all is done that playing into this target is to do. A file is to show the folder: it does
 -- not where something was refused in a look.
@@ -72,20 +133,34 @@ abbrev pub is_all_done : Target → (refused : Bool) → Bool
 is_all_done File refused = not refused
 is_all_done target refused = true
 
+-- What was opened for packets, by which calls, and that they were sent to it.
+pub record SendsAsked (p : PlayTask) (target : Target) (ending : Option Refusal)
+    (Played : (begun taken : List (List ℕ)) → Type 0) (calls : List Call) : Type 0 where
+  pub handle : Handle
+  pub destination : Destination
+  pub target_is : target_in destination ≡ target
+  pub opened : List Call
+  pub opens : OpensInto p.packets.now p.disk.now handle [] opened destination
+  pub sends : Sends destination handle ending Played opened calls
+
+-- the calls of the folder of objects are handed out, and those of the folder of lines
+abbrev pub Hands : Beside → (FolderView → SpoolView → Type 0) → Type 0
+Hands beside IsSo = (folder : FolderView) × (folder.calls ≡ beside.folder.all)
+    × ((lines : SpoolView) × IsSo folder lines)
+
 module _ {S : Type 0} {start : Ghosts S} where
   -- The disk of a file was played into what takes packets, up to this ending; where it came to its
-  -- end, true if all is done, and a file took its place. What each write took is told, as a list
-  -- that begins with the path by which that was opened; and what was given by the folder in each
-  -- look, and by each read of lines. Beside packets on standard output nothing is printed to it.
-  abbrev pub PlaysTo : PlayTask → (ℕ → List Given → List (List ℕ) → Bool → Tale) → (all : Bool)
+  -- end, true if all is done. What was given and sent the calls tell that are handed out. Beside
+  -- packets on standard output nothing is printed to it.
+  abbrev pub PlaysTo : PlayTask → (ℕ → Bool → FolderView → SpoolView → Tale) → (all : Bool)
       → Option Refusal → (old new : Option (List ℕ)) → UsedDisk S start → Type 0
   PlaysTo p tale all ending old new used =
       (target : Target) × IsTarget p.packets.now target × (target ≡ Output → Keeps old new)
-      × (target ≡ File → ending ≡ None → OnFile (λ disk beside. IsPlaced beside.taken) used)
       × ((refused : Bool) × (ending ≡ None → all ≡ is_all_done target refused)
-      × OnFile (λ disk beside. SinceOpened (PlaysAsked target (λ frame. tale frame beside.looks.all
-      (reads_of beside.lines) refused) p ending (p.packets.now ∷ []) (writes_of beside.taken)) disk)
-      used)
+      × OnFile (λ disk beside. Hands beside (λ folder lines. SendsAsked p target ending
+      (λ begun taken. SinceOpened (PlaysAsked target (λ frame. tale frame refused folder lines)
+      (λ ended. EndsReading ended lines beside.lines.all) p ending begun taken) disk)
+      beside.packets.all)) used)
 
   -- In these the writer's known bytes were old and are new. Standard input is not read. Of what a
   -- pipe, a device or a file takes no contract tells.
@@ -95,7 +170,8 @@ module _ {S : Type 0} {start : Ghosts S} where
   abbrev pub PlaysTask : PlayTask → (all : Bool) → Option Refusal → UsedDisk S start
       → (old new : Option (List ℕ)) → Type 0
   PlaysTask p all ending used old new = (table : List SuffixType) × IsTyped p.types table
-      × PlaysTo p (tale_asked table p) all ending old new used
+      × ((lines : SpoolView) × LinesAsked p lines
+      × PlaysTo p (tale_asked table p lines) all ending old new used)
 
 -- In these a list of what a host came to has of each as what, and by which path.
 

@@ -2,12 +2,13 @@
 ghost use Rattle.std.specs.Prelude.{◌≡◌, ◌++◌, codes, option_map};
 ghost use Rattle.mot_air.specs.Commands.{IsUnplayed};
 ghost use Rattle.mot_outcome.specs.Outcome.{Concludes};
-ghost use Rattle.mot_air.specs.Commands.{PlaysTask, played_with};
+ghost use Rattle.mot_air.specs.Commands.{PlaysTask, objects_at, played_with};
 ghost use Rattle.mot_air.specs.declared.manner.Manner.{Manner};
-ghost use Rattle.mot_air.specs.Telling.{watch_in, watched};
+ghost use Rattle.mot_air.specs.Telling.{folder_in, watch_in, watched};
+ghost use Rattle.mot_files.specs.Host.{calls_of};
 ghost use Rattle.mot_endpoints.specs.Opened.{named, paths_of};
 ghost use Rattle.mot_outcome.specs.Outcome.{Opens};
-ghost use Rattle.mot_shelf.specs.System.{shelf_path};
+ghost use Rattle.mot_shelf.specs.Reader.{reader_path};
 ghost use Rattle.mot_playout.specs.Attempts.{fault_of};
 
 use crate::on_air::{Airing, play_file};
@@ -20,7 +21,6 @@ use mot_endpoints::{Host, Others, file_types, line_folder};
 use mot_files::HostSystem;
 use mot_folder::FileTypes;
 use mot_outcome::Finished;
-use mot_shelf::SystemShelf;
 use std::alloc::Global;
 use std::io::Write;
 
@@ -67,15 +67,16 @@ pub fn play<'a, B: Start, W: Write, E: Write>(
 }
 
 /// The folder, if one is given, with what is known of suffixes.
-fn followed<'a, 't>(
+fn followed<'a: 't, 't>(
     host: &mut Host<'a>,
     folder: Option<&'a str>,
     types: &'t FileTypes,
     rules: LookRules,
-) -> Option<Followed<'t, SystemShelf<'a, HostSystem<'a, HostRuntime>>>>
+) -> Option<Followed<'t, HostSystem<'a, HostRuntime>>>
     ensures given { (how : Manner) → watched result (λ followed. watch_in how
-        (shelf_path followed.shelf) followed.types.now followed.allows_empty)
+        (reader_path followed.shelf) followed.types.now followed.allows_empty)
         ≡ watched folder.entry (λ path. watch_in how path.now types.now rules.allow_empty) }
+    ensures folder { folder_in calls_of result ≡ objects_at folder.entry rules.at_once }
     ensures opens { paths_of host.new ≡ paths_of host.old ++ named (codes "folder") folder.entry }
 {
     match folder {

@@ -1,23 +1,28 @@
 //! Playing the disk of a file into what a path names.
 ghost use Rattle.std.specs.Prelude.{◌≡◌, ◌⊎◌, ◌-◌, ℕ, [], ◌∷◌, false, true, Some, None, Err, Ok, codes};
-ghost use Rattle.std.specs.Prelude.{◌++◌, IfErr, IfOk, List, MatchResult, option_map, unwrap_or};
+ghost use Rattle.std.specs.Prelude.{◌++◌, IfErr, IfOk, List, MatchResult, Option, option_map, unwrap_or};
 ghost use Rattle.std.specs.Io.KnownBytes.{Keeps};
 ghost use Rattle.clap.specs.Words.{Text};
 ghost use Rattle.disk_store.specs.Beginning.{IsFirst};
+ghost use Rattle.mot_air.specs.Inner.Beside.{lines_in};
 ghost use Rattle.mot_air.specs.Directory.{IsFrame, directory_of, early_of, look_of};
 ghost use Rattle.mot_air.specs.Inner.Unbegun.{IsUnbegun};
 ghost use Rattle.mot_air.specs.Playing.{Plays};
-ghost use Rattle.mot_air.specs.Commands.{PlaysAsked, PlaysTo, is_all_done, played_as};
+ghost use Rattle.mot_air.specs.Commands.{EndsSending, Hands, PlaysAsked, PlaysTo, Sends, is_all_done};
+ghost use Rattle.mot_air.specs.Commands.{played_as};
 ghost use Rattle.mot_outcome.specs.Outcome.{Concludes, Opens};
-ghost use Rattle.mot_air.specs.Telling.{EndsAs, tale_told, tale_with, watch_in, watched};
+ghost use Rattle.mot_air.specs.Telling.{BesideView, EndsAs, EndsReading, HandsOut, folder_in};
+ghost use Rattle.mot_air.specs.Telling.{tale_told, tale_with, watch_in, watched};
 ghost use Rattle.mot_endpoints.specs.Opened.{paths_of};
-ghost use Rattle.mot_destinations.specs.Packets.{IsPlaced, IsTarget, begun_of, target_of};
-ghost use Rattle.mot_destinations.specs.Packets.{writes_of};
-ghost use Rattle.mot_line_folder.specs.Spool.{reads_of};
+ghost use Rattle.mot_destinations.specs.Packets.{IsReason, IsTarget, OpensInto, destination_of};
+ghost use Rattle.mot_destinations.specs.Packets.{target_of, writer_handle, writer_system};
+ghost use Rattle.mot_destinations.specs.declared.fault.PacketsFault.{PacketsFault};
+ghost use Rattle.mot_files.specs.Call.{Call};
+ghost use Rattle.mot_files.specs.Host.{calls_of};
 ghost use Rattle.mot_numbers.specs.declared.refusal.Refusal.TheVariants.{DeviceFault, WriteFault};
 ghost use Rattle.mot_playout.specs.Attempts.{fault_of};
-ghost use Rattle.mot_shelf.specs.System.{shelf_path};
-ghost use Rattle.mot_status.specs.Teller.{TellerView, starts};
+ghost use Rattle.mot_shelf.specs.Reader.{reader_path};
+ghost use Rattle.mot_status.specs.Teller.{starts};
 
 use crate::Ended;
 use crate::answered::answered;
@@ -30,12 +35,12 @@ use mot_cli::PlayTask;
 use mot_destinations::{Cause, OpenPackets, StatusFile, Target};
 use mot_endpoints::Host;
 use mot_events::LookEvent;
-use mot_files::{HostSystem, System};
+use mot_files::{CallLog, HostSystem, System};
 use mot_line_folder::LineFolder;
 use mot_numbers::Refusal;
-use mot_outcome::{Finished, clear_after};
+use mot_outcome::{Beside, Finished, clear_after};
 use mot_packets::Outlet;
-use mot_shelf::{Shelf, SystemShelf};
+use mot_playout::Refused;
 use mot_status::Telling;
 use std::alloc::Global;
 use std::io::Write;
@@ -53,7 +58,7 @@ const EARLY_BODIES: u32 = 3;
 
 /// How a disk is played: what the words ask for, and what may change the carousel.
 #[derive(Drop)]
-pub(crate) struct Airing<'a, 't, F: Shelf + Drop, Y: System + Drop> {
+pub(crate) struct Airing<'a, 't, F: System + Drop, Y: System + Drop> {
     /// What the words ask for.
     pub(crate) task: PlayTask<'a>,
     /// The folder that the carousel is made equal to, if one is given.
@@ -69,16 +74,19 @@ pub(crate) struct Airing<'a, 't, F: Shelf + Drop, Y: System + Drop> {
 pub(crate) fn play_file<'a, B: Start, Y: System + Drop, W: Write, E: Write>(
     host: &mut Host<'a>,
     alloc: Global,
-    airing: Airing<'a, '_, SystemShelf<'a, Y>, Y>,
+    airing: Airing<'a, '_, Y, Y>,
     start: B,
     writer: &mut W,
     errors: &mut E,
 ) -> Finished<B, bool>
     ensures ended { Concludes (λ r. (r ≡ DeviceFault) ⊎ (r ≡ WriteFault)) (λ all ending.
-        PlaysTo airing.entry.task (λ frame. let how = played_as airing.entry.task frame in
-        tale_with (watched airing.entry.folder (λ followed. watch_in how (shelf_path followed.shelf)
-        followed.types.now followed.allows_empty))
-        (option_map (λ lines. (lines.hand, lines.every - 1)) airing.entry.lines) how)
+        PlaysTo airing.entry.task (λ frame refused then_folder then_lines.
+        let how = played_as airing.entry.task frame in
+        tale_with (watched airing.entry.folder (λ followed. watch_in how
+        (reader_path followed.shelf) followed.types.now followed.allows_empty))
+        (option_map (λ lines. (lines.hand, lines.every - 1)) airing.entry.lines) how refused
+        (folder_in Y.calls airing.entry.folder) then_folder
+        (lines_in Y.calls airing.entry.lines) then_lines)
         all ending (W.contents writer.old) (W.contents writer.new) result.disk)
         result.result result.disk (W.contents writer.old) (W.contents writer.new) }
     ensures opens { Opens ((codes "packets", airing.entry.task.packets.now) ∷ [])
@@ -109,7 +117,9 @@ fn open_both<'a, B: Start>(
     Finished<B, bool>,
 >
     ensures target { IfOk result (λ both. IsTarget task.entry.packets.now (target_of both.0)) }
-    ensures begun { IfOk result (λ both. begun_of both.0 ≡ task.entry.packets.now ∷ []) }
+    ensures opened { IfOk result (λ both. OpensInto task.entry.packets.now task.entry.disk.now
+        (writer_handle both.0.writer) [] (calls_of (writer_system both.0.writer))
+        (destination_of both.0)) }
     ensures first { IfOk result (λ both. IsFirst false both.1.disk) }
     ensures refused { IfErr result (λ unbegun. IsUnbegun
         (λ r. (r ≡ DeviceFault) ⊎ (r ≡ WriteFault)) unbegun.result unbegun.disk) }
@@ -134,7 +144,7 @@ fn open_both<'a, B: Start>(
 
 /// Plays the disk of a file into what was opened for packets. (It is a function of its own, for any
 /// system of files, since calls at the program's own take longer to prove.)
-fn play_both<B: Start, P: System + Drop, F: Shelf + Drop, Y: System + Drop, W: Write, E: Write>(
+fn play_both<B: Start, P: System + Drop, F: System + Drop, Y: System + Drop, W: Write, E: Write>(
     alloc: Global,
     disk: BegunFile<B, WasThere>,
     opened: OpenPackets<'_, P>,
@@ -143,12 +153,17 @@ fn play_both<B: Start, P: System + Drop, F: Shelf + Drop, Y: System + Drop, W: W
     errors: &mut E,
 ) -> Finished<B, bool>
     ensures ended { IsTarget airing.entry.task.packets.now (target_of opened.entry)
-        → begun_of opened.entry ≡ airing.entry.task.packets.now ∷ [] → IsFirst false disk.disk
+        → OpensInto airing.entry.task.packets.now airing.entry.task.disk.now
+        (writer_handle opened.entry.writer) [] (P.calls (writer_system opened.entry.writer))
+        (destination_of opened.entry) → IsFirst false disk.disk
         → Concludes (λ r. (r ≡ DeviceFault) ⊎ (r ≡ WriteFault)) (λ all ending.
-        PlaysTo airing.entry.task (λ frame. let how = played_as airing.entry.task frame in
-        tale_with (watched airing.entry.folder (λ followed. watch_in how (F.path followed.shelf)
-        followed.types.now followed.allows_empty))
-        (option_map (λ lines. (lines.hand, lines.every - 1)) airing.entry.lines) how)
+        PlaysTo airing.entry.task (λ frame refused then_folder then_lines.
+        let how = played_as airing.entry.task frame in
+        tale_with (watched airing.entry.folder (λ followed. watch_in how
+        (reader_path followed.shelf) followed.types.now followed.allows_empty))
+        (option_map (λ lines. (lines.hand, lines.every - 1)) airing.entry.lines) how refused
+        (folder_in F.calls airing.entry.folder) then_folder
+        (lines_in Y.calls airing.entry.lines) then_lines)
         all ending (W.contents writer.old) (W.contents writer.new) result.disk)
         result.result result.disk (W.contents writer.old) (W.contents writer.new) }
     ensures opens { (path : Text) (others before after : List (Text × Text))
@@ -173,7 +188,7 @@ fn is_all_done(target: Target, any_refused: bool) -> bool
 }
 
 /// Plays the disk into what was opened. The log goes to `errors` if the packets go to `writer`.
-fn play_into<D: Disk, P: System + Drop, F: Shelf + Drop, Y: System + Drop, W: Write, E: Write>(
+fn play_into<D: Disk, P: System + Drop, F: System + Drop, Y: System + Drop, W: Write, E: Write>(
     alloc: Global,
     disk: D,
     opened: OpenPackets<'_, P>,
@@ -181,19 +196,21 @@ fn play_into<D: Disk, P: System + Drop, F: Shelf + Drop, Y: System + Drop, W: Wr
     writer: &mut W,
     errors: &mut E,
 ) -> PlayEnd<D>
-    ensures played { PlaysAsked (target_of opened.entry)
+    ensures played { Hands result.beside (λ folder lines. Sends (destination_of opened.entry)
+        (writer_handle opened.entry.writer) (fault_of result.ended.result)
+        (λ begun taken. PlaysAsked (target_of opened.entry)
         (λ frame. let how = played_as airing.entry.task frame in
-        tale_with (watched airing.entry.folder (λ followed. watch_in how (F.path followed.shelf)
-        followed.types.now followed.allows_empty))
+        tale_with (watched airing.entry.folder (λ followed. watch_in how
+        (reader_path followed.shelf) followed.types.now followed.allows_empty))
         (option_map (λ lines. (lines.hand, lines.every - 1)) airing.entry.lines) how
-        result.beside.looks.all (reads_of result.beside.lines) result.any_refused)
-        airing.entry.task (fault_of result.ended.result)
-        (begun_of opened.entry) (writes_of result.beside.taken)
-        (D.state disk) (D.state result.ended.disk) }
+        result.any_refused (folder_in F.calls airing.entry.folder) folder
+        (lines_in Y.calls airing.entry.lines) lines)
+        (λ ended. EndsReading ended lines result.beside.lines.all)
+        airing.entry.task (fault_of result.ended.result) begun taken
+        (D.state disk) (D.state result.ended.disk)) (P.calls (writer_system opened.entry.writer))
+        result.beside.packets.all) }
     ensures quiet { target_of opened.entry ≡ Target.Output
         → Keeps (W.contents writer.old) (W.contents writer.new) }
-    ensures placed { target_of opened.entry ≡ Target.File
-        → fault_of result.ended.result ≡ None → IsPlaced result.beside.taken }
 {
     match opened.target() {
         Target::Output => play_opened(alloc, disk, opened, airing, errors),
@@ -204,7 +221,7 @@ fn play_into<D: Disk, P: System + Drop, F: Shelf + Drop, Y: System + Drop, W: Wr
 /// Plays the disk into the outlet, with looks at the folder and answers to lines, if these are
 /// given. What took the log is handed out: of a borrowed one no clause could say what it has behind
 /// the call.
-fn air<D: Disk, F: Shelf + Drop, Y: System + Drop, O: Outlet, L: Write + Drop>(
+fn air<D: Disk, F: System + Drop, Y: System + Drop, O: Outlet, L: Write + Drop>(
     alloc: Global,
     disk: D,
     outlet: &mut O,
@@ -216,30 +233,69 @@ fn air<D: Disk, F: Shelf + Drop, Y: System + Drop, O: Outlet, L: Write + Drop>(
         (frame : ℕ) × IsFrame airing.entry.task.rate frame (fault_of result.0.ended.result)
         (D.state disk) (D.state result.0.ended.disk)
         × (let how = played_as airing.entry.task frame in
-        (last : TellerView) × Plays (tale_told same
-        (watched airing.entry.folder (λ followed. watch_in how (F.path followed.shelf)
-        followed.types.now followed.allows_empty)) reads how result.0.beside.looks.all
-        (reads_of result.0.beside.lines) result.0.any_refused
-        (starts Y.calls (L.contents log) (record {
-          disk = airing.entry.task.disk;
-          status = airing.entry.status;
-          levels = airing.entry.task.levels;
-        })) last) how (fault_of result.0.ended.result)
-        (O.writes outlet.old) (O.writes outlet.new)
+        (last : BesideView) × HandsOut (fault_of result.0.ended.result) last result.0.beside
+        × Plays (tale_told same
+        (watched airing.entry.folder (λ followed. watch_in how (reader_path followed.shelf)
+        followed.types.now followed.allows_empty)) reads how result.0.any_refused (record {
+          folder = folder_in F.calls airing.entry.folder;
+          lines = lines_in Y.calls airing.entry.lines;
+          teller = starts Y.calls (L.contents log) (record {
+            disk = airing.entry.task.disk;
+            status = airing.entry.status;
+            levels = airing.entry.task.levels;
+          });
+        })
+        last) how (fault_of result.0.ended.result) (O.writes outlet.old) (O.writes outlet.new)
         (D.state disk) (D.state result.0.ended.disk)
-        × EndsAs reads (fault_of result.0.ended.result) how.turns last (L.contents result.1)) }
+        × EndsAs reads (fault_of result.0.ended.result) how.turns last.teller
+        (L.contents result.1)) }
 {
     match frame_on(alloc, disk, airing.task.rate) {
         Ok((frame, disk)) => {
             let how = manner_of(airing.task, frame);
             air_so(alloc, disk, outlet, airing, log, how)
         }
-        Err(refused) => (PlayEnd::unopened(refused), log),
+        Err(refused) => (unbegun(refused, airing), log),
+    }
+}
+
+/// The disk was not opened: neither the folder of objects nor that of lines was read.
+fn unbegun<D: Disk, F: System + Drop, Y: System + Drop>(
+    refused: Refused<D>,
+    airing: Airing<'_, '_, F, Y>,
+) -> PlayEnd<D>
+    ensures ended { (fault_of result.ended.result ≡ Some refused.refusal)
+        × (result.ended.disk ≡ refused.disk) }
+    ensures folder { (folder_in F.calls airing.entry.folder).calls ≡ result.beside.folder.all }
+    ensures lines { (lines_in Y.calls airing.entry.lines).calls ≡ result.beside.lines.all }
+    ensures refused { result.any_refused ≡ false }
+{
+    let Airing { folder, lines, .. } = airing;
+    PlayEnd::unopened(refused, folder_calls(folder), lines_calls(lines))
+}
+
+/// The calls on the folder of objects, if there is one.
+fn folder_calls<F: System + Drop>(folder: Option<Followed<'_, F>>) -> CallLog
+    ensures { (folder_in F.calls folder.entry).calls ≡ result.all }
+{
+    match folder {
+        Some(followed) => followed.shelf.into_system().into_calls(),
+        None => CallLog::new(),
+    }
+}
+
+/// The calls on the folder of lines, if there is one.
+fn lines_calls<Y: System + Drop>(lines: Option<LineFolder<'_, Y>>) -> CallLog
+    ensures { (lines_in Y.calls lines.entry).calls ≡ result.all }
+{
+    match lines {
+        Some(lines) => lines.place.system.into_calls(),
+        None => CallLog::new(),
     }
 }
 
 /// The same in this manner.
-fn air_so<D: Disk, F: Shelf + Drop, Y: System + Drop, O: Outlet, L: Write + Drop>(
+fn air_so<D: Disk, F: System + Drop, Y: System + Drop, O: Outlet, L: Write + Drop>(
     alloc: Global,
     disk: D,
     outlet: &mut O,
@@ -249,18 +305,22 @@ fn air_so<D: Disk, F: Shelf + Drop, Y: System + Drop, O: Outlet, L: Write + Drop
 ) -> (PlayEnd<D>, L)
     ensures { let same = ⟦<LookEvent as PartialEq>⟧.eq in
         let reads = option_map (λ lines. (lines.hand, lines.every - 1)) airing.entry.lines in
-        (last : TellerView) × Plays (tale_told same
-        (watched airing.entry.folder (λ followed. watch_in how (F.path followed.shelf)
-        followed.types.now followed.allows_empty)) reads how result.0.beside.looks.all
-        (reads_of result.0.beside.lines) result.0.any_refused
-        (starts Y.calls (L.contents log) (record {
-          disk = airing.entry.task.disk;
-          status = airing.entry.status;
-          levels = airing.entry.task.levels;
-        })) last) how (fault_of result.0.ended.result)
-        (O.writes outlet.old) (O.writes outlet.new)
+        (last : BesideView) × HandsOut (fault_of result.0.ended.result) last result.0.beside
+        × Plays (tale_told same
+        (watched airing.entry.folder (λ followed. watch_in how (reader_path followed.shelf)
+        followed.types.now followed.allows_empty)) reads how result.0.any_refused (record {
+          folder = folder_in F.calls airing.entry.folder;
+          lines = lines_in Y.calls airing.entry.lines;
+          teller = starts Y.calls (L.contents log) (record {
+            disk = airing.entry.task.disk;
+            status = airing.entry.status;
+            levels = airing.entry.task.levels;
+          });
+        })
+        last) how (fault_of result.0.ended.result) (O.writes outlet.old) (O.writes outlet.new)
         (D.state disk) (D.state result.0.ended.disk)
-        × EndsAs reads (fault_of result.0.ended.result) how.turns last (L.contents result.1) }
+        × EndsAs reads (fault_of result.0.ended.result) how.turns last.teller
+        (L.contents result.1) }
 {
     let Airing {
         task,
@@ -281,24 +341,26 @@ fn air_so<D: Disk, F: Shelf + Drop, Y: System + Drop, O: Outlet, L: Write + Drop
 
 /// Plays the disk into what was opened, each packet in one write. A new file then takes its place,
 /// or is removed again.
-fn play_opened<D: Disk, P: System + Drop, F: Shelf + Drop, Y: System + Drop, L: Write>(
+fn play_opened<D: Disk, P: System + Drop, F: System + Drop, Y: System + Drop, L: Write>(
     alloc: Global,
     disk: D,
     opened: OpenPackets<'_, P>,
     airing: Airing<'_, '_, F, Y>,
     log: &mut L,
 ) -> PlayEnd<D>
-    ensures played { PlaysAsked (target_of opened.entry)
+    ensures played { Hands result.beside (λ folder lines. Sends (destination_of opened.entry)
+        (writer_handle opened.entry.writer) (fault_of result.ended.result)
+        (λ begun taken. PlaysAsked (target_of opened.entry)
         (λ frame. let how = played_as airing.entry.task frame in
-        tale_with (watched airing.entry.folder (λ followed. watch_in how (F.path followed.shelf)
-        followed.types.now followed.allows_empty))
+        tale_with (watched airing.entry.folder (λ followed. watch_in how
+        (reader_path followed.shelf) followed.types.now followed.allows_empty))
         (option_map (λ lines. (lines.hand, lines.every - 1)) airing.entry.lines) how
-        result.beside.looks.all (reads_of result.beside.lines) result.any_refused)
-        airing.entry.task (fault_of result.ended.result)
-        (begun_of opened.entry) (writes_of result.beside.taken)
-        (D.state disk) (D.state result.ended.disk) }
-    ensures placed { target_of opened.entry ≡ Target.File
-        → fault_of result.ended.result ≡ None → IsPlaced result.beside.taken }
+        result.any_refused (folder_in F.calls airing.entry.folder) folder
+        (lines_in Y.calls airing.entry.lines) lines)
+        (λ ended. EndsReading ended lines result.beside.lines.all)
+        airing.entry.task (fault_of result.ended.result) begun taken
+        (D.state disk) (D.state result.ended.disk)) (P.calls (writer_system opened.entry.writer))
+        result.beside.packets.all) }
 {
     let mut opened = opened;
     let (end, _) = air(alloc, disk, &mut opened.writer, airing, log);
@@ -317,7 +379,11 @@ fn play_opened<D: Disk, P: System + Drop, F: Shelf + Drop, Y: System + Drop, L: 
         },
         any_refused,
         cause,
-        beside: beside.taking(opened.hand_out()),
+        beside: Beside {
+            folder: beside.folder,
+            packets: opened.into_calls(),
+            lines: beside.lines,
+        },
     }
 }
 
@@ -330,9 +396,11 @@ fn placed<P: System + Drop>(
 ) -> (Result<(), Refusal>, Option<Cause>)
     ensures came { (result.0 ≡ ended) ⊎ ((target_of opened.old ≡ Target.File)
         × (ended ≡ Ok tt) × (result.0 ≡ Err WriteFault)) }
-    ensures same { writes_of opened.new.writer.taken ≡ writes_of opened.old.writer.taken }
-    ensures placed { target_of opened.old ≡ Target.File → fault_of result.0 ≡ None
-        → IsPlaced opened.new.writer.taken }
+    ensures sent { (told : List Call) × (fault : Option PacketsFault) × (why : Option Cause)
+        × IsReason (destination_of opened.old) (writer_handle opened.old.writer) fault why
+        (P.calls (writer_system opened.old.writer)) told
+        × EndsSending (destination_of opened.old) (writer_handle opened.old.writer)
+        (fault_of result.0) told (P.calls (writer_system opened.new.writer)) }
 {
     let cause = match opened.reason() {
         Some(cause) => Some(cause),

@@ -3,7 +3,8 @@ ghost use Rattle.std.specs.Prelude.{◌≡◌, ◌≢◌, ◌↔◌, ◌⊎◌, 
 ghost use Rattle.std.specs.Prelude.{None, Some, false, true};
 ghost use Rattle.mot_air.specs.Lives.{AirsOn, KeepsDone};
 ghost use Rattle.mot_air.specs.Playing.{Plays, tale_of};
-ghost use Rattle.mot_air.specs.Telling.{EndsLines, EndsTelling, no_looks, tale_told, watch_in, watched};
+ghost use Rattle.mot_air.specs.Telling.{BesideView, EndsLines, EndsReading, EndsTelling, HandsOut};
+ghost use Rattle.mot_air.specs.Telling.{folder_in, lines_at, no_looks, tale_told, watch_in, watched};
 ghost use Rattle.mot_air.specs.Inner.Beside.{SourcesOf, beside, tells_alone_of, tells_answered, tells_lines_of};
 ghost use Rattle.mot_air.specs.Inner.Beside.{tells_reported};
 ghost use Rattle.mot_air.specs.Inner.Fed.{IsEndOf, disk_of, ending_of};
@@ -14,7 +15,9 @@ ghost use Rattle.mot_lines.specs.Hand.{bytes_in_hand};
 ghost use Rattle.mot_numbers.specs.declared.geometry.Geometry.{Geometry};
 ghost use Rattle.mot_objects.specs.declared.command.Command.{Command};
 ghost use Rattle.mot_update.specs.Opening.{IsUnopened};
-ghost use Rattle.mot_line_folder.specs.Spool.{open_file, reads_of, spool_gave, spool_system};
+ghost use Rattle.mot_line_folder.specs.Spool.{SpoolView, open_file, spool_system, spool_view};
+ghost use Rattle.mot_line_folder.specs.Spooling.{GaveLines};
+ghost use Rattle.mot_shelf.specs.Reader.{reader_path, view};
 ghost use Rattle.mot_playout.specs.Attempts.{fault_of};
 ghost use Rattle.mot_status.specs.Teller.{TellerView, TellsEnd, starts, teller};
 ghost use Rattle.mot_update.specs.Watching.{looks_known};
@@ -26,14 +29,14 @@ use mot_destinations::Cause;
 use mot_events::{Inlet, LookEvent};
 use mot_feed::feed_every;
 use mot_feed_lines::{Lines, Reported};
-use mot_files::System;
+use mot_files::{CallLog, System};
 use mot_folder::{FileTypes, Folder, Looks};
-use mot_line_folder::{LineFolder, LineNotes, Spool};
+use mot_line_folder::{LineFolder, Spool};
 use mot_numbers::Refusal;
 use mot_outcome::Beside;
 use mot_packets::Outlet;
 use mot_playout::{Refused, Server};
-use mot_shelf::{LookNotes, Shelf};
+use mot_shelf::FolderReader;
 use mot_status::{Reporter, Telling};
 use mot_update::{Facts, NoUpdate, Update, Watch};
 use std::alloc::Global;
@@ -41,9 +44,9 @@ use std::io::Write;
 
 /// A folder that a carousel is made equal to, and which of its files are objects.
 #[derive(Drop)]
-pub struct Followed<'a, S: Shelf + Drop> {
+pub struct Followed<'a, S: System + Drop> {
     /// The folder.
-    pub shelf: S,
+    pub shelf: FolderReader<'a, S>,
     /// The suffixes.
     pub types: &'a FileTypes,
     /// Whether all objects go where none of its files is one.
@@ -60,15 +63,15 @@ pub struct PlayEnd<D: Disk> {
     /// Why it ended so, or why the folder was not opened at the last look, if more is known than the
     /// refusal says.
     pub cause: Option<Cause>,
-    /// What was given, and what took the packets.
+    /// The calls that were made beside the disk.
     pub beside: Beside,
 }
 
 impl<D: Disk> PlayEnd<D> {
-    /// Playing ended so, after these looks and with what these reads of lines gave.
-    fn looking<S: Shelf + Drop>(ended: Ended<D, ()>, looks: Looks<'_, S>, lines: LineNotes) -> Self
+    /// Playing ended so, after these looks and with these calls on the folder of lines.
+    fn looking<S: System + Drop>(ended: Ended<D, ()>, looks: Looks<'_, S>, lines: CallLog) -> Self
         ensures ended { result.ended ≡ ended }
-        ensures looks { result.beside.looks ≡ looks.entry.looks }
+        ensures folder { (view S.calls looks.entry.folder.shelf).calls ≡ result.beside.folder.all }
         ensures lines { result.beside.lines ≡ lines }
         ensures refused { result.any_refused ≡ looks.entry.any_refused }
     {
@@ -76,14 +79,14 @@ impl<D: Disk> PlayEnd<D> {
             ended,
             any_refused: looks.any_refused,
             cause: Cause::of_folder(looks.folder.shelf.fault()),
-            beside: Beside::heard(looks.looks, lines),
+            beside: beside_of(looks.folder.shelf.into_system().into_calls(), lines),
         }
     }
 
-    /// Playing ended so, without a folder, with what these reads of lines gave.
-    fn unwatched(ended: Ended<D, ()>, lines: LineNotes) -> Self
+    /// Playing ended so, without a folder, with these calls on the folder of lines.
+    fn unwatched(ended: Ended<D, ()>, lines: CallLog) -> Self
         ensures ended { result.ended ≡ ended }
-        ensures looks { result.beside.looks.all ≡ [] }
+        ensures folder { result.beside.folder.all ≡ [] }
         ensures lines { result.beside.lines ≡ lines }
         ensures refused { result.any_refused ≡ false }
     {
@@ -91,24 +94,42 @@ impl<D: Disk> PlayEnd<D> {
             ended,
             any_refused: false,
             cause: None,
-            beside: Beside::heard(LookNotes::new(), lines),
+            beside: beside_of(CallLog::new(), lines),
         }
     }
 
-    /// The disk was not opened, and nothing was given.
-    pub(crate) fn unopened(refused: Refused<D>) -> Self
+    /// The disk was not opened, and no more calls were made than these.
+    pub(crate) fn unopened(refused: Refused<D>, folder: CallLog, lines: CallLog) -> Self
         ensures ended { (fault_of result.ended.result ≡ Some refused.refusal)
             × (result.ended.disk ≡ refused.disk) }
-        ensures given { (result.beside.looks.all ≡ []) × (reads_of result.beside.lines ≡ []) }
+        ensures folder { result.beside.folder ≡ folder }
+        ensures lines { result.beside.lines ≡ lines }
         ensures refused { result.any_refused ≡ false }
     {
-        PlayEnd::unwatched(Ended::unopened(refused), LineNotes::new())
+        PlayEnd {
+            ended: Ended::unopened(refused),
+            any_refused: false,
+            cause: None,
+            beside: beside_of(folder, lines),
+        }
+    }
+}
+
+/// These calls, and none on what takes the packets.
+fn beside_of(folder: CallLog, lines: CallLog) -> Beside
+    ensures folder { result.folder ≡ folder }
+    ensures lines { result.lines ≡ lines }
+{
+    Beside {
+        folder,
+        packets: CallLog::new(),
+        lines,
     }
 }
 
 /// Opens the disk and plays it into the outlet, with looks at the folder if there is one. The lines
 /// of the looks, of the start and of the end are written to the log, and the status to its file.
-pub fn play_disk<S: Shelf + Drop, F: System + Drop, D: Disk, O: Outlet, L: Write + Drop>(
+pub fn play_disk<S: System + Drop, F: System + Drop, D: Disk, O: Outlet, L: Write + Drop>(
     alloc: Global,
     disk: D,
     outlet: &mut O,
@@ -118,25 +139,27 @@ pub fn play_disk<S: Shelf + Drop, F: System + Drop, D: Disk, O: Outlet, L: Write
     how: Manner,
 ) -> (PlayEnd<D>, L)
     ensures { let same = ⟦<LookEvent as PartialEq>⟧.eq in
-        (last : TellerView) × Plays (tale_told same
-        (watched folder.entry (λ followed. watch_in how (S.path followed.shelf)
-        followed.types.now followed.allows_empty)) None how result.0.beside.looks.all
-        (reads_of result.0.beside.lines) result.0.any_refused
-        (starts F.calls (L.contents log) telling.entry) last)
-        how (fault_of result.0.ended.result) (O.writes outlet.old) (O.writes outlet.new)
+        (last : BesideView) × HandsOut (fault_of result.0.ended.result) last result.0.beside
+        × Plays (tale_told same
+        (watched folder.entry (λ followed. watch_in how (reader_path followed.shelf)
+        followed.types.now followed.allows_empty)) None how result.0.any_refused (record {
+          folder = folder_in S.calls folder.entry;
+          lines = lines_at [] [];
+          teller = starts F.calls (L.contents log) telling.entry;
+        }) last) how (fault_of result.0.ended.result) (O.writes outlet.old) (O.writes outlet.new)
         (D.state disk) (D.state result.0.ended.disk)
-        × EndsTelling (fault_of result.0.ended.result) how.turns last (L.contents result.1) }
+        × EndsTelling (fault_of result.0.ended.result) how.turns last.teller (L.contents result.1) }
 {
     match folder {
         Some(followed) => {
             let update = looks_at(alloc, followed, how);
             let (ended, looks, log) = play_telling(alloc, disk, update, outlet, telling, log, how);
-            (PlayEnd::looking(ended, looks, LineNotes::new()), log)
+            (PlayEnd::looking(ended, looks, CallLog::new()), log)
         }
         None => {
             let update = NoUpdate;
             let (ended, _, log) = play_telling(alloc, disk, update, outlet, telling, log, how);
-            (PlayEnd::unwatched(ended, LineNotes::new()), log)
+            (PlayEnd::unwatched(ended, CallLog::new()), log)
         }
     }
 }
@@ -145,7 +168,7 @@ pub fn play_disk<S: Shelf + Drop, F: System + Drop, D: Disk, O: Outlet, L: Write
 /// files in a folder before the first packet and then after every so many, as
 /// `mot_feed_lines::Lines` does: a command may come within a turn. The lines about both are written
 /// to the log.
-pub fn play_and_answer<S: Shelf + Drop, F: System + Drop, D: Disk, O: Outlet, L: Write + Drop>(
+pub fn play_and_answer<S: System + Drop, F: System + Drop, D: Disk, O: Outlet, L: Write + Drop>(
     alloc: Global,
     disk: D,
     outlet: &mut O,
@@ -156,15 +179,17 @@ pub fn play_and_answer<S: Shelf + Drop, F: System + Drop, D: Disk, O: Outlet, L:
     how: Manner,
 ) -> (PlayEnd<D>, L)
     ensures { let same = ⟦<LookEvent as PartialEq>⟧.eq in
-        (last : TellerView) × Plays (tale_told same
-        (watched folder.entry (λ followed. watch_in how (S.path followed.shelf)
+        (last : BesideView) × HandsOut (fault_of result.0.ended.result) last result.0.beside
+        × Plays (tale_told same
+        (watched folder.entry (λ followed. watch_in how (reader_path followed.shelf)
         followed.types.now followed.allows_empty))
-        (Some (lines.entry.hand, lines.entry.every - 1)) how result.0.beside.looks.all
-        (reads_of result.0.beside.lines) result.0.any_refused
-        (starts F.calls (L.contents log) telling.entry) last)
-        how (fault_of result.0.ended.result) (O.writes outlet.old) (O.writes outlet.new)
+        (Some (lines.entry.hand, lines.entry.every - 1)) how result.0.any_refused (record {
+          folder = folder_in S.calls folder.entry;
+          lines = lines_at lines.entry.place.path.now (F.calls lines.entry.place.system);
+          teller = starts F.calls (L.contents log) telling.entry;
+        }) last) how (fault_of result.0.ended.result) (O.writes outlet.old) (O.writes outlet.new)
         (D.state disk) (D.state result.0.ended.disk)
-        × EndsLines (fault_of result.0.ended.result) how.turns last (L.contents result.1) }
+        × EndsLines (fault_of result.0.ended.result) how.turns last.teller (L.contents result.1) }
 {
     match folder {
         Some(followed) => {
@@ -198,8 +223,8 @@ fn play_telling<D: Disk, U: Update + Facts + Drop, F: System + Drop, O: Outlet, 
 ) -> (Ended<D, ()>, U, L)
     ensures { let same = ⟦<LookEvent as PartialEq>⟧.eq in
         (last : TellerView) × Plays (tale_of (tells_alone_of same U.known U.tells) how
-        (beside update [] (starts F.calls (L.contents log) telling.entry))
-        (beside result.1 [] last)) how (fault_of result.0.result) (O.writes outlet.old)
+        (beside update (tt {0}) [] (starts F.calls (L.contents log) telling.entry))
+        (beside result.1 (tt {0}) [] last)) how (fault_of result.0.result) (O.writes outlet.old)
         (O.writes outlet.new) (D.state disk) (D.state result.0.disk)
         × EndsTelling (fault_of result.0.result) how.turns last (L.contents result.2) }
 {
@@ -226,8 +251,8 @@ fn feed_reported<D: Disk, U: Update + Facts + Drop, T: Watch + Drop, O: Outlet>(
     feed_disk(alloc, disk, reported, outlet, how)
 }
 
-/// The same as `play_telling`, with answers to the lines of the files in a folder. What was read of
-/// them is handed out, too.
+/// The same as `play_telling`, with answers to the lines of the files in a folder. The calls on it are
+/// handed out, too.
 fn play_answering<D: Disk, U: Update + Facts + Drop, F: System + Drop, O: Outlet, L: Write + Drop>(
     alloc: Global,
     disk: D,
@@ -237,12 +262,13 @@ fn play_answering<D: Disk, U: Update + Facts + Drop, F: System + Drop, O: Outlet
     telling: Telling<'_, F>,
     log: L,
     how: Manner,
-) -> (Ended<D, ()>, U, L, LineNotes)
+) -> (Ended<D, ()>, U, L, CallLog)
     ensures { let same = ⟦<LookEvent as PartialEq>⟧.eq in
-        (last : SourcesOf U) × (last.update ≡ result.1) × (last.lines ≡ reads_of result.3)
-        × Plays (tale_of (tells_lines_of same (lines.entry.every - 1) U.known U.tells) how
-        (beside update lines.entry.hand (starts F.calls (L.contents log) telling.entry))
-        last) how (fault_of result.0.result) (O.writes outlet.old)
+        (last : SourcesOf U SpoolView) × (last.update ≡ result.1)
+        × EndsReading (fault_of result.0.result) last.lines result.3.all
+        × Plays (tale_of (tells_lines_of same GaveLines (lines.entry.every - 1) U.known U.tells) how
+        (beside update (lines_at lines.entry.place.path.now (F.calls lines.entry.place.system))
+        lines.entry.hand (starts F.calls (L.contents log) telling.entry)) last) how (fault_of result.0.result) (O.writes outlet.old)
         (O.writes outlet.new) (D.state disk) (D.state result.0.disk)
         × EndsLines (fault_of result.0.result) how.turns last.teller (L.contents result.2) }
 {
@@ -251,7 +277,12 @@ fn play_answering<D: Disk, U: Update + Facts + Drop, F: System + Drop, O: Outlet
     let fed = feed_lines(alloc, disk, &mut lines, outlet, how);
     let ended = end_lines(alloc, fed, how.turns, &mut lines);
     let (spool, update, watch) = lines.into_parts();
-    (ended, update, watch.into_log(), spool.into_lines())
+    (
+        ended,
+        update,
+        watch.into_log(),
+        spool.into_system().into_calls(),
+    )
 }
 
 /// Opens the disk and feeds it into the outlet with lines behind updates that are watched.
@@ -262,26 +293,26 @@ fn feed_lines<D: Disk, R: Inlet + Drop, U: Update + Facts + Drop, T: Watch + Dro
     outlet: &mut O,
     how: Manner,
 ) -> Fed<D>
-    ensures { Plays (tale_of (tells_answered (HearsAll T.hears T.misses) T.begins T.ends R.gave U.known
-        U.tells) how lines.old lines.new) how (ending_of result)
+    ensures { Plays (tale_of (tells_answered (HearsAll T.hears T.misses) T.begins T.ends R.gave R.view
+        U.known U.tells) how lines.old lines.new) how (ending_of result)
         (O.writes outlet.old) (O.writes outlet.new) (D.state disk) (D.state (disk_of result)) }
 {
     feed_disk(alloc, disk, lines, outlet, how)
 }
 
 /// Looks at the folder while a disk is played so: after so many packets, if looks come within turns.
-fn looks_at<'a, S: Shelf + Drop>(
+fn looks_at<'a, S: System + Drop>(
     alloc: Global,
     followed: Followed<'a, S>,
     how: Manner,
 ) -> Looks<'a, S>
-    ensures watch { watch (S.path result.folder.shelf) result.folder.types.now
+    ensures watch { watch (reader_path result.folder.shelf) result.folder.types.now
         result.folder.allows_empty result.every result.within
-        ≡ watch_in how (S.path followed.entry.shelf) followed.entry.types.now
+        ≡ watch_in how (reader_path followed.entry.shelf) followed.entry.types.now
         followed.entry.allows_empty }
-    ensures none { so_far result.left result.looks.all result.any_refused
+    ensures none { so_far result.left (view S.calls result.folder.shelf) result.any_refused
         (looks_known result.count result.folder.report.events.items result.before.items)
-        result.folder.files.known.items ≡ no_looks }
+        result.folder.files.known.items ≡ no_looks (view S.calls followed.entry.shelf) }
 {
     let Followed {
         shelf,
@@ -306,7 +337,8 @@ fn lines_between<'a, F: System + Drop, U: Update + Facts + Drop, T: Watch + Drop
     ensures hand { result.intake.hand ≡ lines.entry.hand }
     ensures every { result.between ≡ lines.entry.every - 1 }
     ensures due { result.left ≡ 0 }
-    ensures unread { spool_gave result.reader ≡ [] }
+    ensures unread { spool_view F.calls result.reader
+        ≡ lines_at lines.entry.place.path.now (F.calls lines.entry.place.system) }
     ensures reported { result.reported ≡ reported }
 {
     let LineFolder { place, hand, every } = lines;
@@ -369,7 +401,8 @@ fn end_lines<'a, D: Disk, U: Update + Facts + Drop, F: System + Drop, L: Write +
     turns: u64,
     lines: &mut Lines<Spool<'a, F>, U, Reporter<'_, F, L>>,
 ) -> Ended<D, ()>
-    ensures lines { spool_gave lines.new.reader ≡ spool_gave lines.old.reader }
+    ensures lines { EndsReading (ending_of fed) (spool_view F.calls lines.old.reader)
+        (F.calls (spool_system lines.new.reader)) }
     ensures update { lines.new.reported.update ≡ lines.old.reported.update }
     ensures ended { IsEndOf fed result }
     ensures told { EndsLines (ending_of fed) turns
@@ -395,7 +428,10 @@ fn finish<'a, F: System + Drop, U: Update + Facts + Drop, T: Watch + Drop>(
     lines: &mut Lines<Spool<'a, F>, U, T>,
     is_ended: bool,
 )
-    ensures lines { spool_gave lines.new.reader ≡ spool_gave lines.old.reader }
+    ensures lines { (F.calls (spool_system lines.new.reader)
+        ≡ F.calls (spool_system lines.old.reader)) ⊎ ((is_ended ≡ true)
+        × Finishes (open_file lines.old.reader) (F.calls (spool_system lines.old.reader))
+        (F.calls (spool_system lines.new.reader))) }
     ensures update { lines.new.reported.update ≡ lines.old.reported.update }
     ensures stays { is_ended ≡ false → lines.new ≡ lines.old }
     ensures finishes { is_ended ≡ true → lines.old.intake.hand ≡ bytes_in_hand []

@@ -1,8 +1,8 @@
 -- What packets go to, and how it is opened. Each relation goes from the calls that were made before
 -- to those that were made then.
 use Rattle.std.specs.Prelude.{ℕ, ◌≡◌, ◌≢◌, ◌↔◌, List, [], ◌∷◌, ◌++◌, codes, Option, Some, None}
-use Rattle.std.specs.Prelude.{Bool, true, false, Result, Ok, Err, nat_lt, ◌==◌, if◌then◌else◌}
-use Rattle.std.specs.Prelude.{string_bytes}
+use Rattle.std.specs.Prelude.{Bool, true, false, Result, Ok, Err, nat_eq, nat_lt, ◌==◌}
+use Rattle.std.specs.Prelude.{if◌then◌else◌, string_bytes}
 use Rattle.mot_destinations.specs.Names.{IsOfDisk, folder_of}
 use Rattle.mot_destinations.specs.Placing.{Begins, IsOfMemory, TakesAway, is_answer_of, told_as}
 use Rattle.mot_destinations.specs.Placing.{told_of}
@@ -16,9 +16,11 @@ use Rattle.mot_destinations.specs.declared.packets.PacketWriter.{PacketWriter}
 use Rattle.mot_destinations.specs.declared.packets.Place.{Place}
 use Rattle.mot_destinations.specs.declared.packets.Target.{Target}
 use Rattle.mot_destinations.specs.declared.packets.Target.TheVariants.{File, Output, Stream}
-use Rattle.mot_destinations.specs.declared.taken.Taken.{Taken}
-use Rattle.mot_files.specs.Call.{Call, followed, locked, looked_at, opened, told_terminal, wrote}
+use Rattle.mot_files.specs.Call.{Call, followed, given, locked, looked_at, opened, told_terminal}
+use Rattle.mot_files.specs.Call.{wrote}
 use Rattle.mot_files.specs.Placing.{Places}
+use Rattle.mot_files.specs.declared.system.Event.{Event}
+use Rattle.mot_files.specs.declared.system.Event.TheVariants.{Wrote}
 use Rattle.mot_files.specs.declared.system.Fault.{Fault}
 use Rattle.mot_files.specs.declared.system.Fault.TheVariants.{Absent, Busy, System}
 use Rattle.mot_files.specs.declared.system.Handle.{Handle}
@@ -53,17 +55,21 @@ writer_handle writer = writer.handle
 abbrev pub writer_system : {S : Type 0} → PacketWriter S → S
 writer_system writer = writer.system
 
--- the path by which it was opened, and then what each write took
-abbrev pub writes_of : Taken → List (List ℕ)
-writes_of taken = taken.notes.all
+-- what stands for a call that is no write to the handle: a mark that is no byte, and its number
+abbrev pub mark : Handle → List ℕ
+mark handle = 256 ∷ handle.slot ∷ []
 
--- the file that was opened by that path took its place
-abbrev pub IsPlaced : Taken → Type 0
-IsPlaced taken = taken.is_placed ≡ true
+-- what a write to the handle took: the first of its bytes, or nothing if it failed
+abbrev pub sent_by : Handle → Event → (bytes : List ℕ) → List ℕ
+sent_by handle (Wrote other answer) bytes =
+    if nat_eq other.slot handle.slot then given bytes answer else mark handle
+sent_by handle event bytes = mark handle
 
--- what is noted before packets are written: the path by which that was opened
-abbrev pub begun_of : {S : Type 0} → OpenPackets S → List (List ℕ)
-begun_of opened = writes_of opened.writer.taken
+-- What each of these calls sent to the handle, in order. So where it goes on by packets, nothing else
+-- was asked of the system meanwhile.
+abbrev pub writes_to : Handle → List Call → List (List ℕ)
+writes_to handle [] = []
+writes_to handle (call ∷ calls) = sent_by handle call.what call.bytes ∷ writes_to handle calls
 
 -- why a packet was not taken whole, or what was known before
 abbrev pub fault_after : Option PacketsFault → (len : ℕ) → Result ℕ Fault → Option PacketsFault
@@ -184,10 +190,7 @@ pub data OpensInto (path disk : List ℕ) (handle : Handle) (old new : List Call
       → IsPlace path disk (Ok found) old inner → BeginsBeside path disk handle place inner new
       → OpensInto path disk handle old new (Destination.File place)
 
--- what was opened, by which path, and where packets go that are written to it
-abbrev pub opening_path : Opening → List ℕ
-opening_path opening = opening.path.now
-
+-- what was opened, and where packets go that are written to it
 abbrev pub opening_handle : Opening → Handle
 opening_handle opening = opening.handle
 

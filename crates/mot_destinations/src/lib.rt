@@ -6,11 +6,9 @@ mod fault;
 mod new_file;
 mod packets;
 mod status_file;
-mod taken;
 
 pub use beside::{SUFFIX, folder_of, leads_to};
 pub use fault::{Cause, LinesFault, NewDiskFault, PacketsFault, TypesFault, Unbegun};
 pub use new_file::NewPlace;
 pub use packets::{Destination, OUTPUT, OpenPackets, Opening, PacketWriter, Target, open_packets};
 pub use status_file::StatusFile;
-pub use taken::Taken;

@@ -1,15 +1,13 @@
 //! What the packets of `play` go to.
 ghost use Rattle.std.specs.Prelude.{◌≡◌, ◌≢◌, ◌≤◌, ◌↔◌, ◌∷◌, ◌++◌, ℕ, [], None, Some, IfOk, IsTrue};
-ghost use Rattle.std.specs.Prelude.{MatchResult, OnOk, Ok, Result, length, take};
+ghost use Rattle.std.specs.Prelude.{MatchResult, Ok, Result, length, take};
 ghost use Rattle.mot_destinations.specs.Packets.{BeginsBeside, BeginsNone, IsAnswer, IsPlace};
-ghost use Rattle.mot_destinations.specs.Packets.{IsPlaced, OpensPackets, fault_of_turns};
+ghost use Rattle.mot_destinations.specs.Packets.{IsReason, IsTakenAway, OpensOutput, OpensPackets};
+ghost use Rattle.mot_destinations.specs.Packets.{OpensStream, TakesItsPlace, TakesPlace, TellsWhy};
+ghost use Rattle.mot_destinations.specs.Packets.{destination_of, fault_after, fault_of_turns};
 ghost use Rattle.mot_destinations.specs.Packets.{opening_destination, opening_handle};
-ghost use Rattle.mot_destinations.specs.Packets.{opening_parts, opening_path};
-ghost use Rattle.mot_destinations.specs.Packets.{IsReason, IsTakenAway, IsTarget, OpensInto};
-ghost use Rattle.mot_destinations.specs.Packets.{OpensOutput, OpensStream, TakesItsPlace};
-ghost use Rattle.mot_destinations.specs.Packets.{TakesPlace, TellsWhy, begun_of, destination_of};
-ghost use Rattle.mot_destinations.specs.Packets.{fault_after, place_of, place_without, target_of};
-ghost use Rattle.mot_destinations.specs.Packets.{writer_handle, writer_system, writes_of};
+ghost use Rattle.mot_destinations.specs.Packets.{opening_parts, place_of, place_without, target_of};
+ghost use Rattle.mot_destinations.specs.Packets.{writer_handle, writer_system, writes_to};
 ghost use Rattle.mot_destinations.specs.declared.packets.Target.{Target};
 ghost use Rattle.mot_files.specs.Call.{wrote};
 ghost use Rattle.mot_files.specs.declared.system.Fault.{Fault};
@@ -19,12 +17,10 @@ ghost use Rattle.mot_packets.specs.Outlet.{Grows};
 use crate::beside::{SUFFIX, folder_of, is_of_disk, leads_to};
 use crate::fault::{Cause, PacketsFault};
 use crate::new_file::{NewPlace, begin, take_away};
-use crate::taken::Taken;
-use mot_files::{Fault, Handle, How, Kind, Seen, System, take_place};
+use mot_files::{CallLog, Fault, Handle, How, Kind, Seen, System, take_place};
 use mot_packets::Outlet;
 use std::alloc::{AllocError, Global};
 use std::io;
-use std::mem::replace;
 
 /// The word that names standard output.
 pub const OUTPUT: &str = "-";
@@ -66,27 +62,10 @@ pub enum Destination<'a> {
 /// What a path names, as it was opened to take packets. Only `open_packets` makes one.
 #[derive(Drop)]
 pub struct Opening<'a> {
-    path: &'a str,
     /// What is written to.
     handle: Handle,
     /// Where the packets go.
     destination: Destination<'a>,
-}
-
-impl<'a> Opening<'a> {
-    fn of(path: &'a str, handle: Handle, destination: Destination<'a>) -> Opening<'a>
-        ensures { result ≡ record {
-          path = path.entry;
-          handle = handle;
-          destination = destination.entry;
-        } }
-    {
-        Opening {
-            path,
-            handle,
-            destination,
-        }
-    }
 }
 
 /// What was opened to take packets.
@@ -102,12 +81,10 @@ impl<'a, S: System + Drop> OpenPackets<'a, S> {
     /// What was opened, in this system of files. Nothing was written to it.
     pub fn new(system: S, opening: Opening<'a>) -> OpenPackets<'a, S>
         ensures destination { destination_of result ≡ opening_destination opening.entry }
-        ensures begun { begun_of result ≡ opening_path opening.entry ∷ [] }
         ensures handle { writer_handle result.writer ≡ opening_handle opening.entry }
         ensures system { writer_system result.writer ≡ system }
     {
         let Opening {
-            path,
             handle,
             destination,
         } = opening;
@@ -116,7 +93,6 @@ impl<'a, S: System + Drop> OpenPackets<'a, S> {
                 system,
                 handle,
                 fault: None,
-                taken: Taken::of(path),
             },
             destination,
         }
@@ -134,12 +110,10 @@ impl<'a, S: System + Drop> OpenPackets<'a, S> {
     }
 
     /// Makes a new file last, and then its name: at each moment the name is that of the old file,
-    /// or of the new one, whole. It is noted beside what was written. If that fails, the file is
-    /// taken away.
+    /// or of the new one, whole. If that fails, the file is taken away.
     pub fn take_place(&mut self) -> Result<(), PacketsFault>
-        ensures same { writes_of self.new.writer.taken ≡ writes_of self.old.writer.taken }
-        ensures placed { target_of self.old ≡ Target.File
-            → OnOk result (IsPlaced self.new.writer.taken) }
+        ensures handle { writer_handle self.new.writer ≡ writer_handle self.old.writer }
+        ensures destination { destination_of self.new ≡ destination_of self.old }
         ensures others { target_of self.old ≢ Target.File → result ≡ Ok tt }
         ensures calls { TakesItsPlace (destination_of self.old) (writer_handle self.old.writer)
             result
@@ -149,16 +123,16 @@ impl<'a, S: System + Drop> OpenPackets<'a, S> {
             return Ok(());
         };
         let PacketWriter { system, handle, .. } = &mut self.writer;
-        if let Err(fault) = put_in_place(system, *handle, place) {
-            return Err(PacketsFault::from(fault));
+        match put_in_place(system, *handle, place) {
+            Ok(()) => Ok(()),
+            Err(fault) => Err(PacketsFault::from(fault)),
         }
-        self.writer.taken.placed();
-        Ok(())
     }
 
     /// Leaves nothing of a new file.
     pub fn take_away(&mut self)
-        ensures taken { self.new.writer.taken ≡ self.old.writer.taken }
+        ensures handle { writer_handle self.new.writer ≡ writer_handle self.old.writer }
+        ensures destination { destination_of self.new ≡ destination_of self.old }
         ensures calls { IsTakenAway (destination_of self.old) (writer_handle self.old.writer)
             (S.calls (writer_system self.old.writer)) (S.calls (writer_system self.new.writer)) }
     {
@@ -171,17 +145,16 @@ impl<'a, S: System + Drop> OpenPackets<'a, S> {
         }
     }
 
-    /// Hands out what its writes took.
-    pub fn hand_out(&mut self) -> Taken
-        ensures { result ≡ self.old.writer.taken }
+    /// The calls of its system so far, as a list that only clauses read. No more are made.
+    pub fn into_calls(self) -> CallLog
+        ensures { result.all ≡ S.calls (writer_system self.entry.writer) }
     {
-        replace(&mut self.writer.taken, Taken::nothing())
+        self.writer.system.into_calls()
     }
 
     /// Why packets were not taken, if they were not. If one was cut in a new file, it is what the
     /// system says of a further write: the file is given up anyway.
     pub fn reason(&mut self) -> Option<Cause>
-        ensures same { self.new.writer.taken ≡ self.old.writer.taken }
         ensures handle { writer_handle self.new.writer ≡ writer_handle self.old.writer }
         ensures destination { destination_of self.new ≡ destination_of self.old }
         ensures told { IsReason (destination_of self.old) (writer_handle self.old.writer)
@@ -229,13 +202,15 @@ pub fn open_packets<'a, S: System>(
     disk: &str,
     turns: Option<u32>,
 ) -> Result<Opening<'a>, Cause>
-    ensures path { IfOk result (λ opening. opening_path opening ≡ path.now) }
     ensures calls { OpensPackets path.now disk.now turns (opening_parts result)
         (S.calls system.old) (S.calls system.new) }
 {
     if path == OUTPUT {
         return match open_output(system, path) {
-            Ok(handle) => Ok(Opening::of(path, handle, Destination::Output)),
+            Ok(handle) => Ok(Opening {
+                handle,
+                destination: Destination::Output,
+            }),
             Err(fault) => Err(Cause::Packets(fault)),
         };
     }
@@ -245,7 +220,10 @@ pub fn open_packets<'a, S: System>(
     };
     if let Place::Stream = place {
         return match open_stream(system, path) {
-            Ok(handle) => Ok(Opening::of(path, handle, Destination::Stream)),
+            Ok(handle) => Ok(Opening {
+                handle,
+                destination: Destination::Stream,
+            }),
             Err(fault) => Err(Cause::Packets(fault)),
         };
     }
@@ -253,7 +231,10 @@ pub fn open_packets<'a, S: System>(
         return Err(Cause::Packets(fault));
     }
     match new_file(system, alloc, path, disk) {
-        Ok((handle, place)) => Ok(Opening::of(path, handle, Destination::File(place))),
+        Ok((handle, place)) => Ok(Opening {
+            handle,
+            destination: Destination::File(place),
+        }),
         Err(fault) => Err(Cause::NewFile(fault)),
     }
 }
@@ -383,9 +364,9 @@ fn place_of(found: &Seen) -> Result<Place, PacketsFault>
     }
 }
 
-/// A writer of packets, each in one write that is handed on at once. Only `open_packets` makes one,
-/// of what it opened by the path that is noted first. It keeps why one was not written. What each
-/// write took is noted, and nothing else writes to the handle.
+/// A writer of packets, each in one write that is handed on at once. It is made of what
+/// `open_packets` opened, and keeps why a packet was not written. What each write took is read off
+/// the calls of its system.
 #[derive(Drop)]
 pub struct PacketWriter<S: System + Drop> {
     system: S,
@@ -393,14 +374,11 @@ pub struct PacketWriter<S: System + Drop> {
     handle: Handle,
     /// Why the last packet was not taken.
     pub fault: Option<PacketsFault>,
-    /// By which path it was opened, and what each write took.
-    pub taken: Taken,
 }
 
 impl<S: System + Drop> PacketWriter<S> {
     /// Why a packet was not taken: if it was cut, what the system says of a further write.
     fn why(&mut self, fault: PacketsFault) -> PacketsFault
-        ensures same { self.new.taken ≡ self.old.taken }
         ensures handle { self.new.handle ≡ self.old.handle }
         ensures told { TellsWhy self.old.handle fault result (S.calls self.old.system)
             (S.calls self.new.system) }
@@ -416,14 +394,19 @@ impl<S: System + Drop> PacketWriter<S> {
 }
 
 impl<S: System + Drop> Outlet for PacketWriter<S> {
-    ghost writes = { λ outlet. Some (writes_of outlet.taken) };
+    ghost writes = { λ outlet.
+        Some (writes_to (writer_handle outlet) (S.calls (writer_system outlet))) };
 
     fn write_once(&mut self, bytes: &[u8]) -> io::Result<usize>
         ensures bound { IfOk result (λ count. count ≤ length bytes.now) }
         ensures one { MatchResult result
-            (λ count. Grows (Some (writes_of self.old.taken)) (Some (writes_of self.new.taken))
+            (λ count. Grows
+            (Some (writes_to (writer_handle self.old) (S.calls (writer_system self.old))))
+            (Some (writes_to (writer_handle self.new) (S.calls (writer_system self.new))))
             (take count bytes.now ∷ []))
-            (λ _. Grows (Some (writes_of self.old.taken)) (Some (writes_of self.new.taken))
+            (λ _. Grows
+            (Some (writes_to (writer_handle self.old) (S.calls (writer_system self.old))))
+            (Some (writes_to (writer_handle self.new) (S.calls (writer_system self.new))))
             ([] ∷ [])) }
         ensures handle { writer_handle self.new ≡ writer_handle self.old }
 
@@ -436,7 +419,7 @@ impl<S: System + Drop> Outlet for PacketWriter<S> {
     {
         let answer = self.system.write(self.handle, bytes);
         self.fault = fault_after(self.fault, bytes.len(), answer);
-        self.taken.wrote(bytes, told(answer))
+        told(answer)
     }
 }
 

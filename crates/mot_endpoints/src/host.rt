@@ -1,20 +1,22 @@
 //! What a program has of the system to come to its files by: no path is opened, made as a disk or
 //! removed but through it.
-ghost use Rattle.std.specs.Prelude.{◌≡◌, ◌≢◌, ◌≤◌, ◌∷◌, ◌++◌, [], Err, IfErr, List, None, Ok, Some, IfOk, MatchResult};
+ghost use Rattle.std.specs.Prelude.{◌≡◌, ◌≢◌, ◌≤◌, ◌∷◌, ◌++◌, [], Err, IfErr, List, None, Ok, Some, IfOk};
 ghost use Rattle.std.specs.Prelude.{codes, false, length, true};
 ghost use Rattle.disk_store.specs.Beginning.{IsFirst};
 ghost use Rattle.disk_store.specs.File.{file_state};
 ghost use Rattle.mot_endpoints.specs.LinePlaces.{ChecksLines};
 ghost use Rattle.mot_endpoints.specs.Opened.{note_of, paths_of};
-ghost use Rattle.mot_destinations.specs.Packets.{IsTarget, OpensInto, OpensPackets, begun_of};
+ghost use Rattle.mot_destinations.specs.Packets.{IsTarget, OpensInto, OpensPackets};
 ghost use Rattle.mot_destinations.specs.Packets.{destination_of};
 ghost use Rattle.mot_files.specs.Call.{Call};
 ghost use Rattle.mot_destinations.specs.Packets.{target_of, writer_handle, writer_system};
 ghost use Rattle.mot_destinations.specs.Status.{status_disk, status_system};
 ghost use Rattle.mot_files.specs.Host.{calls_of};
-ghost use Rattle.mot_shelf.specs.System.{reads_at_once, shelf_path, shelf_system};
+ghost use Rattle.mot_shelf.specs.Reader.{view};
+ghost use Rattle.mot_shelf.specs.View.{folder_at};
 
 use crate::lines::{Others, check_folder};
+use crate::pairs::Pairs;
 use crate::types::read_text;
 use disk_store::{BegunFile, SideFile, Start, Unopened, WasMade, WasThere, make_file, open_file};
 use mot_destinations::{
@@ -22,7 +24,7 @@ use mot_destinations::{
 };
 use mot_files::HostSystem;
 use mot_line_folder::LinePlace;
-use mot_shelf::{Pairs, SystemShelf};
+use mot_shelf::FolderReader;
 use std::alloc::Global;
 
 /// The files of the machine, by their paths. Each method comes to the files of the path that it
@@ -148,7 +150,6 @@ impl<'a> Host<'a> {
         turns: Option<u32>,
     ) -> Result<OpenPackets<'a, HostSystem<'a, HostRuntime>>, Cause>
         ensures target { IfOk result (λ opened. IsTarget path.now (target_of opened)) }
-        ensures begun { IfOk result (λ opened. begun_of opened ≡ path.now ∷ []) }
         ensures turns { IfOk result (λ opened. target_of opened ≡ Target.File
             → (turns ≢ None) × (turns ≢ Some 0)) }
         ensures paths { paths_of self.new
@@ -174,14 +175,12 @@ impl<'a> Host<'a> {
         &mut self,
         path: &'a str,
         at_once: bool,
-    ) -> SystemShelf<'a, HostSystem<'a, HostRuntime>>
-        ensures none { calls_of (shelf_system result) ≡ [] }
-        ensures path { shelf_path result ≡ path.now }
-        ensures rule { reads_at_once result ≡ at_once }
+    ) -> FolderReader<'a, HostSystem<'a, HostRuntime>>
+        ensures view { view calls_of result ≡ folder_at path.now at_once [] }
         ensures paths { paths_of self.new ≡ paths_of self.old ++ (codes "folder", path.now) ∷ [] }
     {
         self.paths.note(b"folder", path.as_bytes());
-        SystemShelf::new(self.system(), path, at_once)
+        FolderReader::new(self.system(), path, at_once)
     }
 
     /// The folder of lines at the path, of which nothing was read. It is not that of the objects,

@@ -4,6 +4,7 @@
 
 mod host;
 mod lines;
+mod pairs;
 mod types;
 
 pub use host::Host;

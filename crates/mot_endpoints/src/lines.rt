@@ -1,11 +1,12 @@
 //! Which folder lines may come from while a disk is played.
-ghost use Rattle.std.specs.Prelude.{◌≡◌, ◌++◌, ◌↔◌, IfErr, IfOk, IfSome, IsTrue, MatchResult, codes};
+ghost use Rattle.std.specs.Prelude.{◌≡◌, ◌++◌, ◌↔◌, IfErr, IfOk, IfSome, IsTrue, MatchResult, Ok, codes};
 ghost use Rattle.std.specs.Prelude.{[], is_none, option_map, unwrap_or};
 ghost use Rattle.mot_endpoints.specs.LinePlaces.{ChecksLines, IsApart, IsApartFrom, IsObjects};
 ghost use Rattle.mot_endpoints.specs.LinePlaces.{IsRefused, IsUnresolved, LeadsInto, PacketsApart};
 ghost use Rattle.mot_endpoints.specs.LinePlaces.{StandsIn, TypesApart};
 ghost use Rattle.mot_endpoints.specs.Lines.{IsUnlined};
 ghost use Rattle.mot_endpoints.specs.Opened.{BeginsTo, named, paths_of};
+ghost use Rattle.mot_files.specs.Host.{calls_of};
 ghost use Rattle.mot_files.specs.declared.system.Kind.TheVariants.{Folder};
 ghost use Rattle.mot_line_folder.specs.declared.folder.LineFolder.{LineFolder};
 
@@ -52,6 +53,8 @@ pub fn line_folder<'a>(
     ensures every { IfOk result (λ lines. IfSome lines (λ l. l.every ≡ unwrap_or every EVERY)) }
     ensures hand { IfOk result (λ lines. option_map (λ lines. lines.hand) lines
         ≡ option_map (λ _. []) path.entry) }
+    ensures checked { IfOk result (λ lines. IfSome lines (λ l. ChecksLines l.place.path.now
+        others.entry (Ok tt) [] (calls_of l.place.system))) }
     ensures refused { IfErr result (λ unbegun. IsUnlined path.entry unbegun.refusal) }
     ensures opens { MatchResult result
         (λ _. paths_of host.new ≡ paths_of host.old ++ named (codes "lines") path.entry)

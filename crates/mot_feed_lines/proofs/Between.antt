@@ -1,5 +1,5 @@
 -- Updates one after the other.
-use Rattle.std.proofs.Common.{◌≡◌, ℕ, ◌<◌, Bool, true, false, List, [], ◌∷◌, ◌++◌, Option, None}
+use Rattle.std.proofs.Common.{◌≡◌, ℕ, ◌<◌, Bool, true, false, List, [], ◌++◌, Option, None}
 use Rattle.std.proofs.Common.{refl, sym, subst, ◌-◌, arith, zero, suc}
 use Rattle.std.proofs.lemmas.Slice.Eq.{bytes_eq-Decides}
 use Rattle.std.specs.Prelude.{◌≢◌, ◌⊎◌, ⊤, Decides, bytes_eq}
@@ -58,21 +58,21 @@ module _ {D : Type 0} (state : D → State) where
 
   -- lines that were taken tell of their commands
   pub updating_lines : (old new : ServerView D) (s : Standing) (fault : Option Refusal)
-      (hand then_hand : List ℕ) (earlier later : List (List ℕ)) {T : Type 0}
-      (Hears : T → List Entry → T → Type 0) (before now : T)
+      (hand then_hand : List ℕ) {V : Type 0} (earlier later : V) {T : Type 0}
+      (Hears : T → List Entry → T → Type 0) (Gives : V → V → List ℕ → Type 0) (before now : T)
       → Holds old.view s (state old.disk) → (state new.disk).IsHonest
       → IsUpdating (λ _ _ _ _. ⊤) old new (state old.disk) (state new.disk) s fault
       → ((input : List ℕ) → hand ≡ bytes_in_hand (rest_of input)
-      → (more : List ℕ) × (later ≡ earlier ++ more ∷ [])
+      → (more : List ℕ) × Gives earlier later more
       × TakesMore state old new input more fault then_hand Hears before now)
-      → IsUpdating (λ _. TellsLines Hears before now hand then_hand earlier later) old new
+      → IsUpdating (λ _. TellsLines Hears Gives before now hand then_hand earlier later) old new
       (state old.disk) (state new.disk) s fault
-  updating_lines old new s fault hand then_hand earlier later Hears before now holds honest anyhow
-      takes =
+  updating_lines old new s fault hand then_hand earlier later Hears Gives before now holds honest
+      anyhow takes =
       cases (bytes_eq hand (bytes_in_hand (rest_of hand))) (bytes_eq-Decides hand _)
     where
       of_these : IsInHand hand
-          → IsUpdating (λ _. TellsLines Hears before now hand then_hand earlier later) old new
+          → IsUpdating (λ _. TellsLines Hears Gives before now hand then_hand earlier later) old new
           (state old.disk) (state new.disk) s fault
       of_these is =
           let read = takes hand is in
@@ -103,7 +103,7 @@ module _ {D : Type 0} (state : D → State) where
           }
 
       cases : (b : Bool) → Decides b (IsInHand hand)
-          → IsUpdating (λ _. TellsLines Hears before now hand then_hand earlier later) old new
+          → IsUpdating (λ _. TellsLines Hears Gives before now hand then_hand earlier later) old new
           (state old.disk) (state new.disk) s fault
       cases true is = of_these (is.0 refl)
       cases false is = record {
@@ -143,13 +143,14 @@ module _ {D : Type 0} (state : D → State) where
         };
       }
 
-  module _ {T : Type 0} (Hears : T → List Entry → T → Type 0) where
+  module _ {T : Type 0} (Hears : T → List Entry → T → Type 0)
+      {V : Type 0} (Gives : V → V → List ℕ → Type 0) where
     -- the other update alone
     pub updating_alone : (other : T → Telling) (now : T) (left : ℕ) (hand : List ℕ)
-        (given : List (List ℕ)) (old new : ServerView D) (s : Standing)
+        (given : V) (old new : ServerView D) (s : Standing)
         (fault : Option Refusal) → (0 < left) ⊎ (fault ≢ None)
         → IsUpdating (other now) old new (state old.disk) (state new.disk) s fault
-        → IsUpdating (TellsBetween Hears left hand hand given given other now) old new
+        → IsUpdating (TellsBetween Hears Gives left hand hand given given other now) old new
         (state old.disk) (state new.disk) s fault
     updating_alone other now left hand given old new s fault undue one = record {
       commands = one.commands;
@@ -160,13 +161,13 @@ module _ {D : Type 0} (state : D → State) where
 
     -- and lines behind it
     pub updating_then : (other : T → Telling) (middle now : T) (left : ℕ) (hand then_hand : List ℕ)
-        (earlier later : List (List ℕ)) (old mid new : ServerView D) (s : Standing)
+        (earlier later : V) (old mid new : ServerView D) (s : Standing)
         (fault : Option Refusal) → left ≡ 0
         → IsUpdating (other middle) old mid (state old.disk) (state mid.disk) s None
         → ((t : Standing) → Holds mid.view t (state mid.disk)
-        → IsUpdating (λ _. TellsLines Hears middle now hand then_hand earlier later) mid new
+        → IsUpdating (λ _. TellsLines Hears Gives middle now hand then_hand earlier later) mid new
         (state mid.disk) (state new.disk) t fault)
-        → IsUpdating (TellsBetween Hears left hand then_hand earlier later other now) old new
+        → IsUpdating (TellsBetween Hears Gives left hand then_hand earlier later other now) old new
         (state old.disk) (state new.disk) s fault
     updating_then other middle now left hand then_hand earlier later old mid new s fault due one
         after =
@@ -194,14 +195,15 @@ begun_anew between left due =
 
 -- the same calls with their count
 pub on_time : {D T : Type 0} {Hears : T → List Entry → T → Type 0}
+    {V : Type 0} {Gives : V → V → List ℕ → Type 0}
     {between then_between left then_left : ℕ} {hand then_hand : List ℕ}
-    {earlier later : List (List ℕ)} {other : T → Telling} {at : T} {old new : ServerView D} {start now : State}
+    {earlier later : V} {other : T → Telling} {at : T} {old new : ServerView D} {start now : State}
     {s : Standing} {fault : Option Refusal} → then_between ≡ between
     → (fault ≡ None → then_left ≡ late_behind between left)
-    → IsUpdating (TellsBetween Hears left hand then_hand earlier later other at) old new start now s
-    fault
-    → IsUpdating (TellsOnTime Hears between then_between left then_left hand then_hand earlier later
-    other at) old new start now s fault
+    → IsUpdating (TellsBetween Hears Gives left hand then_hand earlier later other at) old new start
+    now s fault
+    → IsUpdating (TellsOnTime Hears Gives between then_between left then_left hand then_hand earlier
+    later other at) old new start now s fault
 on_time same counts is = record {
   commands = is.commands;
   marks = is.marks;

@@ -77,32 +77,39 @@ module _ {T : Type 0} (Hears : T → List Entry → T → Type 0) where
     pub logged : AreLogged told entries
     pub heard : Hears middle entries now
 
-  -- Behind what earlier reads gave one more read gave this, and behind what was in hand these lines
-  -- have ended with it: these are their commands, and those of them were accepted whose replies say
-  -- so; and that was told.
-  pub record AreOfLines (before now : T) (hand then_hand : List ℕ) (earlier later : List (List ℕ))
+-- how many come before the next call that reads, behind one before which so many came
+abbrev pub late_behind : (between left : ℕ) → ℕ
+late_behind between zero = between
+late_behind between (suc left) = left
+
+-- Who is told of lines was before, and is now; and what gives them is seen so. By what is told one
+-- after the other Hears says, and by what one read gave between two moments Gives.
+module _ {T : Type 0} (Hears : T → List Entry → T → Type 0)
+    {V : Type 0} (Gives : V → V → List ℕ → Type 0) where
+  -- One read gave this, and behind what was in hand these lines have ended with it: these are their
+  -- commands, and those of them were accepted whose replies say so; and that was told.
+  pub record AreOfLines (before now : T) (hand then_hand : List ℕ) (earlier later : V)
       (commands : List command.Command) (marks : List Bool) (fault : Option Refusal) :
       Type 0 where
     pub more : List ℕ
-    pub given : later ≡ earlier ++ more ∷ []
+    pub given : Gives earlier later more
     pub told : List Told
     pub ended : HaveEnded hand (hand ++ more) told fault
     pub are : commands ≡ commands_run told
     pub accepted : accepted_commands commands marks ≡ commands_done told
     pub in_hand : fault ≡ None → then_hand ≡ bytes_in_hand (rest_of (hand ++ more))
-    pub tells : TellsRead told before now
+    pub tells : TellsRead Hears told before now
 
   -- what is told of lines where the hand has what comes behind a line end
-  abbrev pub TellsLines : (before now : T) (hand then_hand : List ℕ)
-      → (earlier later : List (List ℕ)) → List command.Command → List Bool → Option Refusal
-      → Type 0
+  abbrev pub TellsLines : (before now : T) (hand then_hand : List ℕ) (earlier later : V)
+      → List command.Command → List Bool → Option Refusal → Type 0
   TellsLines before now hand then_hand earlier later commands marks fault =
       IsInHand hand → AreOfLines before now hand then_hand earlier later commands marks fault
 
   -- What is told of a call before which so many more come: what the other update tells, where that
   -- broke off or none of the lines was due, nothing is read, and the hand stays; or that, and behind
   -- it what is told of the lines. The other update tells it of what was told up to there.
-  pub data TellsBetween (left : ℕ) (hand then_hand : List ℕ) (earlier later : List (List ℕ))
+  pub data TellsBetween (left : ℕ) (hand then_hand : List ℕ) (earlier later : V)
       (other : T → Telling) (now : T) (c : Carousel) :
       List command.Command → List Bool → Option Refusal → Type 0 where
     other_alone : (commands : List command.Command) (marks : List Bool) (fault : Option Refusal)
@@ -115,23 +122,17 @@ module _ {T : Type 0} (Hears : T → List Entry → T → Type 0) where
         → TellsBetween left hand then_hand earlier later other now c (commands ++ others)
         (marks ++ rest) fault
 
--- how many come before the next call that reads, behind one before which so many came
-abbrev pub late_behind : (between left : ℕ) → ℕ
-late_behind between zero = between
-late_behind between (suc left) = left
-
-module _ {T : Type 0} (Hears : T → List Entry → T → Type 0) where
   -- The same of a call where so many come between two that read, before which so many more came and
   -- behind which so many come, up to a fault.
   abbrev pub TellsInTurn : (between left then_left : ℕ) → (hand then_hand : List ℕ)
-      → (earlier later : List (List ℕ)) → (other : T → Telling) → (now : T) → Telling
+      → (earlier later : V) → (other : T → Telling) → (now : T) → Telling
   TellsInTurn between left then_left hand then_hand earlier later other now c commands marks fault =
       (fault ≡ None → then_left ≡ late_behind between left)
-      × TellsBetween Hears left hand then_hand earlier later other now c commands marks fault
+      × TellsBetween left hand then_hand earlier later other now c commands marks fault
 
   -- calls that go on, with so many between two that read
   abbrev pub TellsOnTime : (between then_between left then_left : ℕ) → (hand then_hand : List ℕ)
-      → (earlier later : List (List ℕ)) → (other : T → Telling) → (now : T) → Telling
+      → (earlier later : V) → (other : T → Telling) → (now : T) → Telling
   TellsOnTime between then_between left then_left hand then_hand earlier later other now c commands
       marks fault =
       (then_between ≡ between)
@@ -177,15 +178,16 @@ module _ {D : Type 0} (state : D → State) where
 
   -- Another update was called, and told up to there, and then more was taken of one read, or nothing
   -- was read.
-  pub record TakesBetween (old new : ServerView D) (before : List ℕ)
-      (earlier later : List (List ℕ)) (hand : List ℕ) {T : Type 0} (other : T → Telling)
-      (Hears : T → List Entry → T → Type 0) (now : T) : Type 0 where
+  pub record TakesBetween (old new : ServerView D) (before : List ℕ) {V : Type 0}
+      (earlier later : V) (hand : List ℕ) {T : Type 0} (other : T → Telling)
+      (Hears : T → List Entry → T → Type 0) (Gives : V → V → List ℕ → Type 0) (now : T) :
+      Type 0 where
     pub mid : ServerView D
     pub start : T
     pub stopped : Option Refusal
     pub updated : (s : Standing) → Holds old.view s (state old.disk) → (state mid.disk).IsHonest
         → IsUpdating (other start) old mid (state old.disk) (state mid.disk) s stopped
     pub more : List ℕ
-    pub given : (later ≡ earlier ++ more ∷ []) ⊎ ((later ≡ earlier) × (more ≡ []))
+    pub given : (Gives earlier later more) ⊎ ((later ≡ earlier) × (more ≡ []))
     pub fault : Option Refusal
     pub takes : TakesMore mid new before more fault hand Hears start now

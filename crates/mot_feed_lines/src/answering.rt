@@ -1,5 +1,5 @@
 //! Answering what there is of an inlet.
-ghost use Rattle.std.specs.Prelude.{◌≡◌, ◌++◌, ◌∷◌, ℕ, List, [], Ok, Err, None, IfNone, IfSome, ⊤};
+ghost use Rattle.std.specs.Prelude.{◌≡◌, ◌++◌, ℕ, List, Ok, Err, None, IfNone, IfSome, ⊤};
 ghost use Rattle.disk_model.specs.Disk.{KeepsLength};
 ghost use Rattle.mot_events.specs.Told.{HearsAll};
 ghost use Rattle.mot_feed_lines.specs.Answering.{AnswersMore, TakesMore, TellsLines, asked_here};
@@ -43,12 +43,12 @@ pub fn answer_there<R: Inlet, T: Tells, D: Disk>(
         (D.state server.old.disk) (D.state server.new.disk) result }
     ensures run { (s : Standing) → Holds server.old.view s (D.state server.old.disk)
         → (D.state server.new.disk).IsHonest
-        → IsUpdating (λ _. TellsLines (HearsAll T.hears T.misses) log.old log.new
-        intake.old.hand intake.new.hand (R.gave reader.old) (R.gave reader.new))
+        → IsUpdating (λ _. TellsLines (HearsAll T.hears T.misses) R.gave log.old log.new
+        intake.old.hand intake.new.hand (R.view reader.old) (R.view reader.new))
         server.old server.new
         (D.state server.old.disk) (D.state server.new.disk) s (fault_of result) }
     ensures answered { (input : List ℕ) → intake.old.hand ≡ bytes_in_hand (rest_of input)
-        → (more : List ℕ) × (R.gave reader.new ≡ R.gave reader.old ++ more ∷ [])
+        → (more : List ℕ) × R.gave (R.view reader.old) (R.view reader.new) more
         × TakesMore D.state server.old server.new input more (fault_of result) intake.new.hand
         (HearsAll T.hears T.misses) log.old log.new }
 {

@@ -1,5 +1,5 @@
 //! Lines between the packets of a feed.
-ghost use Rattle.std.specs.Prelude.{◌≡◌, ◌<◌, ◌-◌, ◌↔◌, [], ℕ, IsTrue, List, true, OnOk};
+ghost use Rattle.std.specs.Prelude.{◌≡◌, ◌<◌, ◌-◌, ◌↔◌, [], ℕ, IsTrue, List, OnOk};
 ghost use Rattle.disk_model.specs.Disk.{KeepsLength};
 ghost use Rattle.mot_events.specs.Told.{HearsAll};
 ghost use Rattle.mot_feed_lines.specs.Answering.{TakesBetween, TellsOnTime};
@@ -87,9 +87,9 @@ impl<R: Inlet + Drop, U: Update + Facts + Drop, T: Watch + Drop> Lines<R, U, T> 
 
 impl<R: Inlet + Drop, U: Update + Facts + Drop, T: Watch + Drop> Update for Lines<R, U, T> {
     // What the other update tells; and, where a read was due, what the lines do behind it.
-    ghost tells = { λ old new moment. TellsOnTime (HearsAll T.hears T.misses)
+    ghost tells = { λ old new moment. TellsOnTime (HearsAll T.hears T.misses) R.gave
         old.between new.between old.left new.left old.intake.hand new.intake.hand
-        (R.gave old.reader) (R.gave new.reader)
+        (R.view old.reader) (R.view new.reader)
         (λ watch. TellsWatched T.begins T.ends old.reported.watch (U.known new.reported.update) watch
         moment (U.tells old.reported.update new.reported.update moment)) new.reported.watch };
 
@@ -104,10 +104,10 @@ impl<R: Inlet + Drop, U: Update + Facts + Drop, T: Watch + Drop> Update for Line
             (D.state server.old.disk) (D.state server.new.disk) result }
         ensures run { (s : Standing) → Holds server.old.view s (D.state server.old.disk)
             → (D.state server.new.disk).IsHonest
-            → IsUpdating (TellsOnTime (HearsAll T.hears T.misses)
+            → IsUpdating (TellsOnTime (HearsAll T.hears T.misses) R.gave
             self.old.between self.new.between self.old.left self.new.left
-            self.old.intake.hand self.new.intake.hand (R.gave self.old.reader)
-            (R.gave self.new.reader)
+            self.old.intake.hand self.new.intake.hand (R.view self.old.reader)
+            (R.view self.new.reader)
             (λ watch. TellsWatched T.begins T.ends self.old.reported.watch
             (U.known self.new.reported.update) watch moment
             (U.tells self.old.reported.update self.new.reported.update moment))
@@ -123,11 +123,11 @@ impl<R: Inlet + Drop, U: Update + Facts + Drop, T: Watch + Drop> Update for Line
         // What the inlet gave was answered, and nothing else was.
         ensures lines { (input : List ℕ) → self.old.intake.hand ≡ bytes_in_hand (rest_of input)
             → TakesBetween D.state server.old server.new input
-            (R.gave self.old.reader) (R.gave self.new.reader) self.new.intake.hand
+            (R.view self.old.reader) (R.view self.new.reader) self.new.intake.hand
             (λ watch. TellsWatched T.begins T.ends self.old.reported.watch
             (U.known self.new.reported.update) watch moment
             (U.tells self.old.reported.update self.new.reported.update moment))
-            (HearsAll T.hears T.misses) self.new.reported.watch }
+            (HearsAll T.hears T.misses) R.gave self.new.reported.watch }
     {
         self.reported.update(server, alloc, moment)?;
         if self.left > 0 {

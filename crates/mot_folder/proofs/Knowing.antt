@@ -277,19 +277,26 @@ with_files P Q R S answers more first second = λ given told was.
 -- ---- whether a look is fine
 
 -- where a file is passed over it is not
-pub passed_is : (any : Bool) (unchanged : List (List ℕ × Stamp)) (one : List ℕ × Stamp)
-    → is_fine_look any (unchanged ++ one ∷ []) ≡ false
-passed_is any [] one = refl
-passed_is any (file ∷ unchanged) one = refl
+pub passed_is : (any : Bool) → is_fine_look any true ≡ false
+passed_is true = refl
+passed_is false = refl
 
-pub fine_unrefused : (any : Bool) (unchanged : List (List ℕ × Stamp))
-    → is_fine_look any unchanged ≡ true → any ≡ false
-fine_unrefused any [] is = not_any any is
-  where
-    not_any : (b : Bool) → not b ≡ true → b ≡ false
-    not_any true e = absurd (cc (e))
-    not_any false e = refl
-fine_unrefused any (file ∷ unchanged) is = absurd (cc (is))
+pub fine_unrefused : (any passed : Bool) → is_fine_look any passed ≡ true → any ≡ false
+fine_unrefused true passed is = absurd (cc (is))
+fine_unrefused false passed is = refl
+
+-- nothing more was told or given
+pub plain : (P : List Answer → List Wanted → Type 0) (told : List Answer) (gave : List Wanted)
+    → P (told ++ []) (gave ++ []) → P told gave
+plain P told gave was =
+    subst (λ (l : List Wanted). P told l) (append-nil gave)
+    (subst (λ (l : List Answer). P l (gave ++ [])) (append-nil told) was)
+
+pub unplain : (P : List Answer → List Wanted → Type 0) (told : List Answer) (gave : List Wanted)
+    → P told gave → P (told ++ []) (gave ++ [])
+unplain P told gave was =
+    subst (λ (l : List Wanted). P (told ++ []) l) (sym (append-nil gave))
+    (subst (λ (l : List Answer). P l gave) (sym (append-nil told)) was)
 
 -- ---- behind a look
 

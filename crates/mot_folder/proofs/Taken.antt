@@ -323,7 +323,7 @@ answers_kept kept name (settles.Put came) is = (is, tt)
 answers_kept kept name (settles.Replaced came) is = (is, tt)
 
 -- nothing more was told or given
-both_same : (P : List Answer → List Wanted → Type 0) → TellsBoth P P [] []
+pub both_same : (P : List Answer → List Wanted → Type 0) → TellsBoth P P [] []
 both_same P = λ given answers was.
     subst (λ (l : List Wanted). P (answers ++ []) l) (sym (append-nil given))
     (subst (λ (l : List Answer). P l given) (sym (append-nil answers)) was)

@@ -26,7 +26,9 @@ use Rattle.mot_objects.specs.Carousel.{Carousel, carousel_after}
 use Rattle.mot_objects.specs.declared.command.Command.{Command}
 use Rattle.mot_playout.specs.Runs.{accepted_commands}
 use Rattle.mot_playout.specs.Server.{ServerView}
-use Rattle.mot_shelf.specs.Given.{Given}
+use Rattle.mot_shelf.specs.Given.{Given, nothing}
+use Rattle.mot_shelf.specs.Gives.{Gives}
+use Rattle.mot_shelf.specs.View.{FolderView}
 use Rattle.mot_suffixes.specs.Types.{AreShown, SuffixType}
 use Rattle.mot_update.specs.Between.{may_look}
 use Rattle.mot_update.specs.HasRun.{HasRun}
@@ -159,18 +161,19 @@ abbrev pub watch : List ℕ → List SuffixType → (allows : Bool) → (every :
 watch path types allows every within =
     record { path = path; types = types; allows = allows; every = every; within = within }
 
--- Looks so far: how many packets are to come before the next one, what the folder gave in each,
--- whether anything was refused in one, what is known of the last ones, and what of files.
+-- Looks so far: how many packets are to come before the next one, the folder with the calls that
+-- were made for it, whether anything was refused in one, what is known of the last ones, and what of
+-- files.
 pub record LooksSoFar : Type 0 where
   pub left : ℕ
-  pub given : List Given
+  pub folder : FolderView
   pub refused : Bool
   pub known : LooksKnown
   pub files : List Known
 
-abbrev pub so_far : ℕ → List Given → Bool → LooksKnown → List Known → LooksSoFar
-so_far left given refused known files =
-    record { left = left; given = given; refused = refused; known = known; files = files }
+abbrev pub so_far : ℕ → FolderView → Bool → LooksKnown → List Known → LooksSoFar
+so_far left folder refused known files =
+    record { left = left; folder = folder; refused = refused; known = known; files = files }
 
 -- one more, which met these
 abbrev pub known_after : LooksKnown → List LookEvent → LooksKnown
@@ -188,7 +191,8 @@ pub data TellsLooks (w : Watch) (moment : Moment) (old new : LooksSoFar) (c : Ca
       → (any_left : Bool) (given : Given) (names : List (List ℕ)) (wanted : List Wanted)
       (fine : Bool) (entries met : List LookEvent) (files : List Known)
       → (fault ≡ None → met ≡ entries)
-      → new ≡ so_far (packets_left any_left w.every) (old.given ++ given ∷ [])
+      → Gives old.folder nothing new.folder given
+      → new ≡ so_far (packets_left any_left w.every) new.folder
       (old.refused || not fine) (known_after old.known met) files
       → IsLook w.types w.allows w.path given c commands marks fault names wanted fine entries
       old.files files

@@ -1,10 +1,10 @@
 //! A folder of files, as a source of wanted objects.
 ghost use Rattle.std.specs.Prelude.{◌≡◌, ◌⊎◌, ◌||◌, ◌-◌, ◌<◌, ℕ, List, [], true, false, not, IfErr};
 ghost use Rattle.std.specs.Prelude.{IfOk, IfSome, MatchBool, MatchResult, Some, slice_get};
-ghost use Rattle.mot_folder.specs.Inner.Knowing.{IsKnownWith, KnowsFiles, is_fine_look};
+ghost use Rattle.mot_folder.specs.Inner.Knowing.{IsKnownWith, is_fine_look};
 ghost use Rattle.mot_folder.specs.Inner.Names.{name_or_none};
-ghost use Rattle.mot_folder.specs.Inner.Reading.{Misses, Takes, TellsFile, TellsLook, TellsUntaken};
-ghost use Rattle.mot_folder.specs.Inner.Reading.{TellsFault, TellsOffered, is_for_next};
+ghost use Rattle.mot_folder.specs.Inner.Reading.{LookedSince, Misses, OfferedSince, Takes, TellsFile, TellsUntaken};
+ghost use Rattle.mot_folder.specs.Inner.Reading.{TellsFault, is_for_next};
 ghost use Rattle.mot_folder.specs.Inner.Reasons.{TellsSettled, and_settled};
 ghost use Rattle.mot_folder.specs.Inner.Images.{NotesImage};
 ghost use Rattle.mot_folder.specs.Log.{AreKept, TellsOf, has_to_wait, image_notes};
@@ -14,22 +14,24 @@ ghost use Rattle.mot_numbers.specs.declared.refusal.Refusal.{Refusal};
 ghost use Rattle.mot_numbers.specs.declared.refusal.Refusal.TheVariants.{OutOfMemory};
 ghost use Rattle.mot_files.specs.declared.reading.Unread.TheVariants.{TooLong};
 ghost use Rattle.mot_shelf.specs.Given.{Given, and_unchanged};
+ghost use Rattle.mot_shelf.specs.Gives.{Gives, GoesOnSo};
+ghost use Rattle.mot_shelf.specs.Reader.{reader_path, view};
+ghost use Rattle.mot_shelf.specs.View.{FolderView};
 ghost use Rattle.mot_files.specs.declared.system.Stamp.{Stamp};
 ghost use Rattle.mot_suffixes.specs.Types.{SuffixType, type_of_name};
 ghost use Rattle.mot_update.specs.Looking.{was_settled};
 ghost use Rattle.mot_folder.specs.Taken.{IsUntakable, wanted_file};
 ghost use Rattle.mot_update.specs.Told.{TellsBoth, answers_of, was_accepted};
-ghost use Rattle.mot_update.specs.Updating.{is_known};
 
 use crate::known::KnownFiles;
 use crate::listing::{FileNames, read_refusal};
 use crate::report::{Report, Sizes};
 use mot_events::{Deed, Why};
-use mot_files::{Stamp, Unread};
+use mot_files::{Stamp, System, Unread};
 use mot_numbers::Refusal;
 use mot_objects::{Body, MAX_BODY, Name};
 use mot_playout::Attempt;
-use mot_shelf::Shelf;
+use mot_shelf::FolderReader;
 use mot_suffixes::{FileType, FileTypes, other_image};
 use mot_update::{Settled, Source, Wanted};
 use std::alloc::{AllocError, Global};
@@ -39,9 +41,9 @@ use std::io;
 /// is read when its turn comes; one that can't be taken is logged, and its object stays as it is. A
 /// file that was not changed since a look found it equal to its object is not read again.
 #[derive(Drop)]
-pub struct Folder<'a, S: Shelf + Drop> {
+pub struct Folder<'a, S: System + Drop> {
     /// The folder, and what it gave in the last look.
-    pub shelf: S,
+    pub shelf: FolderReader<'a, S>,
     /// Which of its files are objects.
     pub types: &'a FileTypes,
     /// Whether all objects go where none of its files is one.
@@ -56,14 +58,23 @@ pub struct Folder<'a, S: Shelf + Drop> {
     pub(crate) sizes: Sizes,
     /// What is known of its files.
     pub files: KnownFiles,
+    /// Whether a file was passed over in the last look.
+    pub(crate) any_passed: bool,
+    /// Whether the file that was read last was made to last.
+    pub(crate) is_kept: bool,
     /// What is told of the last look.
     pub report: Report,
 }
 
-impl<'a, S: Shelf + Drop> Folder<'a, S> {
+impl<'a, S: System + Drop> Folder<'a, S> {
     /// No look yet.
-    pub fn new(alloc: Global, shelf: S, types: &'a FileTypes, allows_empty: bool) -> Folder<'a, S>
-        ensures shelf { result.shelf ≡ shelf }
+    pub fn new(
+        alloc: Global,
+        shelf: FolderReader<'a, S>,
+        types: &'a FileTypes,
+        allows_empty: bool,
+    ) -> Folder<'a, S>
+        ensures shelf { result.shelf ≡ shelf.entry }
         ensures types { result.types.now ≡ types.now }
         ensures allows { result.allows_empty ≡ allows_empty }
         ensures listed { result.was_listed ≡ true }
@@ -85,34 +96,35 @@ impl<'a, S: Shelf + Drop> Folder<'a, S> {
                 waiting: 0,
             },
             files: KnownFiles::new(alloc),
+            any_passed: false,
+            is_kept: false,
             report: Report::new(alloc),
         }
     }
 }
 
-impl<'a, S: Shelf + Drop> Source for Folder<'a, S> {
+impl<'a, S: System + Drop> Source for Folder<'a, S> {
     ghost names = { λ folder. folder.names.names.items };
 
     ghost place = { λ folder. folder.place };
 
     // Where a file is passed over, no object of its name is given.
-    ghost is_fine = { λ folder. is_fine_look folder.report.any_refused
-        (S.gave folder.shelf).unchanged };
+    ghost is_fine = { λ folder. is_fine_look folder.report.any_refused folder.any_passed };
 
-    ghost was_told = { λ folder told given. TellsLook folder.types.now folder.files.known.items
-        (S.path folder.shelf) (S.gave folder.shelf) folder.names.names.items folder.place
-        folder.report folder.sizes.waiting told given
-        × KnowsFiles (S.gave folder.shelf) folder.files told };
+    // The folder when the look began.
+    ghost Since = { FolderView };
 
-    ghost offers = { λ folder wanted told given. TellsOffered folder.types.now
-        folder.files.known.items (S.path folder.shelf) (S.gave folder.shelf)
-        folder.names.names.items folder.place folder.report folder.sizes.waiting wanted told given
-        × KnowsFiles (S.gave folder.shelf) folder.files told };
+    ghost was_told = { λ folder since told given. LookedSince since (view S.calls folder.shelf)
+        folder.types.now folder.files folder.names.names.items folder.place folder.report
+        folder.sizes.waiting folder.is_kept told given };
+
+    ghost offers = { λ folder wanted since told given. OfferedSince since
+        (view S.calls folder.shelf) folder.types.now folder.files folder.names.names.items
+        folder.place folder.report folder.sizes.waiting folder.is_kept wanted told given };
 
     ghost last = { λ folder. name_or_none (slice_get folder.names.names.items (folder.place - 1)) };
 
-    ghost lasts = { λ folder. is_known (S.gave folder.shelf).kept
-        (name_or_none (slice_get folder.names.names.items (folder.place - 1))) ≡ true };
+    ghost lasts = { λ folder. folder.is_kept ≡ true };
 
     fn knows(&self, name: &Name) -> bool {
         self.names.has(name)
@@ -122,9 +134,11 @@ impl<'a, S: Shelf + Drop> Source for Folder<'a, S> {
         while self.place < self.names.names.len() {
             let place = self.place;
             self.place += 1;
+            self.is_kept = false;
             let names = &self.names;
             let name = &names.names[place];
-            if is_unchanged(&mut self.shelf, alloc, &self.files, name) {
+            if is_unchanged(&mut self.shelf, &self.files, name) {
+                self.any_passed = true;
                 continue;
             }
             match read(&mut self.shelf, alloc, self.types, name) {
@@ -139,14 +153,15 @@ impl<'a, S: Shelf + Drop> Source for Folder<'a, S> {
         None
     }
 
-    fn take(&mut self, alloc: Global, wanted: &Wanted, is_new: bool) -> bool {
+    fn take(&mut self, wanted: &Wanted, is_new: bool) -> bool {
         if !is_new {
             note_image(&mut self.report, wanted);
             return true;
         }
         let name = wanted.name.as_bytes();
-        match self.shelf.keep(alloc, name) {
+        match self.shelf.keep(name) {
             Ok(()) => {
+                self.is_kept = true;
                 note_image(&mut self.report, wanted);
                 true
             }
@@ -330,20 +345,20 @@ fn has_to_wait(attempt: &Attempt) -> bool
 }
 
 /// Whether the file of this name is known, and was not changed since. It is not read.
-fn is_unchanged<S: Shelf + Drop>(
-    shelf: &mut S,
-    alloc: Global,
+fn is_unchanged<S: System + Drop>(
+    shelf: &mut FolderReader<'_, S>,
     files: &KnownFiles,
     name: &Name,
 ) -> bool
-    ensures same { S.path shelf.new ≡ S.path shelf.old }
-    ensures gave { MatchBool result
+    ensures same { reader_path shelf.new ≡ reader_path shelf.old }
+    ensures gave { (given : Given) → MatchBool result
         ((stamp : Stamp) × IsKnownWith files.now.known.items (name.now, stamp)
-        × (S.gave shelf.new ≡ and_unchanged (S.gave shelf.old) name.now stamp))
-        (S.gave shelf.new ≡ S.gave shelf.old) }
+        × Gives (view S.calls shelf.old) given (view S.calls shelf.new)
+        (and_unchanged given name.now stamp))
+        (Gives (view S.calls shelf.old) given (view S.calls shelf.new) given) }
 {
     match files.stamp_of(name) {
-        Some(stamp) => shelf.is_unchanged(alloc, name.as_bytes(), &stamp),
+        Some(stamp) => shelf.is_unchanged(name.as_bytes(), &stamp),
         None => false,
     }
 }
@@ -361,18 +376,18 @@ fn stamp_to_keep(wanted: &Wanted, stamp: Option<Stamp>) -> Option<Stamp>
 }
 
 /// Reads the file of this name, as what is wanted, with the stamp that it had before.
-fn read<S: Shelf + Drop>(
-    shelf: &mut S,
+fn read<S: System + Drop>(
+    shelf: &mut FolderReader<'_, S>,
     alloc: Global,
     types: &FileTypes,
     name: &Name,
 ) -> Result<(Wanted, Option<Stamp>), Untaken>
-    ensures same { S.path shelf.new ≡ S.path shelf.old }
-    ensures took { MatchResult result
-        (λ taken. (takes : Takes types.now name.now (S.gave shelf.old) (S.gave shelf.new) taken.0)
+    ensures same { reader_path shelf.new ≡ reader_path shelf.old }
+    ensures took { GoesOnSo (view S.calls shelf.old) (view S.calls shelf.new) (λ given after.
+        MatchResult result
+        (λ taken. (takes : Takes types.now name.now given after taken.0)
         × (takes.stamp ≡ taken.1))
-        (λ untaken. Misses types.now name.now (S.gave shelf.old) (S.gave shelf.new)
-        (untaken ≡ NotTaken OutOfMemory)) }
+        (λ untaken. Misses types.now name.now given after (untaken ≡ NotTaken OutOfMemory))) }
 
     // A file is too long only where no body has so many bytes.
     ensures long { IfErr result (λ untaken. (count : ℕ) → untaken ≡ NotRead (TooLong count)

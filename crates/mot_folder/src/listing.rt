@@ -2,7 +2,7 @@
 ghost use Rattle.std.specs.List.{insert, list_any};
 ghost use Rattle.std.specs.Str.{is_utf8};
 ghost use Rattle.std.specs.Prelude.{◌≡◌, ◌↔◌, ◌+◌, ◌<◌, ◌≤◌, ◌∷◌, ◌++◌, [], true, false, length};
-ghost use Rattle.std.specs.Prelude.{if◌then◌else◌, IfErr, IfOk, IfNone, IfSome, IsOk, IsTrue};
+ghost use Rattle.std.specs.Prelude.{if◌then◌else◌, IfErr, IfNone, IfSome, IsOk, IsTrue};
 ghost use Rattle.std.specs.Prelude.{◌==◌, ◌≢◌, List, MatchResult, OnErr, OnOk, Some, nat_le, ℕ};
 ghost use Rattle.mot_events.specs.Events.{event_of};
 ghost use Rattle.mot_events.specs.declared.event.Met.TheVariants.{Skipped};
@@ -21,7 +21,9 @@ ghost use Rattle.mot_folder.specs.Log.{TellsAnswers, TellsOne, unlisted_for};
 ghost use Rattle.mot_numbers.specs.declared.refusal.Refusal.TheVariants.{BadName, OutOfMemory};
 ghost use Rattle.mot_numbers.specs.declared.refusal.Refusal.TheVariants.{TooManyObjects};
 ghost use Rattle.mot_objects.specs.Carousel.{are_names_distinct};
-ghost use Rattle.mot_shelf.specs.Given.{and_failed, and_kept_names, nothing};
+ghost use Rattle.mot_shelf.specs.Given.{Given, and_failed, and_kept_names, nothing};
+ghost use Rattle.mot_shelf.specs.Gives.{Asks, Gives, GoesOnSo};
+ghost use Rattle.mot_shelf.specs.Reader.{reader_path, view};
 ghost use Rattle.mot_suffixes.specs.Types.{is_hidden};
 ghost use Rattle.mot_update.specs.Told.{TellsMore};
 ghost use Rattle.mot_update.specs.Updating.{is_known};
@@ -30,10 +32,10 @@ ghost use Rattle.mot_folder.specs.declared.report.TheConstants.{MAX_SKIPPED};
 use crate::report::Report;
 use memchr::memchr;
 use mot_events::{Deed, Skip, Why};
-use mot_files::Kind;
+use mot_files::{Kind, System};
 use mot_numbers::Refusal;
 use mot_objects::{Carousel, Name};
-use mot_shelf::Shelf;
+use mot_shelf::FolderReader;
 use mot_suffixes::FileTypes;
 use std::alloc::{AllocError, Global};
 use std::io::{self, ErrorKind};
@@ -168,25 +170,23 @@ fn place_in(names: &[Name], name: &[u8]) -> usize
 /// back for which an object is withdrawn. The errors are `ReadFault`, if the folder can't be
 /// listed, or its names not be made to last; `TooManyObjects`, if more than `MAX_NAMES` names have
 /// one of the suffixes; and `OutOfMemory`.
-pub(crate) fn list<S: Shelf + Drop>(
-    shelf: &mut S,
+pub(crate) fn list<S: System + Drop>(
+    shelf: &mut FolderReader<'_, S>,
     alloc: Global,
     types: &FileTypes,
     report: &mut Report,
     carousel: &Carousel,
 ) -> Result<FileNames, Unlisted>
-    requires { S.gave shelf.old ≡ nothing }
-    ensures lists { MatchResult result
-        (λ names. Lists types.now (stage (S.path shelf.old) nothing report.old 0 [])
-        (stage (S.path shelf.new) (S.gave shelf.new) report.new names.counted names.names.items))
-        (λ unlisted. ListsNot types.now (stage (S.path shelf.old) nothing report.old 0 [])
-        (stage (S.path shelf.new) (S.gave shelf.new) report.new 0 []) unlisted.refusal) }
-
     // Nothing is withdrawn but by names that last.
-    ensures gone { IfOk result (λ names.
-        unknown_objects names.names.items carousel.now.objects.items ≢ []
-        → (before : List (List ℕ))
-        × ((S.gave shelf.new).kept_names ≡ before ++ S.path shelf.old ∷ [])) }
+    ensures { (given : Given)
+        × Gives (view S.calls shelf.old) nothing (view S.calls shelf.new) given
+        × MatchResult result
+        (λ names. Lists types.now (stage (reader_path shelf.old) nothing report.old 0 [])
+        (stage (reader_path shelf.new) given report.new names.counted names.names.items)
+        × (unknown_objects names.names.items carousel.now.objects.items ≢ []
+        → (before : List (List ℕ)) × (given.kept_names ≡ before ++ reader_path shelf.old ∷ [])))
+        (λ unlisted. ListsNot types.now (stage (reader_path shelf.old) nothing report.old 0 [])
+        (stage (reader_path shelf.new) given report.new 0 []) unlisted.refusal) }
 {
     let names = list_names(shelf, alloc, types, report)?;
     if count_unknown(&names, carousel) == 0 {
@@ -197,12 +197,13 @@ pub(crate) fn list<S: Shelf + Drop>(
 }
 
 /// Makes the folder's names last.
-fn keep_names<S: Shelf + Drop>(shelf: &mut S) -> Result<(), Unlisted>
-    ensures same { S.path shelf.new ≡ S.path shelf.old }
-    ensures gave { MatchResult result
-        (λ _. S.gave shelf.new ≡ and_kept_names (S.gave shelf.old) (S.path shelf.old))
-        (λ unlisted. (S.gave shelf.new ≡ and_failed (S.gave shelf.old) (S.path shelf.old))
-        × IsCallRefusal unlisted.refusal) }
+fn keep_names<S: System + Drop>(shelf: &mut FolderReader<'_, S>) -> Result<(), Unlisted>
+    ensures same { reader_path shelf.new ≡ reader_path shelf.old }
+    ensures asks { (given : Given) → MatchResult result
+        (λ _. Asks (view S.calls shelf.old) (view S.calls shelf.new) given
+        (and_kept_names given (reader_path shelf.old)))
+        (λ unlisted. Asks (view S.calls shelf.old) (view S.calls shelf.new) given
+        (and_failed given (reader_path shelf.old)) × IsCallRefusal unlisted.refusal) }
 {
     match shelf.keep_names() {
         Ok(()) => Ok(()),
@@ -220,21 +221,22 @@ pub(crate) fn count_unknown(names: &FileNames, carousel: &Carousel) -> usize
 }
 
 /// The names, as the folder gives them.
-fn list_names<S: Shelf + Drop>(
-    shelf: &mut S,
+fn list_names<S: System + Drop>(
+    shelf: &mut FolderReader<'_, S>,
     alloc: Global,
     types: &FileTypes,
     report: &mut Report,
 ) -> Result<FileNames, Unlisted>
-    requires { S.gave shelf.old ≡ nothing }
-    ensures { MatchResult result
-        (λ names. Lists types.now (stage (S.path shelf.old) nothing report.old 0 [])
-        (stage (S.path shelf.new) (S.gave shelf.new) report.new names.counted names.names.items))
-        (λ unlisted. ListsNot types.now (stage (S.path shelf.old) nothing report.old 0 [])
-        (stage (S.path shelf.new) (S.gave shelf.new) report.new 0 []) unlisted.refusal) }
+    ensures { (given : Given)
+        × Gives (view S.calls shelf.old) nothing (view S.calls shelf.new) given
+        × MatchResult result
+        (λ names. Lists types.now (stage (reader_path shelf.old) nothing report.old 0 [])
+        (stage (reader_path shelf.new) given report.new names.counted names.names.items))
+        (λ unlisted. ListsNot types.now (stage (reader_path shelf.old) nothing report.old 0 [])
+        (stage (reader_path shelf.new) given report.new 0 []) unlisted.refusal) }
 {
     let mut names = FileNames::new(alloc);
-    if let Err(error) = shelf.open(alloc) {
+    if let Err(error) = shelf.open() {
         return Err(Unlisted::by(error));
     }
     read_names(shelf, alloc, types, &mut names, report)?;
@@ -242,18 +244,19 @@ fn list_names<S: Shelf + Drop>(
 }
 
 /// Adds those of the names that the open folder gives that are objects.
-fn read_names<S: Shelf + Drop>(
-    shelf: &mut S,
+fn read_names<S: System + Drop>(
+    shelf: &mut FolderReader<'_, S>,
     alloc: Global,
     types: &FileTypes,
     names: &mut FileNames,
     report: &mut Report,
 ) -> Result<(), Unlisted>
-    ensures { AreRead types.now
-        (stage (S.path shelf.old) (S.gave shelf.old) report.old names.old.counted
+    ensures { GoesOnSo (view S.calls shelf.old) (view S.calls shelf.new) (λ given after.
+        AreRead types.now
+        (stage (reader_path shelf.old) given report.old names.old.counted
         names.old.names.items)
-        (stage (S.path shelf.new) (S.gave shelf.new) report.new names.new.counted
-        names.new.names.items) result }
+        (stage (reader_path shelf.new) after report.new names.new.counted
+        names.new.names.items) result) }
 {
     let mut room = [0; ROOM];
     for _ in 0..u64::MAX {
@@ -267,19 +270,20 @@ fn read_names<S: Shelf + Drop>(
 }
 
 /// Adds those of the names, each ended by a zero byte, that are objects.
-fn add_all<S: Shelf + Drop>(
-    shelf: &mut S,
+fn add_all<S: System + Drop>(
+    shelf: &mut FolderReader<'_, S>,
     alloc: Global,
     types: &FileTypes,
     bytes: &[u8],
     names: &mut FileNames,
     report: &mut Report,
 ) -> Result<(), Unlisted>
-    ensures { AreGoneOver types.now (names_in bytes.now)
-        (stage (S.path shelf.old) (S.gave shelf.old) report.old names.old.counted
+    ensures { GoesOnSo (view S.calls shelf.old) (view S.calls shelf.new) (λ given after.
+        AreGoneOver types.now (names_in bytes.now)
+        (stage (reader_path shelf.old) given report.old names.old.counted
         names.old.names.items)
-        (stage (S.path shelf.new) (S.gave shelf.new) report.new names.new.counted
-        names.new.names.items) result }
+        (stage (reader_path shelf.new) after report.new names.new.counted
+        names.new.names.items) result) }
 {
     let mut rest = bytes;
     while let Some((name, others)) = cut_name(rest) {
@@ -300,28 +304,29 @@ fn cut_name(bytes: &[u8]) -> Option<(&[u8], &[u8])>
 }
 
 /// Adds the name, if it is that of an object.
-fn add_one<S: Shelf + Drop>(
-    shelf: &mut S,
+fn add_one<S: System + Drop>(
+    shelf: &mut FolderReader<'_, S>,
     alloc: Global,
     types: &FileTypes,
     name: &[u8],
     names: &mut FileNames,
     report: &mut Report,
 ) -> Result<(), Unlisted>
-    ensures { AreGoneOver types.now (name.now ∷ [])
-        (stage (S.path shelf.old) (S.gave shelf.old) report.old names.old.counted
+    ensures { GoesOnSo (view S.calls shelf.old) (view S.calls shelf.new) (λ given after.
+        AreGoneOver types.now (name.now ∷ [])
+        (stage (reader_path shelf.old) given report.old names.old.counted
         names.old.names.items)
-        (stage (S.path shelf.new) (S.gave shelf.new) report.new names.new.counted
-        names.new.names.items) result }
+        (stage (reader_path shelf.new) after report.new names.new.counted
+        names.new.names.items) result) }
 {
     if !is_object(types, name) {
-        tell_skipped(shelf, alloc, name, false, report);
+        tell_skipped(shelf, name, false, report);
         return Ok(());
     }
     names.count()?;
-    match shelf.is_file(alloc, name) {
+    match shelf.is_file(name) {
         Ok(true) => add_file(alloc, name, names, report)?,
-        Ok(false) => tell_skipped(shelf, alloc, name, true, report),
+        Ok(false) => tell_skipped(shelf, name, true, report),
         Err(error) => return Err(Unlisted::by(error)),
     }
     Ok(())
@@ -329,15 +334,15 @@ fn add_one<S: Shelf + Drop>(
 
 /// Tells why this name is left out, which has one of the suffixes or none, but for one that begins
 /// with a dot.
-fn tell_skipped<S: Shelf + Drop>(
-    shelf: &mut S,
-    alloc: Global,
+fn tell_skipped<S: System + Drop>(
+    shelf: &mut FolderReader<'_, S>,
     name: &[u8],
     has_suffix: bool,
     report: &mut Report,
 )
-    ensures same { S.path shelf.new ≡ S.path shelf.old }
-    ensures gave { S.gave shelf.new ≡ S.gave shelf.old }
+    ensures same { reader_path shelf.new ≡ reader_path shelf.old }
+    ensures gave { (given : Given)
+        → Gives (view S.calls shelf.old) given (view S.calls shelf.new) given }
     ensures told { TellsMore (TellsAnswers report.old) (TellsAnswers report.new) [] }
     ensures further { (files : List (List ℕ)) → TellsNameless files report.old
         → TellsNameless files report.new }
@@ -353,7 +358,7 @@ fn tell_skipped<S: Shelf + Drop>(
     if is_hidden(name) || report.is_full() {
         return;
     }
-    if let Some(skip) = why_skipped(shelf, alloc, name, has_suffix) {
+    if let Some(skip) = why_skipped(shelf, name, has_suffix) {
         report.skipped(name, skip);
     }
 }
@@ -366,21 +371,21 @@ fn is_hidden(name: &[u8]) -> bool
 }
 
 /// Why this name is left out, which has one of the suffixes or none, if the system says it.
-fn why_skipped<S: Shelf + Drop>(
-    shelf: &mut S,
-    alloc: Global,
+fn why_skipped<S: System + Drop>(
+    shelf: &mut FolderReader<'_, S>,
     name: &[u8],
     has_suffix: bool,
 ) -> Option<Skip>
-    ensures same { S.path shelf.new ≡ S.path shelf.old }
-    ensures gave { S.gave shelf.new ≡ S.gave shelf.old }
+    ensures same { reader_path shelf.new ≡ reader_path shelf.old }
+    ensures gave { (given : Given)
+        → Gives (view S.calls shelf.old) given (view S.calls shelf.new) given }
     ensures why { IfSome result (λ skip. IsLeftOutFor has_suffix name.now skip) }
     ensures text { is_utf8 name.now ≡ false → result ≡ Some NotUtf8 }
 {
     if !is_text(name) {
         return Some(Skip::NotUtf8);
     }
-    match shelf.kind(alloc, name)? {
+    match shelf.kind(name)? {
         Kind::Folder => Some(Skip::Folder),
         Kind::Link => Some(Skip::Link),
         Kind::Pipe | Kind::Special => Some(Skip::Special),

@@ -1,5 +1,5 @@
 //! A look at a folder, and looks between the packets of a feed.
-ghost use Rattle.std.specs.Prelude.{◌≡◌, ◌&&◌, ◌||◌, ◌+◌, ◌/◌, ◌≤◌, ◌∷◌, ◌++◌, [], OnOk, true};
+ghost use Rattle.std.specs.Prelude.{◌≡◌, ◌&&◌, ◌||◌, ◌+◌, ◌/◌, ◌≤◌, [], OnOk, true};
 ghost use Rattle.std.specs.Prelude.{◌≢◌, ◌⊎◌, IfErr, None, Some};
 ghost use Rattle.std.specs.Prelude.{◌<◌, false, ℕ, List, if◌then◌else◌, length, min};
 ghost use Rattle.disk_model.specs.Disk.{KeepsLength};
@@ -17,7 +17,10 @@ ghost use Rattle.mot_folder.specs.Looked.{packets_left, packets_left_behind, so_
 ghost use Rattle.mot_journal.specs.Image.{Standing};
 ghost use Rattle.mot_repository.specs.Repository.{Holds};
 ghost use Rattle.mot_update.specs.Faults.{TellsFaults};
-ghost use Rattle.mot_shelf.specs.Given.{Given};
+ghost use Rattle.mot_shelf.specs.Given.{Given, nothing};
+ghost use Rattle.mot_shelf.specs.Gives.{GaveSo, Gives};
+ghost use Rattle.mot_shelf.specs.Reader.{reader_path, view};
+ghost use Rattle.mot_shelf.specs.View.{FolderView};
 ghost use Rattle.mot_suffixes.specs.Types.{SuffixType};
 ghost use Rattle.mot_update.specs.Told.{Answer, TellsMore};
 ghost use Rattle.mot_update.specs.Watching.{looks_known};
@@ -30,10 +33,11 @@ use crate::listing::{FileNames, Unlisted, count_unknown, list, tell_unlisted};
 use crate::report::{Report, Sizes};
 use disk_model::Disk;
 use mot_events::{LookEvent, is_listed};
+use mot_files::System;
 use mot_numbers::Refusal;
 use mot_objects::Carousel;
 use mot_playout::Server;
-use mot_shelf::{LookNotes, Shelf};
+use mot_shelf::FolderReader;
 use mot_suffixes::FileTypes;
 use mot_update::{Facts, Moment, Update, look};
 use std::alloc::Global;
@@ -50,7 +54,7 @@ const SOON: u64 = 100;
 /// can't be listed, has too many of them, or has no object and may not be empty while the carousel
 /// has some, is told, and changes nothing. The errors are those of `look`, and `OutOfMemory` if
 /// memory ran out for an event, or for the subject of one.
-pub fn look_at_folder<S: Shelf + Drop, D: Disk>(
+pub fn look_at_folder<S: System + Drop, D: Disk>(
     alloc: Global,
     server: &mut Server<D>,
     folder: &mut Folder<'_, S>,
@@ -60,14 +64,11 @@ pub fn look_at_folder<S: Shelf + Drop, D: Disk>(
         (D.state server.old.disk) (D.state server.new.disk) result }
     ensures looked { (s : Standing) → Holds server.old.view s (D.state server.old.disk)
         → (D.state server.new.disk).IsHonest
-        → HasLookedAtFolder server.old server.new (D.state server.old.disk)
+        → GaveSo (view S.calls folder.old.shelf) (view S.calls folder.new.shelf) (λ given.
+        HasLookedAtFolder server.old server.new (D.state server.old.disk)
         (D.state server.new.disk) s folder.old.types.now folder.old.allows_empty
-        (S.path folder.old.shelf) (S.gave folder.new.shelf) folder.new.report (fault_of result)
-        folder.old.files.known.items folder.new.files.known.items }
-
-    ensures path { (s : Standing) → Holds server.old.view s (D.state server.old.disk)
-        → (D.state server.new.disk).IsHonest
-        → S.path folder.new.shelf ≡ S.path folder.old.shelf }
+        (reader_path folder.old.shelf) given folder.new.report (fault_of result)
+        folder.old.files.known.items folder.new.files.known.items) }
 
     // If it came to its end, nothing is left out of what is told.
     ensures whole { OnOk result (folder.new.report.any_left_out ≡ false) }
@@ -91,14 +92,14 @@ pub fn look_at_folder<S: Shelf + Drop, D: Disk>(
 }
 
 /// Ends a look at a folder that is not listed.
-fn end_unlisted<S: Shelf + Drop>(
-    shelf: &S,
+fn end_unlisted<S: System + Drop>(
+    shelf: &FolderReader<'_, S>,
     report: &mut Report,
     unlisted: Unlisted,
 ) -> Result<(), Refusal>
     ensures any { report.new.any_refused ≡ true }
     ensures told { (why : Why) × TellsOne report.old report.new
-        (unlisted_for (S.path shelf.now) unlisted.refusal why) }
+        (unlisted_for (reader_path shelf.now) unlisted.refusal why) }
     ensures fault { ((fault_of result ≡ None) × (unlisted.refusal ≢ OutOfMemory))
         ⊎ (fault_of result ≡ Some OutOfMemory) }
     ensures whole { OnOk result (report.new.any_left_out ≡ false) }
@@ -108,9 +109,12 @@ fn end_unlisted<S: Shelf + Drop>(
 }
 
 /// Ends a look at a folder that has no object, and takes none off the air.
-fn end_kept<S: Shelf + Drop>(shelf: &S, report: &mut Report) -> Result<(), Refusal>
+fn end_kept<S: System + Drop>(
+    shelf: &FolderReader<'_, S>,
+    report: &mut Report,
+) -> Result<(), Refusal>
     ensures any { report.new.any_refused ≡ true }
-    ensures told { TellsOne report.old report.new (event_of (S.path shelf.now) Kept) }
+    ensures told { TellsOne report.old report.new (event_of (reader_path shelf.now) Kept) }
     ensures fault { (fault_of result ≡ None) ⊎ (fault_of result ≡ Some OutOfMemory) }
     ensures whole { OnOk result (report.new.any_left_out ≡ false) }
 {
@@ -119,26 +123,27 @@ fn end_kept<S: Shelf + Drop>(shelf: &S, report: &mut Report) -> Result<(), Refus
 }
 
 /// Makes the carousel equal to the files of these names, of a folder that was listed.
-fn look_at_names<S: Shelf + Drop, D: Disk>(
+fn look_at_names<S: System + Drop, D: Disk>(
     alloc: Global,
     server: &mut Server<D>,
     folder: &mut Folder<'_, S>,
 ) -> Result<(), Refusal>
-    requires listed { IsListed folder.old.types.now (stage (S.path folder.old.shelf)
-        (S.gave folder.old.shelf) folder.old.report folder.old.names.counted
-        folder.old.names.names.items) }
     requires updates { is_kept folder.old.allows_empty folder.old.names.names.items
         (length server.old.view.carousel.objects.items) ≡ false }
     ensures keeps { KeepsLength (D.state server.old.disk) (D.state server.new.disk) }
     ensures faults { TellsFaults server.old server.new
         (D.state server.old.disk) (D.state server.new.disk) result }
-    ensures looked { (s : Standing) → Holds server.old.view s (D.state server.old.disk)
+    ensures looked { (since : FolderView) (first : Given)
+        → Gives since nothing (view S.calls folder.old.shelf) first
+        → IsListed folder.old.types.now (stage (reader_path folder.old.shelf) first
+        folder.old.report folder.old.names.counted folder.old.names.names.items)
+        → (s : Standing) → Holds server.old.view s (D.state server.old.disk)
         → (D.state server.new.disk).IsHonest
-        → HasLookedAtFolder server.old server.new (D.state server.old.disk)
+        → GaveSo since (view S.calls folder.new.shelf) (λ given.
+        HasLookedAtFolder server.old server.new (D.state server.old.disk)
         (D.state server.new.disk) s folder.old.types.now folder.old.allows_empty
-        (S.path folder.old.shelf) (S.gave folder.new.shelf) folder.new.report (fault_of result)
-        folder.old.files.known.items folder.new.files.known.items
-        × (S.path folder.new.shelf ≡ S.path folder.old.shelf) }
+        (reader_path folder.old.shelf) given folder.new.report (fault_of result)
+        folder.old.files.known.items folder.new.files.known.items) }
     ensures whole { OnOk result (folder.new.report.any_left_out ≡ false) }
 {
     note_listed(&mut folder.report, folder.shelf.shown(), folder.was_listed);
@@ -149,6 +154,8 @@ fn look_at_names<S: Shelf + Drop, D: Disk>(
         server.carousel(),
     );
     folder.place = 0;
+    folder.any_passed = false;
+    folder.is_kept = false;
     folder.sizes = Sizes {
         length: 0,
         most: server.geometry().objects,
@@ -166,8 +173,8 @@ fn look_at_names<S: Shelf + Drop, D: Disk>(
 }
 
 /// Ends a look that went over all names.
-fn end_listed<S: Shelf + Drop>(
-    shelf: &S,
+fn end_listed<S: System + Drop>(
+    shelf: &FolderReader<'_, S>,
     report: &mut Report,
     sizes: Sizes,
     gap: u32,
@@ -277,7 +284,7 @@ fn note_gap(report: &mut Report, path: &str, gap: u32)
 /// Looks at a folder before the first packet, and then where one may come, after 1,000 packets, or
 /// after as many as `every` is set to; or after 100, if a file is left that may be taken then.
 #[derive(Drop)]
-pub struct Looks<'a, S: Shelf + Drop> {
+pub struct Looks<'a, S: System + Drop> {
     /// The folder, with what is told of the last look.
     pub folder: Folder<'a, S>,
     /// What was told of the look before it.
@@ -292,18 +299,15 @@ pub struct Looks<'a, S: Shelf + Drop> {
     pub count: u64,
     /// Whether a file was refused in any of them, or the folder not listed.
     pub any_refused: bool,
-    /// What the folder gave in each of them.
-    pub looks: LookNotes,
 }
 
-impl<'a, S: Shelf + Drop> Looks<'a, S> {
+impl<'a, S: System + Drop> Looks<'a, S> {
     /// No look yet.
     pub fn new(alloc: Global, folder: Folder<'a, S>) -> Looks<'a, S>
         ensures due { result.left ≡ 0 }
         ensures every { result.every ≡ PACKETS }
         ensures within { result.within ≡ false }
         ensures folder { result.folder ≡ folder.entry }
-        ensures none { result.looks.all ≡ [] }
         ensures before { result.before.items ≡ [] }
         ensures uncounted { result.count ≡ 0 }
         ensures fine { result.any_refused ≡ false }
@@ -316,21 +320,20 @@ impl<'a, S: Shelf + Drop> Looks<'a, S> {
             left: 0,
             count: 0,
             any_refused: false,
-            looks: LookNotes::new(),
         }
     }
 }
 
-impl<'a, S: Shelf + Drop> Update for Looks<'a, S> {
+impl<'a, S: System + Drop> Update for Looks<'a, S> {
     ghost tells = { λ old new moment. TellsWatch
-        (watch (S.path old.folder.shelf) old.folder.types.now old.folder.allows_empty old.every
+        (watch (reader_path old.folder.shelf) old.folder.types.now old.folder.allows_empty old.every
         old.within)
-        (watch (S.path new.folder.shelf) new.folder.types.now new.folder.allows_empty new.every
+        (watch (reader_path new.folder.shelf) new.folder.types.now new.folder.allows_empty new.every
         new.within)
-        moment (so_far old.left old.looks.all old.any_refused
+        moment (so_far old.left (view S.calls old.folder.shelf) old.any_refused
         (looks_known old.count old.folder.report.events.items old.before.items)
         old.folder.files.known.items)
-        (so_far new.left new.looks.all new.any_refused
+        (so_far new.left (view S.calls new.folder.shelf) new.any_refused
         (looks_known new.count new.folder.report.events.items new.before.items)
         new.folder.files.known.items) };
 
@@ -346,14 +349,14 @@ impl<'a, S: Shelf + Drop> Update for Looks<'a, S> {
         ensures run { (s : Standing) → Holds server.old.view s (D.state server.old.disk)
             → (D.state server.new.disk).IsHonest
             → IsUpdating (TellsWatch
-            (watch (S.path self.old.folder.shelf) self.old.folder.types.now
+            (watch (reader_path self.old.folder.shelf) self.old.folder.types.now
             self.old.folder.allows_empty self.old.every self.old.within)
-            (watch (S.path self.new.folder.shelf) self.new.folder.types.now
+            (watch (reader_path self.new.folder.shelf) self.new.folder.types.now
             self.new.folder.allows_empty self.new.every self.new.within)
-            moment (so_far self.old.left self.old.looks.all self.old.any_refused
+            moment (so_far self.old.left (view S.calls self.old.folder.shelf) self.old.any_refused
             (looks_known self.old.count self.old.folder.report.events.items self.old.before.items)
             self.old.folder.files.known.items)
-            (so_far self.new.left self.new.looks.all self.new.any_refused
+            (so_far self.new.left (view S.calls self.new.folder.shelf) self.new.any_refused
             (looks_known self.new.count self.new.folder.report.events.items
             self.new.before.items) self.new.folder.files.known.items))
             server.old server.new (D.state server.old.disk) (D.state server.new.disk) s
@@ -364,8 +367,7 @@ impl<'a, S: Shelf + Drop> Update for Looks<'a, S> {
             → (server.new ≡ server.old)
             × (self.new.left ≡ packets_left_behind self.old.within (may_look moment) self.old.left) }
         ensures looks { is_look_due self.old.left (may_look moment) ≡ true
-            → (self.new.left ≡ packets_left self.new.folder.report.any_left self.old.every)
-            × (self.new.looks.all ≡ self.old.looks.all ++ S.gave self.new.folder.shelf ∷ []) }
+            → self.new.left ≡ packets_left self.new.folder.report.any_left self.old.every }
 
         // It knows whether the look before went by the folder's list.
         ensures listed { is_look_due self.old.left (may_look moment) ≡ true
@@ -384,10 +386,12 @@ impl<'a, S: Shelf + Drop> Update for Looks<'a, S> {
         ensures looked { is_look_due self.old.left (may_look moment) ≡ true
             → (s : Standing) → Holds server.old.view s (D.state server.old.disk)
             → (D.state server.new.disk).IsHonest
-            → HasLookedAtFolder server.old server.new (D.state server.old.disk)
+            → GaveSo (view S.calls self.old.folder.shelf) (view S.calls self.new.folder.shelf)
+            (λ given. HasLookedAtFolder server.old server.new (D.state server.old.disk)
             (D.state server.new.disk) s self.old.folder.types.now self.old.folder.allows_empty
-            (S.path self.old.folder.shelf) (S.gave self.new.folder.shelf) self.new.folder.report
-            (fault_of result) self.old.folder.files.known.items self.new.folder.files.known.items }
+            (reader_path self.old.folder.shelf) given self.new.folder.report
+            (fault_of result) self.old.folder.files.known.items
+            self.new.folder.files.known.items) }
     {
         if !look_is_due(&mut self.left, self.within, moment.may_look()) {
             return Ok(());
@@ -400,7 +404,6 @@ impl<'a, S: Shelf + Drop> Update for Looks<'a, S> {
         self.folder.types = types;
         self.folder.allows_empty = allows_empty;
         self.folder.was_listed = was_listed;
-        self.folder.shelf.note(&mut self.looks);
         self.count = self.count.saturating_add(1);
         self.any_refused |= self.folder.report.any_refused;
         self.left = packets_left(self.folder.report.any_left, self.every);
@@ -440,7 +443,7 @@ fn turn_over(report: &mut Report, before: &mut Vec<LookEvent>) -> bool
     is_listed(before.as_slice())
 }
 
-impl<'a, S: Shelf + Drop> Facts for Looks<'a, S> {
+impl<'a, S: System + Drop> Facts for Looks<'a, S> {
     ghost known = { λ looks.
         looks_known looks.count looks.folder.report.events.items looks.before.items };
 

@@ -1,6 +1,6 @@
 -- What is asked of the system while files of lines are read, one after the other.
-use Rattle.std.specs.Prelude.{◌≡◌, ◌≢◌, ◌⊎◌, ℕ, Bool, true, false, IsTrue, List, [], ◌∷◌, ◌++◌, Result, Ok, Err}
-use Rattle.std.specs.Prelude.{Option, None, Some, string_bytes, take}
+use Rattle.std.specs.Prelude.{◌≡◌, ◌≢◌, ◌≤◌, ◌⊎◌, ℕ, Bool, true, false, IsTrue, List, [], ◌∷◌, ◌++◌, Result}
+use Rattle.std.specs.Prelude.{Ok, Err, Option, None, Some, length, string_bytes, take}
 use Rattle.std.specs.Result.{result_unwrap_or}
 use Rattle.std.specs.declared.io.Error.{Error}
 use Rattle.mot_files.specs.Call.{Call, closed, read}
@@ -13,6 +13,7 @@ use Rattle.mot_files.specs.declared.system.Fault.{Fault}
 use Rattle.mot_files.specs.declared.system.How.{How}
 use Rattle.mot_line_folder.specs.LineFiles.{IsFound, IsOfLines, IsPlain, Leaves, TakesAway}
 use Rattle.mot_line_folder.specs.LineReads.{ReadsLines}
+use Rattle.mot_line_folder.specs.Spool.{SpoolView}
 use Rattle.mot_line_folder.specs.declared.line_file.Found.TheVariants.{Lines}
 use Rattle.mot_line_folder.specs.declared.line_file.LineFile.{LineFile}
 use Rattle.mot_line_folder.specs.declared.said.Stamp.{Stamp}
@@ -103,12 +104,20 @@ pub data Serves {E : Type 0} (folder : List ℕ) (torn torn_then stopped : Bool)
       → ServesFile file after torn_then result room inner new
       → Serves folder torn torn_then stopped open_file after result room old new
 
--- the same with how many bytes were given: none, where that came to a fault
-abbrev pub ServesCount : (folder : List ℕ) (torn torn_then stopped : Bool)
-    (open_file after : Option LineFile) (count : ℕ) (room : List ℕ) (old new : List Call) → Type 0
-ServesCount folder torn torn_then stopped open_file after count room old new =
+-- the same between two moments, with how many bytes were given: none, where that came to a fault
+abbrev pub ServesCount : (old new : SpoolView) (count : ℕ) (room : List ℕ) → Type 0
+ServesCount old new count room =
     (got : Result ℕ Error) × (count ≡ result_unwrap_or got 0)
-    × Serves folder torn torn_then stopped open_file after got room old new
+    × Serves old.folder old.torn new.torn old.stopped old.file new.file got room old.calls new.calls
+
+-- one read between these moments gave these bytes, the first of a room
+pub record GaveLines (old new : SpoolView) (bytes : List ℕ) : Type 0 where
+  pub folder : new.folder ≡ old.folder
+  pub count : ℕ
+  pub room : List ℕ
+  pub fits : count ≤ length room
+  pub are : bytes ≡ take count room
+  pub serves : ServesCount old new count room
 
 -- what becomes of the file that is open once playing has ended: it is taken away if a further read
 -- of it gives nothing and its last line has an end; else it is closed, and stays

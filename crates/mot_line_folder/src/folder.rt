@@ -1,6 +1,6 @@
 //! The folder that lines come from while a disk is played.
-ghost use Rattle.std.specs.Prelude.{◌≡◌, []};
-ghost use Rattle.mot_line_folder.specs.Spool.{spool_folder, spool_gave};
+ghost use Rattle.std.specs.Prelude.{◌≡◌, None, false};
+ghost use Rattle.mot_line_folder.specs.Spool.{spool_view};
 
 use crate::spool::Spool;
 use mot_files::System;
@@ -27,8 +27,13 @@ impl<'a, S: System + Drop> LinePlace<'a, S> {
 
     /// Its files, of which none was read.
     pub fn spool(self, alloc: Global) -> Spool<'a, S>
-        ensures folder { spool_folder result ≡ self.entry.path.now }
-        ensures none { spool_gave result ≡ [] }
+        ensures { spool_view S.calls result ≡ record {
+          folder = self.entry.path.now;
+          torn = false;
+          stopped = false;
+          file = None;
+          calls = S.calls self.entry.system;
+        } }
     {
         Spool::new(self.system, alloc, self.path)
     }

@@ -5,12 +5,10 @@
 mod finder;
 mod folder;
 mod line_file;
-mod line_notes;
 mod names;
 mod notices;
 mod said;
 mod spool;
 
 pub use folder::{LineFolder, LinePlace};
-pub use line_notes::LineNotes;
 pub use spool::Spool;

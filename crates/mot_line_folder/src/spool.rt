@@ -1,19 +1,17 @@
 //! Files of lines in a folder, read one after the other.
-ghost use Rattle.std.specs.Prelude.{◌≡◌, ◌≤◌, ◌⊎◌, ◌∷◌, ◌++◌, [], IfOk, IfSome, IsErr, List, None, Option};
+ghost use Rattle.std.specs.Prelude.{◌≡◌, ◌≤◌, ◌⊎◌, ◌∷◌, [], IfOk, IfSome, IsErr, List, None, Option};
 ghost use Rattle.std.specs.Prelude.{Result, false, length, string_bytes, take, true, vec_capacity};
 ghost use Rattle.mot_events.specs.Told.{AreOfFiles, Entry, HearsAll};
 ghost use Rattle.mot_line_folder.specs.LineFiles.{Leaves, TakesAway};
 ghost use Rattle.mot_line_folder.specs.Inner.Said.{Remembers};
 ghost use Rattle.mot_line_folder.specs.declared.said.Stamp.{Stamp};
-ghost use Rattle.mot_line_folder.specs.Spool.{is_torn, open_file, reads_of, spool_folder};
-ghost use Rattle.mot_line_folder.specs.Spool.{spool_gave, spool_system};
-ghost use Rattle.mot_line_folder.specs.Spooling.{Finishes, FinishesFile, Serves};
+ghost use Rattle.mot_line_folder.specs.Spool.{SpoolView, open_file, spool_system, spool_view};
+ghost use Rattle.mot_line_folder.specs.Spooling.{Finishes, FinishesFile, GaveLines, Serves};
 ghost use Rattle.mot_line_folder.specs.Spooling.{ServesCount, ServesFile};
 ghost use Rattle.mot_files.specs.declared.system.Fault.{Fault};
 
 use crate::finder::Finder;
 use crate::line_file::LineFile;
-use crate::line_notes::LineNotes;
 use mot_events::{Inlet, LineCount, Tells};
 use mot_files::{Fault, System};
 use std::alloc::Global;
@@ -40,17 +38,18 @@ pub struct Spool<'a, S: System + Drop> {
     is_next: bool,
     /// Whether no more is read.
     pub is_stopped: bool,
-    /// What the reads gave.
-    lines: LineNotes,
 }
 
 impl<'a, S: System + Drop> Spool<'a, S> {
     /// No file was read.
     pub fn new(system: S, alloc: Global, folder: &'a str) -> Spool<'a, S>
-        ensures folder { spool_folder result ≡ folder.now }
-        ensures system { spool_system result ≡ system }
-        ensures goes { result.is_stopped ≡ false }
-        ensures none { spool_gave result ≡ [] }
+        ensures { spool_view S.calls result ≡ record {
+          folder = folder.now;
+          torn = false;
+          stopped = false;
+          file = None;
+          calls = S.calls system;
+        } }
     {
         Spool {
             finder: Finder::new(system, alloc, folder),
@@ -58,15 +57,7 @@ impl<'a, S: System + Drop> Spool<'a, S> {
             is_torn: false,
             is_next: false,
             is_stopped: false,
-            lines: LineNotes::new(),
         }
-    }
-
-    /// What its reads gave.
-    pub fn into_lines(self) -> LineNotes
-        ensures { reads_of result ≡ spool_gave self.entry }
-    {
-        self.lines
     }
 
     /// The next bytes of the file that is open, or of the next one.
@@ -76,7 +67,6 @@ impl<'a, S: System + Drop> Spool<'a, S> {
             self.old.is_stopped self.old.«open» self.new.«open» result buf.new
             (S.calls self.old.finder.system) (S.calls self.new.finder.system) }
         ensures folder { self.new.finder.folder ≡ self.old.finder.folder }
-        ensures given { self.new.lines ≡ self.old.lines }
     {
         if self.is_torn {
             return Ok(self.end_torn(buf));
@@ -105,7 +95,6 @@ impl<'a, S: System + Drop> Spool<'a, S> {
             buf.new
             (S.calls self.old.finder.system) (S.calls self.new.finder.system) }
         ensures folder { self.new.finder.folder ≡ self.old.finder.folder }
-        ensures given { self.new.lines ≡ self.old.lines }
     {
         match lines.read(&mut self.finder.system, buf) {
             Ok(0) => {
@@ -131,7 +120,6 @@ impl<'a, S: System + Drop> Spool<'a, S> {
             × (IsErr taken → self.new.is_stopped ≡ true) }
         ensures open { self.new.«open» ≡ self.old.«open» }
         ensures folder { self.new.finder.folder ≡ self.old.finder.folder }
-        ensures given { self.new.lines ≡ self.old.lines }
     {
         match lines.take_away(&mut self.finder.system) {
             Ok(()) => {}
@@ -146,7 +134,6 @@ impl<'a, S: System + Drop> Spool<'a, S> {
         ensures folder { self.new.finder.folder ≡ self.old.finder.folder }
         ensures torn { self.new.is_torn ≡ lines.now.is_cut }
         ensures open { self.new.«open» ≡ self.old.«open» }
-        ensures given { self.new.lines ≡ self.old.lines }
         ensures known { self.new.is_stopped ≡ false → (stamp : Option Stamp) × Remembers
             self.new.finder.said.names.items (string_bytes lines.now.name) stamp true }
     {
@@ -179,7 +166,6 @@ impl<'a, S: System + Drop> Spool<'a, S> {
         ensures finder { self.new.finder ≡ self.old.finder }
         ensures open { self.new.«open» ≡ self.old.«open» }
         ensures torn { (result ≡ 0) ⊎ (self.new.is_torn ≡ false) }
-        ensures given { self.new.lines ≡ self.old.lines }
     {
         if buf.len() < TORN.len() {
             return 0;
@@ -195,7 +181,6 @@ impl<'a, S: System + Drop> Spool<'a, S> {
         ensures system { self.new.finder.system ≡ self.old.finder.system }
         ensures open { self.new.«open» ≡ self.old.«open» }
         ensures folder { self.new.finder.folder ≡ self.old.finder.folder }
-        ensures given { self.new.lines ≡ self.old.lines }
         ensures stops { self.new.is_stopped ≡ true }
     {
         self.is_stopped = true;
@@ -213,10 +198,10 @@ impl<'a, S: System + Drop> Spool<'a, S> {
     /// that is at its end is taken away, and nothing more is read. One whose last line has no end
     /// stays, since that line was not answered. What is wrong is told.
     pub fn finish<T: Tells>(&mut self, log: &mut T)
-        ensures given { spool_gave self.new ≡ spool_gave self.old }
         ensures finishes { Finishes (open_file self.old) (S.calls (spool_system self.old))
             (S.calls (spool_system self.new)) }
-        ensures folder { spool_folder self.new ≡ spool_folder self.old }
+        ensures folder { (spool_view S.calls self.new).folder
+            ≡ (spool_view S.calls self.old).folder }
         ensures stops { self.new.is_stopped ≡ true }
         ensures told { (entries : List Entry) × AreOfFiles entries
             × HearsAll T.hears T.misses log.old entries log.new }
@@ -229,7 +214,6 @@ impl<'a, S: System + Drop> Spool<'a, S> {
     /// Ends the reading of the file that is open, if one is.
     fn finish_open(&mut self)
         ensures folder { self.new.finder.folder ≡ self.old.finder.folder }
-        ensures given { self.new.lines ≡ self.old.lines }
         ensures finishes { Finishes self.old.«open» (S.calls self.old.finder.system)
             (S.calls self.new.finder.system) }
     {
@@ -244,7 +228,6 @@ impl<'a, S: System + Drop> Spool<'a, S> {
         ensures finishes { FinishesFile lines.now (S.calls self.old.finder.system)
             (S.calls self.new.finder.system) }
         ensures folder { self.new.finder.folder ≡ self.old.finder.folder }
-        ensures given { self.new.lines ≡ self.old.lines }
     {
         if lines.is_cut {
             self.finder.system.close(lines.handle);
@@ -260,23 +243,26 @@ impl<'a, S: System + Drop> Spool<'a, S> {
 }
 
 impl<'a, S: System + Drop> Inlet for Spool<'a, S> {
-    ghost gave = { spool_gave };
+    ghost View = { SpoolView };
+
+    ghost view = { λ spool. spool_view S.calls spool };
+
+    ghost gave = { GaveLines };
 
     fn read<T: Tells>(&mut self, room: &mut [u8], count: &mut LineCount, log: &mut T) -> usize
         ensures fits { result ≤ length room.new }
-        ensures gave { spool_gave self.new ≡ spool_gave self.old ++ take result room.new ∷ [] }
+        ensures gave { GaveLines (spool_view S.calls self.old) (spool_view S.calls self.new)
+            (take result room.new) }
         ensures told { (entries : List Entry) × AreOfFiles entries
             × HearsAll T.hears T.misses log.old entries log.new }
 
-        // What is asked of the system for it.
-        ensures serves { ServesCount (spool_folder self.old) (is_torn self.old) (is_torn self.new)
-            self.old.is_stopped (open_file self.old) (open_file self.new) result room.new
-            (S.calls (spool_system self.old)) (S.calls (spool_system self.new)) }
-        ensures folder { spool_folder self.new ≡ spool_folder self.old }
+        // The same of this room. `gave` says it of one that may be shorter, and into an empty one
+        // nothing is read.
+        ensures serves { ServesCount (spool_view S.calls self.old) (spool_view S.calls self.new)
+            result room.new }
     {
         let read = self.read_on(room).unwrap_or(0);
         self.begin_count(count);
-        self.lines.note(&room[..read]);
         self.finder.notices.tell(log);
         read
     }

@@ -8,11 +8,10 @@ ghost use Rattle.mot_outcome.specs.declared.used.UsedDisk.TheVariants.{OfFile, U
 use disk_store::{
     Beginning, BegunFile, FileDiskFrom, OpenFault, RamDisk, SecondDisk, Start, Unopened,
 };
-use mot_destinations::{Cause, NewDiskFault, Taken};
+use mot_destinations::{Cause, NewDiskFault};
+use mot_files::CallLog;
 use mot_journal::Reason;
-use mot_line_folder::LineNotes;
 use mot_numbers::Refusal;
-use mot_shelf::{LookNotes, Seen};
 use mot_update::Ended;
 
 /// The disk that a task worked on. The value of `S` is used up if a file is opened or made, so that
@@ -68,64 +67,31 @@ fn new_cause(fault: Option<OpenFault>) -> Option<Cause>
     }
 }
 
-/// What a task did beside its disk, as lists that only clauses read.
+/// The calls on files that a task made beside its disk, by what they were for. Only clauses read them.
 #[derive(Drop)]
 pub struct Beside {
-    /// What each write of packets took.
-    pub taken: Taken,
-    /// What the folder gave that the carousel was to be made equal to.
-    pub seen: Seen,
-    /// What the folder gave in each look while a disk was played.
-    pub looks: LookNotes,
-    /// What each read of lines gave meanwhile.
-    pub lines: LineNotes,
+    /// Those on the folder of objects.
+    pub folder: CallLog,
+    /// Those on what takes the packets.
+    pub packets: CallLog,
+    /// Those on the folder of lines.
+    pub lines: CallLog,
 }
 
 impl Beside {
-    /// Nothing.
+    /// None.
     pub fn nothing() -> Beside {
-        Beside::folder(Seen::nothing())
+        Beside::folder(CallLog::new())
     }
 
-    /// A folder was looked at.
-    pub fn folder(seen: Seen) -> Beside
-        ensures { result.seen ≡ seen }
+    /// These on the folder of objects, and no others.
+    pub fn folder(folder: CallLog) -> Beside
+        ensures { result.folder ≡ folder }
     {
         Beside {
-            taken: Taken::nothing(),
-            seen,
-            looks: LookNotes::new(),
-            lines: LineNotes::new(),
-        }
-    }
-
-    /// This was given while a disk was played.
-    pub fn heard(looks: LookNotes, lines: LineNotes) -> Beside
-        ensures looks { result.looks ≡ looks }
-        ensures lines { result.lines ≡ lines }
-    {
-        Beside {
-            taken: Taken::nothing(),
-            seen: Seen::nothing(),
-            looks,
-            lines,
-        }
-    }
-
-    /// The same, and what each write of packets took.
-    pub fn taking(self, taken: Taken) -> Beside
-        ensures { result ≡ record {
-          taken = taken;
-          seen = self.seen;
-          looks = self.looks;
-          lines = self.lines;
-        } }
-    {
-        Beside {
-            taken,
-            seen: self.seen,
-            looks: self.looks,
-            lines: self.lines,
+            folder,
+            packets: CallLog::new(),
+            lines: CallLog::new(),
         }
     }
 }

@@ -1,1 +1,4 @@
-mod Asked
+pub mod Asked
+pub mod Asking
+pub mod Going
+pub mod Laws

@@ -1,6 +1,7 @@
 -- Which calls a folder is listed and read by.
-use Rattle.std.specs.Prelude.{◌≡◌, ◌≢◌, ◌⊎◌, ℕ, Bool, false, List, [], ◌∷◌, ◌++◌, Option, Some, None}
-use Rattle.std.specs.Prelude.{IsUtf8, Result, Ok, Err, codes}
+use Rattle.std.specs.Prelude.{◌≡◌, ◌≢◌, ◌<◌, ◌⊎◌, ℕ, Bool, false, List, [], ◌∷◌, ◌++◌, Option, Some, None}
+use Rattle.std.specs.Prelude.{IsUtf8, Result, Ok, Err, codes, length}
+use Rattle.std.specs.Str.{is_utf8}
 use Rattle.std.specs.declared.io.Error.{Error}
 use Rattle.mot_files.specs.Call.{Call, closed, failed_read, looked, opened, read}
 use Rattle.mot_files.specs.Lasting.{MakesLast, SyncsPath}
@@ -8,25 +9,28 @@ use Rattle.mot_files.specs.Listing.{file_of, path_in}
 use Rattle.mot_files.specs.Reading.{IsRead, IsUnread}
 use Rattle.mot_files.specs.Stamping.{HasStamp, IsStamped}
 use Rattle.mot_files.specs.declared.reading.Unread.{Unread}
-use Rattle.mot_files.specs.declared.reading.Unread.TheVariants.{Changed, NoMemory}
 use Rattle.mot_files.specs.declared.system.Fault.{Fault}
 use Rattle.mot_files.specs.declared.system.Handle.{Handle}
 use Rattle.mot_files.specs.declared.system.How.TheVariants as How
-use Rattle.mot_files.specs.declared.system.Kind.{Kind}
 use Rattle.mot_files.specs.declared.system.Seen.{Seen}
 use Rattle.mot_files.specs.declared.system.Stamp.{Stamp}
+use Rattle.mot_shelf.specs.declared.path.TheConstants.{LONGEST_PATH}
 
 -- by which path a folder is opened, so that a link to it is followed: no path is none
 abbrev pub folder_place : List ℕ → List ℕ
 folder_place [] = []
 folder_place (first ∷ rest) = path_in (first ∷ rest) (codes ".")
 
--- it was opened; or it was not, since the system refused that, or there was no memory for the path
+-- a name in the folder has no path: it is no text, or the path is longer than any that a system takes
+abbrev pub HasNoPath : (path name : List ℕ) → Type 0
+HasNoPath path name = (is_utf8 name ≡ false) ⊎ (LONGEST_PATH < length (path_in path name))
+
+-- it was opened; or it was not, since the system refused that, or it has no path
 abbrev pub FolderIsOpened : (path : List ℕ) → Result Handle Error → (old new : List Call) → Type 0
 FolderIsOpened path (Ok handle) old new =
     new ≡ old ++ opened (folder_place path) How.Folder (Ok handle) ∷ []
 FolderIsOpened path (Err error) old new =
-    (new ≡ old) ⊎ ((fault : Fault) × (new
+    ((new ≡ old) × HasNoPath path (codes ".")) ⊎ ((fault : Fault) × (new
     ≡ old ++ opened (folder_place path) How.Folder (Err fault) ∷ []))
 
 -- it was closed, if it was open
@@ -53,48 +57,54 @@ pub data NamesAreUnread (before after : Option Handle) (old new : List Call) : T
 -- that is no text
 abbrev pub IsAsked : (path name : List ℕ) → Bool → (old new : List Call) → Type 0
 IsAsked path name is_file old new =
-    ((is_file ≡ false) × (new ≡ old))
+    ((is_file ≡ false) × (is_utf8 name ≡ false) × (new ≡ old))
     ⊎ ((answer : Result Seen Fault) × (file_of answer ≡ Ok is_file)
     × (new ≡ old ++ looked (path_in path name) answer ∷ []))
 
--- why that is not told, which is so of a text alone: there was no memory for its path, or the system
--- refused to look at it
+-- why that is not told, which is so of a text alone: its path is too long, or the system refused to
+-- look at it
 pub record IsUnasked (path name : List ℕ) (old new : List Call) : Type 0 where
   pub text : IsUtf8 name
-  pub calls : (new ≡ old)
+  pub calls : ((new ≡ old) × (LONGEST_PATH < length (path_in path name)))
       ⊎ ((fault : Fault) × (new ≡ old ++ looked (path_in path name) (Err fault) ∷ []))
 
--- what a name in the folder names
-abbrev pub KindIsAsked : (path name : List ℕ) → Kind → (old new : List Call) → Type 0
-KindIsAsked path name kind old new = (named : Seen) × (named.kind ≡ kind)
-    × (new ≡ old ++ looked (path_in path name) (Ok named) ∷ [])
+-- a name in the folder was looked at, or has no path
+abbrev pub IsLookedAt : (path name : List ℕ) → (old new : List Call) → Type 0
+IsLookedAt path name old new = ((new ≡ old) × HasNoPath path name)
+    ⊎ ((answer : Result Seen Fault) × (new ≡ old ++ looked (path_in path name) answer ∷ []))
 
 -- a file of the folder has this stamp
 abbrev pub FileIsUnchanged : (path name : List ℕ) → Stamp → (old new : List Call) → Type 0
 FileIsUnchanged path name stamp old new = HasStamp (path_in path name) stamp old new
 
--- a file of the folder was read, behind its stamp; and when it was not
+-- the file of a path was read, behind its stamp; and when it was not
+abbrev pub PathIsRead : (path : List ℕ) → (most : ℕ) → (at_once : Bool) → (bytes : List ℕ)
+    → Option Stamp → (old new : List Call) → Type 0
+PathIsRead path most at_once bytes stamp old new = (before : List Call)
+    × IsStamped path stamp old before × IsRead path most at_once bytes before new
+
+abbrev pub PathIsUnread : (path : List ℕ) → (most : ℕ) → (at_once : Bool) → Unread
+    → (old new : List Call) → Type 0
+PathIsUnread path most at_once unread old new = (before : List Call) × (stamp : Option Stamp)
+    × IsStamped path stamp old before × IsUnread path most at_once unread before new
+
+-- a file of the folder was; and when it was not
 abbrev pub FileIsRead : (path name : List ℕ) → (most : ℕ) → (at_once : Bool) → (bytes : List ℕ)
     → Option Stamp → (old new : List Call) → Type 0
-FileIsRead path name most at_once bytes stamp old new = (before : List Call)
-    × IsStamped (path_in path name) stamp old before
-    × IsRead (path_in path name) most at_once bytes before new
+FileIsRead path name most at_once bytes stamp old new =
+    PathIsRead (path_in path name) most at_once bytes stamp old new
 
 abbrev pub FileIsUnread : (path name : List ℕ) → (most : ℕ) → (at_once : Bool) → Unread
     → (old new : List Call) → Type 0
-FileIsUnread path name most at_once unread old new =
-    ((new ≡ old) × ((unread ≡ Changed) ⊎ (unread ≡ NoMemory)))
-    ⊎ ((before : List Call) × (stamp : Option Stamp)
-    × IsStamped (path_in path name) stamp old before
-    × IsUnread (path_in path name) most at_once unread before new)
+FileIsUnread path name most at_once unread old new = ((new ≡ old) × HasNoPath path name)
+    ⊎ PathIsUnread (path_in path name) most at_once unread old new
 
 -- a file of the folder was made to last, and then the folder; and when it was not
 abbrev pub FileIsKept : (path name : List ℕ) → (old new : List Call) → Type 0
 FileIsKept path name old new = MakesLast (path_in path name) path (Ok tt) old new
 
 abbrev pub FileIsUnkept : (path name : List ℕ) → Unread → (old new : List Call) → Type 0
-FileIsUnkept path name unread old new =
-    ((new ≡ old) × ((unread ≡ Changed) ⊎ (unread ≡ NoMemory)))
+FileIsUnkept path name unread old new = ((new ≡ old) × HasNoPath path name)
     ⊎ MakesLast (path_in path name) path (Err unread) old new
 
 -- the names of the folder were made to last; and when they were not

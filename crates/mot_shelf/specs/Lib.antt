@@ -1,4 +1,6 @@
 pub mod Calls
 pub mod Given
-pub mod Seen
-pub mod System
+pub mod Gives
+pub mod Inner
+pub mod Reader
+pub mod View

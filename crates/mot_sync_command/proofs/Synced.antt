@@ -39,7 +39,9 @@ use Rattle.mot_playout.proofs.Laws.{valid_is}
 use Rattle.mot_playout.specs.Attempts.{fault_of}
 use Rattle.mot_playout.specs.Runs.{accepted_commands}
 use Rattle.mot_playout.specs.Server.{ServerView}
-use Rattle.mot_shelf.specs.Given.{Given}
+use Rattle.mot_shelf.specs.Given.{Given, nothing}
+use Rattle.mot_shelf.specs.Gives.{GaveSo, Gives}
+use Rattle.mot_shelf.specs.View.{FolderView}
 use Rattle.mot_suffixes.specs.Types.{SuffixType}
 use Rattle.mot_update.proofs.Laws.{made}
 use Rattle.mot_update.specs.Faults.{StaysCalm}
@@ -108,16 +110,18 @@ module _ {D : Type 0} (state : D → State) (disk : D) (server new : ServerView 
       ∙ ap (λ (g : Geometry). layout_of (half_of g (state disk).bytes)) agrees.geometry
 
   -- what a look came to of the disk, from its opening on
-  has_synced : (s : Standing) (types : List SuffixType) (allows : Bool) (path : List ℕ)
-      (given : Given) (report : Report) (fault : Option Refusal) (files : List Known)
+  has_synced : (s : Standing) (types : List SuffixType) (allows : Bool)
+      (folder then_folder : FolderView) (given : Given) (report : Report)
+      (fault : Option Refusal) (files : List Known)
       → (state new.disk).IsHonest
       → AllAre s (state disk)
-      → HasLookedAtFolder server new (state server.disk) (state new.disk) s types allows path given
-      report fault [] files
+      → Gives folder nothing then_folder given
+      → HasLookedAtFolder server new (state server.disk) (state new.disk) s types allows folder.path
+      given report fault [] files
       → (entries : List LookEvent)
-      × HasSynced types allows path given (state disk) (state new.disk) (not report.any_refused)
-      fault entries s × ReportTells report entries
-  has_synced s types allows path given report fault files honest all looked =
+      × HasSynced types allows folder then_folder (state disk) (state new.disk)
+      (not report.any_refused) fault entries s × ReportTells report entries
+  has_synced s types allows folder then_folder given report fault files honest all gave looked =
       let was = keeps.was_honest honest in (
         looked.entries,
         record {
@@ -129,7 +133,7 @@ module _ {D : Type 0} (state : D → State) (disk : D) (server new : ServerView 
           names = looked.names;
           wanted = looked.wanted;
           known = files;
-          look = looked.look;
+          look = (given, gave, looked.look);
           right = subst (λ (l : Layout). TellsRightly l s looked.commands looked.entries)
               (layout_is s honest all) looked.right;
           equal = equal (not report.any_refused) fault looked.commands looked.marks looked.names
@@ -142,7 +146,7 @@ module _ {D : Type 0} (state : D → State) (disk : D) (server new : ServerView 
           (marks : List Bool) (names : List (List ℕ)) (wanted : List Wanted)
           (entries : List LookEvent)
           → HasRun server new (state server.disk) (state new.disk) s commands marks fault
-          → IsLook types allows path given s.carousel commands marks fault names wanted fine entries
+          → IsLook types allows folder.path given s.carousel commands marks fault names wanted fine entries
           [] files
           → fine ≡ true → fault ≡ None → IsEqual s names wanted (state new.disk)
       equal fine fault commands marks names wanted entries run
@@ -176,17 +180,19 @@ module _ {D : Type 0} (state : D → State) (disk : D) (server new : ServerView 
   IsNothing None = Unit {0}
   IsNothing (Some r) = ⊥
 
-  module _ (types : List SuffixType) (allows : Bool) (path : List ℕ) (given : Given)
+  module _ (types : List SuffixType) (allows : Bool) (folder then_folder : FolderView)
       (before after : Option (List ℕ)) where
     -- what a look came to, and what is told of it, from the disk's opening on
-    tells : (s : Standing) (result : Result Bool Refusal) → (state new.disk).IsHonest
-        → AllAre s (state disk)
-        → LooksAndTells server new (state server.disk) (state new.disk) s types allows path given
-        [] before after result
-        → SyncsAndTells types allows path given (state disk) (state new.disk)
+    tells : (s : Standing) (result : Result Bool Refusal) (given : Given)
+        → (state new.disk).IsHonest → AllAre s (state disk)
+        → Gives folder nothing then_folder given
+        → LooksAndTells server new (state server.disk) (state new.disk) s types allows folder.path
+        given [] before after result
+        → SyncsAndTells types allows folder then_folder (state disk) (state new.disk)
         (result_unwrap_or result false) (fault_of result) before after s
-    tells s result honest each (looks.told report files is whole written look) =
-        let done = has_synced s types allows path given report None files honest each look in
+    tells s result given honest each gave (looks.told report files is whole written look) =
+        let done = has_synced s types allows folder then_folder given report None files honest each
+        gave look in
         record {
           fine = not report.any_refused;
           fault = None;
@@ -198,8 +204,9 @@ module _ {D : Type 0} (state : D → State) (disk : D) (server new : ServerView 
             subst (λ l. Appends before after (flat_map met_line l)) (done.2 whole) written,
           );
         }
-    tells s result honest each (looks.broken report files refusal is look) =
-        let done = has_synced s types allows path given report (Some refusal) files honest each look in
+    tells s result given honest each gave (looks.broken report files refusal is look) =
+        let done = has_synced s types allows folder then_folder given report (Some refusal) files
+        honest each gave look in
         let ended = ap (λ (r : Result Bool Refusal). fault_of r) (sym is) in
         record {
           fine = not report.any_refused;
@@ -209,8 +216,9 @@ module _ {D : Type 0} (state : D → State) (disk : D) (server new : ServerView 
           why = inl ended;
           told = λ whole_is. absurd (subst IsNothing (sym (ended ∙ whole_is)) tt);
         }
-    tells s result honest each (looks.untold report files is look) =
-        let done = has_synced s types allows path given report None files honest each look in
+    tells s result given honest each gave (looks.untold report files is look) =
+        let done = has_synced s types allows folder then_folder given report None files honest each
+        gave look in
         let ended = ap (λ (r : Result Bool Refusal). fault_of r) is in
         record {
           fine = not report.any_refused;
@@ -226,15 +234,16 @@ module _ {D : Type 0} (state : D → State) (disk : D) (server new : ServerView 
         → MatchResult result (λ _. StaysCalm server new (state server.disk) (state new.disk))
         (λ r. IsFeedFault server (state server.disk) (state new.disk) r)
         → ((s : Standing) → Holds server.view s (state server.disk) → (state new.disk).IsHonest
-        → LooksAndTells server new (state server.disk) (state new.disk) s types allows path given
-        [] before after result)
-        → Syncs types allows path given (state disk) (state new.disk)
+        → GaveSo folder then_folder (λ given. LooksAndTells server new (state server.disk)
+        (state new.disk) s types allows folder.path given [] before after result))
+        → Syncs types allows folder then_folder (state disk) (state new.disk)
         (result_unwrap_or result false) (fault_of result) before after
     syncs result why looked = record {
       keeps = keeps_from;
       came = inr (
         openable_from,
         ends_off server new (state disk) (state server.disk) (state new.disk) result going calm why,
-        λ s honest each. tells s result honest each (looked s (holds_opened s honest each) honest),
+        λ s honest each. let one = looked s (holds_opened s honest each) honest in
+            tells s result one.0 honest each one.1 one.2,
       );
     }

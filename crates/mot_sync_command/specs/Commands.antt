@@ -11,7 +11,7 @@ use Rattle.mot_numbers.specs.declared.refusal.Refusal.{Refusal}
 use Rattle.mot_numbers.specs.declared.refusal.Refusal.TheVariants.{DeviceFault}
 use Rattle.mot_outcome.specs.Outcome.{OnFile}
 use Rattle.mot_outcome.specs.declared.used.UsedDisk.{UsedDisk}
-use Rattle.mot_shelf.specs.Seen.{given_of}
+use Rattle.mot_shelf.specs.View.{FolderView, folder_at}
 use Rattle.mot_suffixes.specs.Types.{SuffixType}
 use Rattle.mot_sync_command.specs.Syncing.{Syncs}
 
@@ -20,9 +20,10 @@ module _ {S : Type 0} {start : Ghosts S} where
   -- ending, by this table of suffixes and these rules
   abbrev pub SyncsTo : List SuffixType → LookRules → Text → (all : Bool) → Option Refusal
       → (old new : Option (List ℕ)) → UsedDisk S start → Type 0
-  SyncsTo table rules path all ending old new = OnFile (λ disk beside. SinceOpened
-      (λ opened now. Syncs table rules.allow_empty path (given_of beside.seen) opened now all
-      ending old new) disk)
+  SyncsTo table rules path all ending old new = OnFile (λ disk beside. (then_folder : FolderView)
+      × (then_folder.calls ≡ beside.folder.all) × SinceOpened (λ opened now.
+      Syncs table rules.allow_empty (folder_at path rules.at_once []) then_folder opened now all ending
+      old new) disk)
 
   -- the same of the carousel of a disk that was made equal to the folder of this path, by this file
   -- of suffixes and these rules

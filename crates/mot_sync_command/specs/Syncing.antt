@@ -14,7 +14,8 @@ use Rattle.mot_numbers.specs.declared.refusal.Refusal.{Refusal}
 use Rattle.mot_numbers.specs.declared.refusal.Refusal.TheVariants.{WriteFault}
 use Rattle.mot_objects.specs.declared.command.Command.{Command}
 use Rattle.mot_repository.specs.Repository.{IsOf}
-use Rattle.mot_shelf.specs.Given.{Given}
+use Rattle.mot_shelf.specs.Gives.{GaveSo}
+use Rattle.mot_shelf.specs.View.{FolderView}
 use Rattle.mot_suffixes.specs.Types.{SuffixType}
 use Rattle.mot_update.specs.Laws.{IsUpdated, names_of}
 use Rattle.mot_update.specs.declared.wanted.Wanted.{Wanted}
@@ -29,9 +30,9 @@ pub record IsEqual (s : Standing) (names : List (List ℕ)) (wanted : List Wante
   pub updated : IsUpdated s.carousel names wanted last.carousel
   pub stands : (image : List ℕ) → now.MayLeave image → IsOf last image
 
--- In these the folder of this path was looked at, by these types, where it was allowed or not that
--- the carousel gets empty, and gave this.
-module _ (types : List SuffixType) (allows : Bool) (path : List ℕ) (given : Given)
+-- In these a folder was looked at, by these types, where it was allowed or not that the carousel
+-- gets empty. What it gave the calls tell that were made of it.
+module _ (types : List SuffixType) (allows : Bool) (folder then_folder : FolderView)
     (start now : State) where
   -- What a look made of a disk that stood for s: whether all of it is right, what broke it off, and
   -- what was told of it.
@@ -44,8 +45,8 @@ module _ (types : List SuffixType) (allows : Bool) (path : List ℕ) (given : Gi
     pub wanted : List Wanted
     -- no file was known before it: so none was passed over
     pub known : List Known
-    pub look : IsLook types allows path given s.carousel commands marks fault names wanted all
-        entries [] known
+    pub look : GaveSo folder then_folder (λ given. IsLook types allows folder.path given s.carousel
+        commands marks fault names wanted all entries [] known)
     -- what is told of a command is what comes of it, in the layout of the records of the disk
     pub right : TellsRightly (layout_of (half_of s.geometry start.bytes)) s commands entries
     pub equal : all ≡ true → fault ≡ None → IsEqual s names wanted now

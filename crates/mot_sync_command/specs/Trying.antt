@@ -1,5 +1,5 @@
 -- What trying a folder on a copy of a disk does.
-use Rattle.std.specs.Prelude.{◌≡◌, ◌⊎◌, ℕ, Bool, List, Option, IsSomeAnd, min, take}
+use Rattle.std.specs.Prelude.{◌≡◌, ◌⊎◌, ℕ, Bool, List, [], Option, IsSomeAnd, min, take}
 use Rattle.std.specs.Borrow.{Bor}
 use Rattle.std.specs.Io.KnownBytes.{Keeps}
 use Rattle.clap.specs.Words.{Text}
@@ -18,8 +18,7 @@ use Rattle.mot_numbers.specs.declared.refusal.Refusal.{Refusal}
 use Rattle.mot_numbers.specs.declared.refusal.Refusal.TheVariants.{DeviceFault, OutOfMemory}
 use Rattle.mot_outcome.specs.Outcome.{OnFile}
 use Rattle.mot_outcome.specs.declared.used.UsedDisk.{UsedDisk}
-use Rattle.mot_shelf.specs.Given.{Given}
-use Rattle.mot_shelf.specs.Seen.{given_of}
+use Rattle.mot_shelf.specs.View.{FolderView, folder_at}
 use Rattle.mot_suffixes.specs.Types.{SuffixType}
 
 -- In these a disk was in a state start and is in a state now.
@@ -38,9 +37,9 @@ IsUncopied refusal start now = IsUnopened refusal start now
     ⊎ ((refusal ≡ OutOfMemory) × (now.failures ≡ start.failures))
     ⊎ ((refusal ≡ DeviceFault) × Rises start.failures now.failures)
 
--- In these the folder of this path was looked at, by these types, where it was allowed or not that
--- the carousel gets empty, and gave this.
-module _ (types : List SuffixType) (allows : Bool) (path : List ℕ) (given : Given)
+-- In these a folder was looked at, by these types, where it was allowed or not that the carousel
+-- gets empty.
+module _ (types : List SuffixType) (allows : Bool) (folder then_folder : FolderView)
     (start now : State) where
   -- the carousel of a copy was made equal to the folder
   pub record SyncsCopy (all : Bool) (ending : Option Refusal) (old new : Option (List ℕ)) :
@@ -48,7 +47,8 @@ module _ (types : List SuffixType) (allows : Bool) (path : List ℕ) (given : Gi
     pub first : RamDisk
     pub last : RamDisk
     pub copy : IsCopy first start now
-    pub synced : Syncs types allows path given (ram_state first) (ram_state last) all ending old new
+    pub synced : Syncs types allows folder then_folder (ram_state first) (ram_state last) all ending old
+        new
 
   -- The disk itself was only synced and read. There was no copy of it, and nothing was printed; or
   -- its copy was made equal to the folder, up to this ending, and just that was printed.
@@ -61,9 +61,10 @@ module _ {S : Type 0} {start : Ghosts S} where
   -- the same of the disk of a file, by this table of suffixes and these rules
   abbrev pub TriesTo : List SuffixType → LookRules → Text → (all : Bool) → Option Refusal
       → (old new : Option (List ℕ)) → UsedDisk S start → Type 0
-  TriesTo table rules path all ending old new = OnFile (λ disk beside. SinceOpened
-      (λ opened now. Tries table rules.allow_empty path (given_of beside.seen) opened now all
-      ending old new) disk)
+  TriesTo table rules path all ending old new = OnFile (λ disk beside. (then_folder : FolderView)
+      × (then_folder.calls ≡ beside.folder.all) × SinceOpened (λ opened now.
+      Tries table rules.allow_empty (folder_at path rules.at_once []) then_folder opened now all ending
+      old new) disk)
 
   -- and by this file of suffixes
   abbrev pub TriesTask : Option (Bor Text) → LookRules → Text → (all : Bool) → Option Refusal

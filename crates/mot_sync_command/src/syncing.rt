@@ -11,8 +11,9 @@ ghost use Rattle.mot_numbers.specs.declared.refusal.Refusal.TheVariants.{DeviceF
 ghost use Rattle.mot_outcome.specs.Outcome.{Concludes, Opens};
 ghost use Rattle.mot_playout.specs.Attempts.{fault_of};
 ghost use Rattle.mot_repository.specs.Repository.{Holds};
-ghost use Rattle.mot_shelf.specs.Seen.{given_of};
-ghost use Rattle.mot_shelf.specs.System.{shelf_path};
+ghost use Rattle.mot_shelf.specs.Gives.{GaveSo};
+ghost use Rattle.mot_shelf.specs.Reader.{reader_path, view};
+ghost use Rattle.mot_shelf.specs.View.{FolderView};
 ghost use Rattle.mot_sync_command.specs.Commands.{IsUnsynced, SyncsTask, SyncsTo, synced_with};
 ghost use Rattle.mot_sync_command.specs.Inner.Looked.{LooksAndTells};
 ghost use Rattle.mot_sync_command.specs.Syncing.{Syncs};
@@ -24,13 +25,13 @@ use mot_cli::LookRules;
 use mot_destinations::Cause;
 use mot_endpoints::{Host, file_types};
 use mot_events::LookEvent;
-use mot_files::System;
+use mot_files::{CallLog, System};
 use mot_folder::{FileTypes, Folder, KnownFiles, look_at_folder};
 use mot_log::add_met_line;
 use mot_numbers::Refusal;
 use mot_outcome::{Beside, Finished, clear_after};
 use mot_playout::Server;
-use mot_shelf::{Seen, Shelf, SystemShelf};
+use mot_shelf::FolderReader;
 use mot_update::Ended;
 use std::alloc::Global;
 use std::io::Write;
@@ -79,7 +80,7 @@ fn sync_file<'a, B: Start, W: Write>(
     let shelf = host.folder(folder, rules.at_once);
     match host.disk(path, start) {
         Ok(disk) => {
-            let (ended, cause, seen) = sync_shelf(
+            let (ended, cause, calls) = sync_shelf(
                 alloc,
                 disk,
                 shelf,
@@ -88,43 +89,45 @@ fn sync_file<'a, B: Start, W: Write>(
                 log,
             );
             clear_after(host, &ended.result);
-            Finished::of_file(ended, Beside::folder(seen), cause)
+            Finished::of_file(ended, Beside::folder(calls), cause)
         }
         Err(unopened) => Finished::unopened(unopened),
     }
 }
 
-/// Makes the carousel of the disk equal to a folder. Why the folder was not opened, and what it
-/// gave, are handed out. (It is a function of its own, for any system of files, since calls at the
+/// Makes the carousel of the disk equal to a folder. Why the folder was not opened, and the calls on
+/// it, are handed out. (It is a function of its own, for any system of files, since calls at the
 /// program's own take longer to prove.)
 pub(crate) fn sync_shelf<Y: System + Drop, D: Disk, W: Write>(
     alloc: Global,
     disk: D,
-    shelf: SystemShelf<'_, Y>,
+    shelf: FolderReader<'_, Y>,
     types: &FileTypes,
     allows_empty: bool,
     log: &mut W,
-) -> (Ended<D, bool>, Option<Cause>, Seen)
-    ensures { Syncs types.now allows_empty (shelf_path shelf.entry) (given_of result.2)
-        (D.state disk) (D.state result.0.disk) (result_unwrap_or result.0.result false)
+) -> (Ended<D, bool>, Option<Cause>, CallLog)
+    ensures { (then_folder : FolderView) × (then_folder.calls ≡ result.2.all)
+        × Syncs types.now allows_empty (view Y.calls shelf.entry) then_folder (D.state disk)
+        (D.state result.0.disk) (result_unwrap_or result.0.result false)
         (fault_of result.0.result) (W.contents log.old) (W.contents log.new) }
 {
     let mut folder = Folder::new(alloc, shelf, types, allows_empty);
     let ended = sync_disk(alloc, disk, &mut folder, log);
     let cause = Cause::of_folder(folder.shelf.fault());
-    (ended, cause, folder.shelf.into_seen())
+    (ended, cause, folder.shelf.into_system().into_calls())
 }
 
 /// Opens the disk and makes its carousel equal to the folder, of which all files are read; whether
 /// nothing was refused. The lines of the look are written to the log.
-pub fn sync_disk<S: Shelf + Drop, D: Disk, L: Write>(
+pub fn sync_disk<S: System + Drop, D: Disk, L: Write>(
     alloc: Global,
     disk: D,
     folder: &mut Folder<'_, S>,
     log: &mut L,
 ) -> Ended<D, bool>
-    ensures { Syncs folder.old.types.now folder.old.allows_empty (S.path folder.old.shelf)
-        (S.gave folder.new.shelf) (D.state disk) (D.state result.disk)
+    ensures { Syncs folder.old.types.now folder.old.allows_empty
+        (view S.calls folder.old.shelf) (view S.calls folder.new.shelf)
+        (D.state disk) (D.state result.disk)
         (result_unwrap_or result.result false) (fault_of result.result)
         (L.contents log.old) (L.contents log.new) }
 {
@@ -146,7 +149,7 @@ pub fn sync_disk<S: Shelf + Drop, D: Disk, L: Write>(
 
 /// Looks at the folder once, and writes the lines of the look to the log; whether nothing was
 /// refused.
-fn look_and_tell<S: Shelf + Drop, D: Disk, L: Write>(
+fn look_and_tell<S: System + Drop, D: Disk, L: Write>(
     alloc: Global,
     server: &mut Server<D>,
     folder: &mut Folder<'_, S>,
@@ -158,10 +161,11 @@ fn look_and_tell<S: Shelf + Drop, D: Disk, L: Write>(
         (D.state server.old.disk) (D.state server.new.disk) r) }
     ensures looked { (s : Standing) → Holds server.old.view s (D.state server.old.disk)
         → (D.state server.new.disk).IsHonest
-        → LooksAndTells server.old server.new (D.state server.old.disk)
+        → GaveSo (view S.calls folder.old.shelf) (view S.calls folder.new.shelf) (λ given.
+        LooksAndTells server.old server.new (D.state server.old.disk)
         (D.state server.new.disk) s folder.old.types.now folder.old.allows_empty
-        (S.path folder.old.shelf) (S.gave folder.new.shelf) folder.old.files.known.items
-        (L.contents log.old) (L.contents log.new) result }
+        (reader_path folder.old.shelf) given folder.old.files.known.items
+        (L.contents log.old) (L.contents log.new) result) }
 {
     let looked = look_at_folder(alloc, server, folder);
     let told = write_events(alloc, log, folder.report.events.as_slice());

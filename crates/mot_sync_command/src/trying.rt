@@ -7,8 +7,8 @@ ghost use Rattle.mot_sync_command.specs.Trying.{Tries, TriesTask, TriesTo};
 ghost use Rattle.mot_numbers.specs.declared.refusal.Refusal.TheVariants.{DeviceFault};
 ghost use Rattle.mot_outcome.specs.Outcome.{Concludes, Opens};
 ghost use Rattle.mot_playout.specs.Attempts.{fault_of};
-ghost use Rattle.mot_shelf.specs.Seen.{given_of};
-ghost use Rattle.mot_shelf.specs.System.{shelf_path};
+ghost use Rattle.mot_shelf.specs.Reader.{view};
+ghost use Rattle.mot_shelf.specs.View.{FolderView};
 
 use crate::copying::copy_disk;
 use crate::syncing::sync_shelf;
@@ -17,10 +17,10 @@ use disk_store::Start;
 use mot_cli::LookRules;
 use mot_destinations::Cause;
 use mot_endpoints::{Host, file_types};
-use mot_files::System;
+use mot_files::{CallLog, System};
 use mot_folder::FileTypes;
 use mot_outcome::{Beside, Finished, clear_after};
-use mot_shelf::{Seen, SystemShelf};
+use mot_shelf::FolderReader;
 use mot_update::Ended;
 use std::alloc::Global;
 use std::io::Write;
@@ -69,9 +69,16 @@ fn try_file<'a, B: Start, W: Write>(
     let shelf = host.folder(folder, rules.at_once);
     match host.disk(path, start) {
         Ok(disk) => {
-            let (ended, cause, seen) = try_shelf(alloc, disk, shelf, types, rules.allow_empty, log);
+            let (ended, cause, calls) = try_shelf(
+                alloc,
+                disk,
+                shelf,
+                types,
+                rules.allow_empty,
+                log,
+            );
             clear_after(host, &ended.result);
-            Finished::of_file(ended, Beside::folder(seen), cause)
+            Finished::of_file(ended, Beside::folder(calls), cause)
         }
         Err(unopened) => Finished::unopened(unopened),
     }
@@ -81,25 +88,26 @@ fn try_file<'a, B: Start, W: Write>(
 fn try_shelf<Y: System + Drop, D: Disk, W: Write>(
     alloc: Global,
     disk: D,
-    shelf: SystemShelf<'_, Y>,
+    shelf: FolderReader<'_, Y>,
     types: &FileTypes,
     allows_empty: bool,
     log: &mut W,
-) -> (Ended<D, bool>, Option<Cause>, Seen)
-    ensures { Tries types.now allows_empty (shelf_path shelf.entry) (given_of result.2)
-        (D.state disk) (D.state result.0.disk) (result_unwrap_or result.0.result false)
+) -> (Ended<D, bool>, Option<Cause>, CallLog)
+    ensures { (then_folder : FolderView) × (then_folder.calls ≡ result.2.all)
+        × Tries types.now allows_empty (view Y.calls shelf.entry) then_folder (D.state disk)
+        (D.state result.0.disk) (result_unwrap_or result.0.result false)
         (fault_of result.0.result) (W.contents log.old) (W.contents log.new) }
 {
     let (disk, copy) = match copy_disk(alloc, disk) {
         Ok(both) => both,
-        Err(ended) => return (ended, None, Seen::nothing()),
+        Err(ended) => return (ended, None, shelf.into_system().into_calls()),
     };
-    let (tried, cause, seen) = sync_shelf(alloc, copy, shelf, types, allows_empty, log);
+    let (tried, cause, calls) = sync_shelf(alloc, copy, shelf, types, allows_empty, log);
     let Ended { result, .. } = tried;
     let ended = Ended {
         disk,
         result,
         reason: None,
     };
-    (ended, cause, seen)
+    (ended, cause, calls)
 }

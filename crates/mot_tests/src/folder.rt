@@ -6,7 +6,7 @@ use mot_events::LookEvent;
 use mot_folder::{FileTypes, Folder, look_at_folder};
 use mot_log::add_met_line;
 use mot_memory_files::{MemorySystem, Plan};
-use mot_shelf::SystemShelf;
+use mot_shelf::FolderReader;
 use std::alloc::Global;
 
 /// Of a look: the names in the folder with their bytes, whether every call on it fails, whether a folder
@@ -74,7 +74,7 @@ fn told_of(
     allows_empty: bool,
 ) -> Result<Vec<u8>, Refusal> {
     let types = FileTypes::new(alloc)?;
-    let shelf = SystemShelf::new(system, "folder", true);
+    let shelf = FolderReader::new(system, "folder", true);
     let mut folder = Folder::new(alloc, shelf, &types, allows_empty);
     look_at_folder(alloc, server, &mut folder)?;
     lines_of(alloc, folder.report.events.as_slice())

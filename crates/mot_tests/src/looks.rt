@@ -3,7 +3,7 @@ use crate::disks::new_server;
 use mot_base::Geometry;
 use mot_folder::{FileTypes, Folder, look_at_folder};
 use mot_memory_files::MemorySystem;
-use mot_shelf::SystemShelf;
+use mot_shelf::FolderReader;
 use std::alloc::Global;
 use std::test::Fail;
 
@@ -15,7 +15,7 @@ fn looked(alloc: Global, looks: u64, age: u64) -> Result<(u64, usize), Fail> {
     system.put("b.txt", b"two")?;
     system.pass(age);
     let types = FileTypes::new(alloc)?;
-    let shelf = SystemShelf::new(system, "folder", true);
+    let shelf = FolderReader::new(system, "folder", true);
     let mut folder = Folder::new(alloc, shelf, &types, false);
     let Ok(mut server) = new_server(alloc, &Geometry::default()) else {
         return Err(Fail::from("unopened"));

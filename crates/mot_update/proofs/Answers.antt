@@ -8,7 +8,7 @@ use Rattle.mot_playout.specs.Attempts as attempts
 use Rattle.mot_playout.specs.declared.running.Attempt.{Attempt}
 use Rattle.mot_playout.specs.declared.running.Attempt.TheVariants.{Accepted, Refused}
 use Rattle.mot_update.specs.HasRun.{marks_of_settling}
-use Rattle.mot_update.specs.Told.{Answer, AreAnswers, TellsBoth, TellsMore, Withdrew}
+use Rattle.mot_update.specs.Told.{Answer, AreAnswers, TellsMore, TellsSince, Withdrew}
 use Rattle.mot_update.specs.Told.{answers_of, commands_of}
 use Rattle.mot_update.specs.declared.settling.Settled.{Settled}
 use Rattle.mot_update.specs.declared.settling.Settled.TheVariants as settled
@@ -32,39 +32,39 @@ tells_on a b c xs p q = λ told was. q told (subst b (append-nil told) (p told w
 
 -- ---- the same with what was given
 
-pub both_trans : (a b c : List Answer → List Wanted → Type 0) (xs ys : List Answer)
-    (us vs : List Wanted) → TellsBoth a b xs us → TellsBoth b c ys vs
-    → TellsBoth a c (xs ++ ys) (us ++ vs)
-both_trans a b c xs ys us vs p q = λ given told was.
-    subst (λ (l : List Wanted). c (told ++ (xs ++ ys)) l) (append_assoc given us vs)
-    (tells_trans (λ t. a t given) (λ t. b t (given ++ us)) (λ t. c t ((given ++ us) ++ vs)) xs ys
-    (p given) (q (given ++ us)) told was)
+pub both_trans : {Since : Type 0} (a b c : Since → List Answer → List Wanted → Type 0) (xs ys : List Answer)
+    (us vs : List Wanted) → TellsSince a b xs us → TellsSince b c ys vs
+    → TellsSince a c (xs ++ ys) (us ++ vs)
+both_trans a b c xs ys us vs p q = λ since given told was.
+    subst (λ (l : List Wanted). c since (told ++ (xs ++ ys)) l) (append_assoc given us vs)
+    (tells_trans (λ t. a since t given) (λ t. b since t (given ++ us))
+    (λ t. c since t ((given ++ us) ++ vs)) xs ys (p since given) (q since (given ++ us)) told was)
 
-pub both_nil : (a : List Answer → List Wanted → Type 0) → TellsBoth a a [] []
-both_nil a = λ given told was.
-    subst (λ (l : List Wanted). a (told ++ []) l) (sym (append-nil given))
-    (tells_nil (λ t. a t given) told was)
+pub both_nil : {Since : Type 0} (a : Since → List Answer → List Wanted → Type 0) → TellsSince a a [] []
+both_nil a = λ since given told was.
+    subst (λ (l : List Wanted). a since (told ++ []) l) (sym (append-nil given))
+    (tells_nil (λ t. a since t given) told was)
 
 -- nothing more was told or given
-pub both_kept : (a b c : List Answer → List Wanted → Type 0) (xs : List Answer) (us : List Wanted)
-    → TellsBoth a b xs us → TellsBoth b c [] [] → TellsBoth a c xs us
+pub both_kept : {Since : Type 0} (a b c : Since → List Answer → List Wanted → Type 0) (xs : List Answer) (us : List Wanted)
+    → TellsSince a b xs us → TellsSince b c [] [] → TellsSince a c xs us
 both_kept a b c xs us p q =
-    subst (λ (l : List Wanted). TellsBoth a c xs l) (append-nil us)
-    (subst (λ (l : List Answer). TellsBoth a c l (us ++ [])) (append-nil xs)
+    subst (λ (l : List Wanted). TellsSince a c xs l) (append-nil us)
+    (subst (λ (l : List Answer). TellsSince a c l (us ++ [])) (append-nil xs)
     (both_trans a b c xs [] us [] p q))
 
 -- nothing more was told, and these were given
-pub both_gives : (a b c : List Answer → List Wanted → Type 0) (xs : List Answer)
-    (us vs : List Wanted) → TellsBoth a b xs us → TellsBoth b c [] vs → TellsBoth a c xs (us ++ vs)
+pub both_gives : {Since : Type 0} (a b c : Since → List Answer → List Wanted → Type 0) (xs : List Answer)
+    (us vs : List Wanted) → TellsSince a b xs us → TellsSince b c [] vs → TellsSince a c xs (us ++ vs)
 both_gives a b c xs us vs p q =
-    subst (λ (l : List Answer). TellsBoth a c l (us ++ vs)) (append-nil xs)
+    subst (λ (l : List Answer). TellsSince a c l (us ++ vs)) (append-nil xs)
     (both_trans a b c xs [] us vs p q)
 
 -- these were given, and then these told
-pub both_on : (a b c : List Answer → List Wanted → Type 0) (xs : List Answer) (us : List Wanted)
-    → TellsBoth a b [] us → TellsBoth b c xs [] → TellsBoth a c xs us
+pub both_on : {Since : Type 0} (a b c : Since → List Answer → List Wanted → Type 0) (xs : List Answer) (us : List Wanted)
+    → TellsSince a b [] us → TellsSince b c xs [] → TellsSince a c xs us
 both_on a b c xs us p q =
-    subst (λ (l : List Wanted). TellsBoth a c xs l) (append-nil us)
+    subst (λ (l : List Wanted). TellsSince a c xs l) (append-nil us)
     (both_trans a b c [] xs us [] p q)
 
 -- commands that were not answered

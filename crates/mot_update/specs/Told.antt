@@ -78,3 +78,8 @@ abbrev pub TellsBoth : (List Answer → List Wanted → Type 0) → (List Answer
 TellsBoth before after answers wanted =
     (given : List Wanted)
     → TellsMore (λ told. before told given) (λ told. after told (given ++ wanted)) answers
+
+-- the same, of whatever stays true meanwhile
+abbrev pub TellsSince : {Since : Type 0} → (Since → List Answer → List Wanted → Type 0)
+    → (Since → List Answer → List Wanted → Type 0) → List Answer → List Wanted → Type 0
+TellsSince before after answers wanted = (since : _) → TellsBoth (before since) (after since) answers wanted

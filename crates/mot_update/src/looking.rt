@@ -13,7 +13,7 @@ ghost use Rattle.mot_update.specs.Inner.Taking.{HasGapFor, HasRoomFor, IsDoneRig
 ghost use Rattle.mot_update.specs.Inner.Taking.{commands_if, given_if, is_command, marks_if};
 ghost use Rattle.mot_update.specs.Looking.{Gives, HasLooked, HasSettled, RunsThrough};
 ghost use Rattle.mot_update.specs.Looking.{unknown_names, was_stored, withdraw_all};
-ghost use Rattle.mot_update.specs.Told.{TellsBoth};
+ghost use Rattle.mot_update.specs.Told.{TellsSince};
 ghost use Rattle.mot_update.specs.declared.settling.Need.{Need};
 ghost use Rattle.mot_update.specs.declared.settling.Settled.{Settled};
 
@@ -43,7 +43,7 @@ pub fn look<D: Disk, S: Source>(
         (D.state server.old.disk) (D.state server.new.disk) s
         (S.names source.old) (S.place source.old) (S.given source.old) (S.given source.new)
         (S.is_fine source.new) (fault_of result))
-        × TellsBoth (S.was_told source.old) (S.was_told source.new) looked.runs.answers
+        × TellsSince (S.was_told source.old) (S.was_told source.new) looked.runs.answers
         looked.wanted }
 
     // If it came to its end, all names were gone over.
@@ -93,7 +93,7 @@ fn withdraw_these<D: Disk, S: Source>(
         → (runs : RunsThrough server.old server.new
         (D.state server.old.disk) (D.state server.new.disk) s
         (withdraw_all names.now) (S.is_fine source.new) (fault_of result))
-        × TellsBoth (S.was_told source.old) (S.was_told source.new) runs.answers [] }
+        × TellsSince (S.was_told source.old) (S.was_told source.new) runs.answers [] }
     ensures fine { S.is_fine source.new ≡ true → S.is_fine source.old ≡ true }
 {
     for name in names {
@@ -119,7 +119,7 @@ fn settle_all<D: Disk, S: Source>(
         (D.state server.old.disk) (D.state server.new.disk) s
         (S.names source.old) (S.place source.old) (S.given source.old) (S.given source.new)
         (S.is_fine source.new) (fault_of result))
-        × TellsBoth (S.was_told source.old) (S.was_told source.new) settled.runs.answers
+        × TellsSince (S.was_told source.old) (S.was_told source.new) settled.runs.answers
         settled.wanted }
     ensures ended { OnOk result (length (S.names source.new) ≤ S.place source.new) }
     ensures same { S.names source.new ≡ S.names source.old }
@@ -160,7 +160,7 @@ fn settle_taken<D: Disk, S: Source>(
     ensures source { (S.names source.new ≡ S.names source.old)
         × (S.place source.new ≡ S.place source.old) × (S.last source.new ≡ S.last source.old) }
     ensures gives { Gives (S.given source.old) (S.given source.new) (given_if result wanted) }
-    ensures told { TellsBoth (S.offers source.old wanted) (S.was_told source.new) []
+    ensures told { TellsSince (S.offers source.old wanted) (S.was_told source.new) []
         (given_if result wanted) }
     ensures fine { S.is_fine source.new ≡ true
         → (S.is_fine source.old ≡ true) × (result ≢ Ok None) }
@@ -170,7 +170,7 @@ fn settle_taken<D: Disk, S: Source>(
         → S.lasts source.new }
 {
     let need = need_of(server, &wanted);
-    if !source.take(alloc, &wanted, comes_in(server, need, &wanted)) {
+    if !source.take(&wanted, comes_in(server, need, &wanted)) {
         return Ok(None);
     }
     let settled = settle(server, alloc, wanted, need?)?;

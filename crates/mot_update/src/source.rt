@@ -3,7 +3,7 @@ ghost use Rattle.std.specs.Prelude.{◌≡◌, ◌+◌, ◌<◌, ◌≤◌, [], 
 ghost use Rattle.std.specs.Prelude.{false, IfSome, MatchBool, MatchOption, None, ⊤, length};
 ghost use Rattle.std.specs.Prelude.{slice_get};
 ghost use Rattle.mot_update.specs.Looking.{Gives, was_settled, was_stored};
-ghost use Rattle.mot_update.specs.Told.{Answer, TellsBoth, Withdrew, answers_of, was_accepted};
+ghost use Rattle.mot_update.specs.Told.{Answer, TellsSince, Withdrew, answers_of, was_accepted};
 ghost use Rattle.mot_update.specs.Updating.{is_known};
 ghost use Rattle.mot_update.specs.declared.settling.Settled.{Settled};
 ghost use Rattle.mot_update.specs.declared.wanted.Wanted.{Wanted};
@@ -29,11 +29,14 @@ pub trait Source {
     // of.
     ghost is_fine: { Self → Bool };
 
+    // What stays true of it while it is asked.
+    ghost Since: { Type 0 };
+
     // What it learned so far is this, and what it gave is that.
-    ghost was_told: { Self → List Answer → List Wanted → Type 0 } = { λ _ _ _. ⊤ };
+    ghost was_told: { Self → Since → List Answer → List Wanted → Type 0 };
 
     // The same, once this object is offered, and before it is taken.
-    ghost offers: { Self → Wanted → List Answer → List Wanted → Type 0 } = { λ _ _ _ _. ⊤ };
+    ghost offers: { Self → Wanted → Since → List Answer → List Wanted → Type 0 };
 
     // The name of the object that it offered last.
     ghost last: { Self → List ℕ };
@@ -56,8 +59,8 @@ pub trait Source {
         ensures named { IfSome result (λ wanted. (i : ℕ) × (place self.old ≤ i)
             × (i < place self.new) × (slice_get (names self.old) i ≡ Some wanted.name)) }
         ensures last { IfSome result (λ wanted. last self.new ≡ wanted.name) }
-        ensures told { MatchOption result (TellsBoth (was_told self.old) (was_told self.new) [] [])
-            (λ wanted. TellsBoth (was_told self.old) (offers self.new wanted) [] []) }
+        ensures told { MatchOption result (TellsSince (was_told self.old) (was_told self.new) [] [])
+            (λ wanted. TellsSince (was_told self.old) (offers self.new wanted) [] []) }
         ensures ended { MatchOption result (length (names self.old) ≤ place self.new) (λ _. ⊤) }
         ensures fine { is_fine self.new ≡ true → is_fine self.old ≡ true }
 
@@ -68,15 +71,15 @@ pub trait Source {
 
     /// Takes the object that it offered last, this one: whether it gives it. One that is new to the
     /// carousel, which has room for it, is made to last before, and left if that fails.
-    fn take(&mut self, alloc: Global, wanted: &Wanted, is_new: bool) -> bool
+    fn take(&mut self, wanted: &Wanted, is_new: bool) -> bool
         requires { last self.old ≡ wanted.now.name }
         ensures same { names self.new ≡ names self.old }
         ensures stays { (place self.new ≡ place self.old) × (last self.new ≡ last self.old) }
         ensures gives { MatchBool result (Gives (given self.old) (given self.new) (wanted.now ∷ []))
             (Gives (given self.old) (given self.new) []) }
         ensures told { MatchBool result
-            (TellsBoth (offers self.old wanted.now) (was_told self.new) [] (wanted.now ∷ []))
-            (TellsBoth (offers self.old wanted.now) (was_told self.new) [] []) }
+            (TellsSince (offers self.old wanted.now) (was_told self.new) [] (wanted.now ∷ []))
+            (TellsSince (offers self.old wanted.now) (was_told self.new) [] []) }
         ensures fine { is_fine self.new ≡ true → (is_fine self.old ≡ true) × (result ≡ true) }
 
         // What is there already is given, and what is new was made to last.
@@ -88,7 +91,7 @@ pub trait Source {
         ensures same { names self.new ≡ names self.old }
         ensures stays { place self.new ≡ place self.old }
         ensures gives { Gives (given self.old) (given self.new) [] }
-        ensures told { TellsBoth (was_told self.old) (was_told self.new)
+        ensures told { TellsSince (was_told self.old) (was_told self.new)
             (Withdrew name.now attempt ∷ []) [] }
         ensures fine { is_fine self.new ≡ true
             → (is_fine self.old ≡ true) × (was_accepted attempt ≡ true) };
@@ -100,7 +103,7 @@ pub trait Source {
         ensures same { names self.new ≡ names self.old }
         ensures stays { place self.new ≡ place self.old }
         ensures gives { Gives (given self.old) (given self.new) [] }
-        ensures told { TellsBoth (was_told self.old) (was_told self.new)
+        ensures told { TellsSince (was_told self.old) (was_told self.new)
             (answers_of (last self.old) settled) [] }
         ensures fine { is_fine self.new ≡ true
             → (is_fine self.old ≡ true) × (was_settled settled ≡ true) };

@@ -17,7 +17,7 @@ use mot_lines::Hand;
 use mot_memory_files::{MemorySystem, Plan};
 use mot_packets::Outlet;
 use mot_playout::Server;
-use mot_shelf::SystemShelf;
+use mot_shelf::FolderReader;
 use mot_status::{Reporter, Telling};
 use mot_update::{Facts, Update, Watch};
 use std::alloc::{AllocError, Global};
@@ -315,8 +315,8 @@ fn looks_at<'a, S: System + Drop>(
     types: &'a FileTypes,
     objects: S,
     manner: Manner,
-) -> Looks<'a, SystemShelf<'a, S>> {
-    let shelf = SystemShelf::new(objects, "objects", manner.at_once);
+) -> Looks<'a, S> {
+    let shelf = FolderReader::new(objects, "objects", manner.at_once);
     let folder = Folder::new(alloc, shelf, types, true);
     let mut looks = Looks::new(alloc, folder);
     looks.every = manner.looks;
@@ -382,7 +382,7 @@ fn is_fed<D: Disk, U: Update>(
 }
 
 /// The folder of objects.
-fn objects_of<'a, S: System + Drop>(looks: Looks<'a, SystemShelf<'a, S>>) -> S {
+fn objects_of<'a, S: System + Drop>(looks: Looks<'a, S>) -> S {
     looks.folder.shelf.into_system()
 }
 

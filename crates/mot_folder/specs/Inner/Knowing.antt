@@ -12,9 +12,8 @@ use Rattle.mot_update.specs.Told.{Answer, Put, Replaced, Withdrew, was_accepted}
 use Rattle.mot_update.specs.Updating.{is_known}
 
 -- nothing was refused, and no file passed over
-abbrev pub is_fine_look : (any_refused : Bool) → (unchanged : List (List ℕ × Stamp)) → Bool
-is_fine_look any_refused [] = not any_refused
-is_fine_look any_refused (file ∷ unchanged) = false
+abbrev pub is_fine_look : (any_refused any_passed : Bool) → Bool
+is_fine_look any_refused any_passed = not any_refused && not any_passed
 
 -- these objects, without their bodies, have the one that is known of a file
 abbrev pub is_here : Known → Object → Bool

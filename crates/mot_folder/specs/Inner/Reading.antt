@@ -1,5 +1,5 @@
 -- A folder while its files are read, and what a source of them was told.
-use Rattle.std.specs.Prelude.{◌≡◌, ◌⊎◌, ◌+◌, ◌<◌, ℕ, List, [], ◌∷◌, ◌++◌, length, map, take}
+use Rattle.std.specs.Prelude.{◌≡◌, ◌⊎◌, ◌+◌, ◌<◌, ◌-◌, ℕ, List, [], ◌∷◌, ◌++◌, length, map, take}
 use Rattle.std.specs.Prelude.{None, Option, Some, Bool, true, false, slice_get}
 use Rattle.mot_events.specs.Events.{event_of}
 use Rattle.mot_events.specs.declared.event.Deed.TheVariants.{Read}
@@ -15,15 +15,21 @@ use Rattle.mot_folder.specs.Taken.{IsUntakable, wanted_file}
 use Rattle.mot_files.specs.declared.system.Stamp.{Stamp}
 use Rattle.mot_folder.specs.declared.folder.Untaken.{Untaken}
 use Rattle.mot_folder.specs.declared.folder.Untaken.TheVariants.{Refused as NotTaken, Unread as NotRead}
+use Rattle.mot_folder.specs.Inner.Knowing.{KnowsFiles}
+use Rattle.mot_folder.specs.Inner.Names.{name_or_none}
 use Rattle.mot_folder.specs.declared.known.Known.{Known}
+use Rattle.mot_folder.specs.declared.known.KnownFiles.{KnownFiles}
 use Rattle.mot_folder.specs.declared.report.Report.{Report}
 use Rattle.mot_files.specs.declared.reading.Unread.TheVariants.{Changed, NoMemory as OutOfRoom, System, TooLong, Young}
 use Rattle.mot_numbers.specs.declared.refusal.Refusal.{Refusal}
 use Rattle.mot_numbers.specs.declared.refusal.Refusal.TheVariants.{BodyTooLong, OutOfMemory}
 use Rattle.mot_playout.specs.declared.running.Attempt.TheVariants.{Accepted}
 use Rattle.mot_shelf.specs.Given.{Given, and_missed, and_read}
+use Rattle.mot_shelf.specs.Gives.{GaveSo}
+use Rattle.mot_shelf.specs.View.{FolderView}
 use Rattle.mot_suffixes.specs.Types.{SuffixType, type_of_name}
 use Rattle.mot_update.specs.Told.{Answer, Withdrew}
+use Rattle.mot_update.specs.Updating.{is_known}
 use Rattle.mot_update.specs.declared.wanted.Wanted.{Wanted}
 
 -- the file of this name was read, and this is wanted of it
@@ -97,6 +103,22 @@ pub record TellsOffered (types : List SuffixType) (known : List Known) (path : L
   pub named : slice_get names index ≡ Some offered.name
   pub takes : Takes types offered.name before given offered
   pub was : TellsLook types known path before names index report waiting told gave
+
+-- the look, by the calls since it began
+abbrev pub LookedSince : (since now : FolderView) (types : List SuffixType) (files : KnownFiles)
+    (names : List (List ℕ)) (place : ℕ) (report : Report) (waiting : ℕ) (is_kept : Bool)
+    → List Answer → List Wanted → Type 0
+LookedSince since now types files names place report waiting is_kept told gave =
+    GaveSo since now (λ given. TellsLook types files.known.items now.path given names place report
+    waiting told gave × KnowsFiles given files told
+    × (is_kept ≡ true → is_known given.kept (name_or_none (slice_get names (place - 1))) ≡ true))
+
+abbrev pub OfferedSince : (since now : FolderView) (types : List SuffixType) (files : KnownFiles)
+    (names : List (List ℕ)) (place : ℕ) (report : Report) (waiting : ℕ) (is_kept : Bool) → Wanted
+    → List Answer → List Wanted → Type 0
+OfferedSince since now types files names place report waiting is_kept offered told gave =
+    GaveSo since now (λ given. TellsOffered types files.known.items now.path given names place report
+    waiting offered told gave × KnowsFiles given files told × (is_kept ≡ false))
 
 -- whether the next look may take what was not taken: a file that is too young, or was changed
 abbrev pub is_for_next : Untaken → Bool

@@ -1,76 +1,55 @@
 use Rattle.std.proofs.Common.{◌≡◌, ◌⊎◌, ◌∙◌, ◌-◌, ℕ, List, [], ◌∷◌, ◌++◌, Option, Some, None, Result, Bool, ap, inl, inr, refl, subst}
-use Rattle.std.proofs.Common.{sym}
+use Rattle.std.proofs.Common.{Ok, sym}
 use Rattle.std.specs.Prelude.{IfSome, codes, option_map, unwrap_or}
 use Rattle.std.specs.Borrow.{Bor}
-use Rattle.disk_model.specs.Disk.{State}
-use Rattle.disk_store.specs.Beginning.{SinceOpened}
 use Rattle.disk_store.specs.declared.file.start.Start.{Ghosts}
-use Rattle.mot_air.specs.Commands.{IsUnplayed, PlaysTask, PlaysTo, played_as, played_with}
+use Rattle.mot_air.specs.Inner.Beside.{lines_in}
+use Rattle.mot_air.specs.Commands.{IsUnplayed, LinesAsked, LinesOf, PlaysTask, PlaysTo, folder_asked}
+use Rattle.mot_air.specs.Commands.{played_as, played_with, watch_asked}
 use Rattle.mot_outcome.specs.Outcome.{Concludes}
-use Rattle.mot_air.specs.Commands.{PlaysAsked, PlaysInto, watch_asked}
-use Rattle.mot_air.specs.Telling.{tale_with}
+use Rattle.mot_air.specs.Telling.{lines_at, tale_with}
 use Rattle.mot_folder.specs.Looked.{Watch}
 use Rattle.mot_numbers.specs.declared.refusal.Refusal.{Refusal}
-use Rattle.mot_outcome.specs.Outcome.{OnFile, Opens}
+use Rattle.mot_outcome.specs.Outcome.{Opens}
 use Rattle.mot_playout.specs.Attempts.{fault_of}
-use Rattle.mot_outcome.specs.declared.used.Beside.{Beside}
 use Rattle.mot_outcome.specs.declared.used.UsedDisk.{UsedDisk}
-use Rattle.mot_outcome.specs.declared.used.UsedDisk.TheVariants.{InMemory, OfCopy, OfFile, Untouched}
 use Rattle.mot_cli.specs.declared.playing.PlayTask.{PlayTask}
 use Rattle.std.proofs.KnownBytes.{Keeps-refl}
 use Rattle.mot_outcome.proofs.Laws.{concludes_more}
 use Rattle.mot_outcome.proofs.Laws.{begun_after, begun_first, opened_after}
 use Rattle.mot_air.proofs.commands.play.Goals as goal
-use Rattle.mot_destinations.specs.Packets.{writes_of}
 use Rattle.mot_endpoints.specs.Opened.{named, paths_of}
 use Rattle.mot_line_folder.specs.declared.folder.LineFolder.{LineFolder}
 use Rattle.mot_endpoints.specs.Types.{IsTyped}
-use Rattle.mot_line_folder.specs.Spool.{reads_of}
+use Rattle.mot_line_folder.specs.Spool.{SpoolView}
+use Rattle.mot_endpoints.specs.LinePlaces.{ChecksLines}
+use Rattle.mot_endpoints.specs.declared.lines.Others.{Others}
+use Rattle.mot_files.specs.Call.{Call}
+use Rattle.mot_files.specs.Host.{calls_of}
+use Rattle.mot_shelf.specs.View.{FolderView}
 use Rattle.mot_suffixes.specs.Types.{SuffixType}
 use Rattle.mot_numbers.specs.declared.refusal.Refusal.TheVariants.{DeviceFault, WriteFault}
 
--- what holds of a file's disk since it was opened, told otherwise
-since_as : {S : Type 0} {start : Ghosts S} (P Q : Beside → State → State → Type 0)
-    → ((beside : Beside) (opened now : State) → P beside opened now → Q beside opened now)
-    → (used : UsedDisk S start) → OnFile (λ disk beside. SinceOpened (P beside) disk) used
-    → OnFile (λ disk beside. SinceOpened (Q beside) disk) used
-since_as P Q told (OfFile disk beside) is =
-    record { begun = is.begun; since = told beside _ _ is.since }
-since_as P Q told (Untouched start) is = absurd is
-since_as P Q told (InMemory disk value) is = absurd is
-since_as P Q told (OfCopy from to) is = absurd is
+-- what is the same of each frame is the same
+by_frame : {A : Type 0} (w v : ℕ → A) → ((frame : ℕ) → w frame ≡ v frame) → w ≡ v
+by_frame w v same = λ i frame. same frame i
 
--- the same folder and lines, told of the words
+-- the same folders and lines, told of the words
 asked : {S : Type 0} {start : Ghosts S} (task : PlayTask) (used : UsedDisk S start)
-    (old new : Option (List ℕ)) (w v : ℕ → Option Watch) (h k : Option (List ℕ × ℕ)) (all : Bool)
-    (ending : Option Refusal) → ((frame : ℕ) → w frame ≡ v frame) → h ≡ k
-    → PlaysTo task (λ frame. tale_with (w frame) h (played_as task frame)) all ending old new used
-    → PlaysTo task (λ frame. tale_with (v frame) k (played_as task frame)) all ending old new used
-asked task used old new w v h k all ending same held
-    (target, is, quiet, placed, (refused, whole, so)) = (
-      target,
-      is,
-      quiet,
-      placed,
-      (
-        refused,
-        whole,
-        since_as (λ beside. PlaysAsked target (λ frame. tale_with (w frame) h (played_as task frame)
-            beside.looks.all (reads_of beside.lines) refused) task ending (task.packets.now ∷ []) (writes_of beside.taken))
-            (λ beside. PlaysAsked target (λ frame. tale_with (v frame) k (played_as task frame)
-            beside.looks.all (reads_of beside.lines) refused) task ending (task.packets.now ∷ []) (writes_of beside.taken))
-            (λ beside opened now plays. (
-              plays.0,
-              plays.1,
-              subst (λ x. PlaysInto target (tale_with x k (played_as task plays.0) beside.looks.all (reads_of beside.lines) refused)
-                  (played_as task plays.0) ending (task.packets.now ∷ []) (writes_of beside.taken) opened
-                  now) (same plays.0)
-                  (subst (λ x. PlaysInto target (tale_with (w plays.0) x (played_as task plays.0)
-                  beside.looks.all (reads_of beside.lines) refused) (played_as task plays.0) ending (task.packets.now ∷ [])
-                  (writes_of beside.taken) opened now) held plays.2),
-            )) used so,
-      ),
-    )
+    (old new : Option (List ℕ)) (w v : ℕ → Option Watch) (h k : Option (List ℕ × ℕ))
+    (folder at : FolderView) (lines : SpoolView) (all : Bool) (ending : Option Refusal)
+    → ((frame : ℕ) → w frame ≡ v frame) → h ≡ k → folder ≡ at
+    → PlaysTo task (λ frame refused then_folder then_lines. tale_with (w frame) h
+    (played_as task frame) refused folder then_folder lines then_lines) all ending old new used
+    → PlaysTo task (λ frame refused then_folder then_lines. tale_with (v frame) k
+    (played_as task frame) refused at then_folder lines then_lines) all ending old new used
+asked task used old new w v h k folder at lines all ending same held is plays =
+    let Plays : (ℕ → Option Watch) → Option (List ℕ × ℕ) → FolderView → Type 0 = λ w h f.
+    PlaysTo task (λ frame refused then_folder then_lines. tale_with (w frame) h
+    (played_as task frame) refused f then_folder lines then_lines) all ending old new used in
+    subst (λ (x : ℕ → Option Watch). Plays x k at) (by_frame w v same)
+    (subst (λ (x : Option (List ℕ × ℕ)). Plays w x at) held
+    (subst (λ (x : FolderView). Plays w h x) is plays))
 
 pub returns-in-Err-clause-ended : goal.returns-in-Err-clause-ended
 returns-in-Err-clause-ended g c =
@@ -105,37 +84,69 @@ reads_asked eight every (Some path) (Some lines) same is =
     ap with_count is
     ∙ ap (λ (h : Option (List ℕ)). option_map {U = List ℕ × ℕ} (λ (x : List ℕ). (x, unwrap_or every eight - 1)) h) same
 
+-- the folder of lines is that of the words
+lines_asked : {S : Type 0} (calls : S → List Call) (path : Option (Bor (List ℕ))) (others : Others)
+    (lines : Option (LineFolder S))
+    → option_map (λ (l : LineFolder S). l.place.path) lines ≡ path
+    → IfSome lines (λ (l : LineFolder S). ChecksLines l.place.path.now others (Ok tt) []
+    (calls l.place.system))
+    → LinesOf path others (lines_in calls lines)
+lines_asked calls None others None same checked = refl
+lines_asked calls (Some path) others None same checked = absurd (let e : None ≡ Some path = same in cc)
+lines_asked calls None others (Some lines) same checked =
+    absurd (let e : Some lines.place.path ≡ None = same in cc)
+lines_asked calls (Some path) others (Some lines) same checked =
+    let is : lines.place.path ≡ path = some_of same in (
+      calls lines.place.system,
+      subst (λ (p : Bor (List ℕ)). ChecksLines p.now others (Ok tt) [] (calls lines.place.system)) is
+          checked,
+      ap (λ (p : Bor (List ℕ)). lines_at p.now (calls lines.place.system)) is,
+    )
+  where
+    some_of : {A : Type 0} {a b : A} → Some a ≡ Some b → a ≡ b
+    some_of same = cc
+
 -- what was played is told of the words
 played : {S : Type 0} {start : Ghosts S} (task : PlayTask) (table : List SuffixType)
     (used : UsedDisk S start) (old new : Option (List ℕ)) (result : Result Bool Refusal)
-    (w : ℕ → Option Watch) (hand : Option (List ℕ × ℕ)) → IsTyped task.types table
-    → ((frame : ℕ) → w frame ≡ watch_asked table task frame)
+    (w : ℕ → Option Watch) (hand : Option (List ℕ × ℕ)) (folder : FolderView) (lines : SpoolView)
+    → IsTyped task.types table → ((frame : ℕ) → w frame ≡ watch_asked table task frame)
     → hand ≡ option_map (λ path. ([], unwrap_or task.every 8 - 1)) task.lines
+    → folder ≡ folder_asked task → LinesAsked task lines
     → Concludes (λ r. (r ≡ DeviceFault) ⊎ (r ≡ WriteFault)) (λ all ending.
-    PlaysTo task (λ frame. tale_with (w frame) hand (played_as task frame)) all ending old new used)
+    PlaysTo task (λ frame refused then_folder then_lines. tale_with (w frame) hand
+    (played_as task frame) refused folder then_folder lines then_lines) all ending old new used)
     result used old new
     → Concludes (IsUnplayed task) (λ all ending. PlaysTask task all ending used old new) result
     used old new
-played task table used old new result w hand typed same held plays =
+played task table used old new result w hand folder lines typed same held is checked plays =
     concludes_more (λ r. (r ≡ DeviceFault) ⊎ (r ≡ WriteFault)) (IsUnplayed task) (λ all ending.
-    PlaysTo task (λ frame. tale_with (w frame) hand (played_as task frame)) all ending old new used)
+    PlaysTo task (λ frame refused then_folder then_lines. tale_with (w frame) hand
+    (played_as task frame) refused folder then_folder lines then_lines) all ending old new used)
     (λ all ending. PlaysTask task all ending used old new) used old new result
     (λ r early. inr (inr early))
     (λ all ending so. (
       table,
       typed,
-      asked task used old new w (watch_asked table task) hand _ all
-          ending same held so,
+      (
+        lines,
+        checked,
+        asked task used old new w (watch_asked table task) hand _ folder (folder_asked task) lines
+            all ending same held is so,
+      ),
     )) plays
 
 pub returns-clause-ended : goal.returns-clause-ended
 returns-clause-ended g c =
     played c.args.task c.in-Ok.types c.play_file.result.disk
     (g.W.Write.contents c.args.writer.now) (g.W.Write.contents c.play_file.new.writer)
-    c.play_file.result.result _ _ c.in-Ok.ensures.typed
+    c.play_file.result.result _ _ _ _ c.in-Ok.ensures.typed
     (λ frame. c.followed-folder.ensures.given (played_as c.args.task frame)) (reads_asked 8 c.args.task.every
     c.args.task.lines c.in-Ok-line_folder.lines c.in-Ok-line_folder.ensures.hand
     c.in-Ok-line_folder.ensures.every)
+    c.followed-folder.ensures.folder
+    (lines_asked calls_of c.args.task.lines _ c.in-Ok-line_folder.lines
+    c.in-Ok-line_folder.ensures.folder c.in-Ok-line_folder.ensures.checked)
     c.play_file.ensures.ended
 
 pub returns-in-Err-clause-opens : goal.returns-in-Err-clause-opens

@@ -1,17 +1,18 @@
 use Rattle.std.proofs.Common.{ℕ, [], ◌∷◌, ◌∙◌, ◌-◌, Bool, List, Option, Result, inl, subst, sym}
 use Rattle.std.proofs.KnownBytes.{Keeps-refl}
 use Rattle.disk_store.specs.declared.file.start.Start.{Ghosts}
+use Rattle.mot_air.specs.Inner.Beside.{lines_in}
 use Rattle.mot_air.specs.Inner.Unbegun.{IsUnbegun}
 use Rattle.mot_numbers.specs.declared.refusal.Refusal.{Refusal}
 use Rattle.mot_outcome.specs.Outcome.{Concludes}
 use Rattle.mot_outcome.specs.declared.used.UsedDisk.{UsedDisk}
 use Rattle.std.specs.Prelude.{codes, option_map}
 use Rattle.mot_air.specs.Commands.{PlaysTo, played_as}
-use Rattle.mot_air.specs.Telling.{tale_with, watch_in, watched}
+use Rattle.mot_air.specs.Telling.{folder_in, tale_with, watch_in, watched}
 use Rattle.mot_line_folder.specs.declared.folder.LineFolder.{LineFolder}
 use Rattle.mot_air.proofs.on_air.play_file.Goals as goal
 use Rattle.mot_endpoints.specs.Opened.{paths_of}
-use Rattle.mot_shelf.specs.System.{shelf_path}
+use Rattle.mot_shelf.specs.Reader.{reader_path}
 
 -- what was not begun
 unbegun_so : {S : Type 0} {start : Ghosts S} (IsEarly : Refusal → Type 0)
@@ -24,7 +25,7 @@ unbegun_so IsEarly IsEnded result used log is =
 
 pub returns-in-Ok-clause-ended : goal.returns-in-Ok-clause-ended
 returns-in-Ok-clause-ended g c =
-    let both = c.in-Ok.ensures in c.play_both-finished.ensures.ended both.target both.begun both.first
+    let both = c.in-Ok.ensures in c.play_both-finished.ensures.ended both.target both.opened both.first
 
 pub returns-in-Ok-clause-opens : goal.returns-in-Ok-clause-opens
 returns-in-Ok-clause-opens g c =
@@ -37,10 +38,12 @@ returns-in-Err-clause-ended g c =
     let task = c.args.airing.task in
     let log = g.W.Write.contents c.args.writer.now in
     let used = c.in-Err.unbegun.disk in
-    unbegun_so _ (λ all ending. PlaysTo task (λ frame. let how = played_as task frame in
-    tale_with (watched c.args.airing.folder
-    (λ followed. watch_in how (shelf_path followed.shelf) followed.types.now followed.allows_empty))
-    (option_map (λ (lines : LineFolder _). (lines.hand, lines.every - 1)) c.args.airing.lines) how)
+    unbegun_so _ (λ all ending. PlaysTo task (λ frame refused then_folder then_lines.
+    let how = played_as task frame in tale_with (watched c.args.airing.folder
+    (λ followed. watch_in how (reader_path followed.shelf) followed.types.now followed.allows_empty))
+    (option_map (λ (lines : LineFolder _). (lines.hand, lines.every - 1)) c.args.airing.lines) how
+    refused (folder_in g.Y.System.calls c.args.airing.folder) then_folder
+    (lines_in g.Y.System.calls c.args.airing.lines) then_lines)
     all ending log log used) c.in-Err.unbegun.result used log
     c.in-Err.ensures.refused
 

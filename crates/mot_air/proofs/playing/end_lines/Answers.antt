@@ -1,3 +1,4 @@
+use Rattle.std.proofs.Common.{⊎_elim, inl, inr}
 use Rattle.mot_events.proofs.Laws.{hears_as}
 use Rattle.mot_status.specs.Teller.{Hears, Misses, teller}
 use Rattle.mot_air.proofs.playing.end_lines.Goals as goal
@@ -13,3 +14,8 @@ returns-clause-told g c =
           told.0 told.2,
       c.end_telling.ensures.told,
     )
+
+pub returns-clause-lines : goal.returns-clause-lines
+returns-clause-lines g c =
+    ⊎_elim (λ same. inl same) (λ done. inr (c.has_ended.ensures.0 done.0, done.1))
+    c.finish.ensures.lines

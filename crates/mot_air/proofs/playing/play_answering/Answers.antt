@@ -1,9 +1,10 @@
-use Rattle.std.proofs.Common.{◌∙◌, ◌-◌, ap, sym}
+use Rattle.std.proofs.Common.{◌∙◌, ◌-◌, ap, subst, sym}
 use Rattle.mot_air.specs.Inner.Fed.{disk_of, ending_of}
-use Rattle.mot_air.specs.Telling.{EndsLines}
+use Rattle.mot_air.specs.Telling.{EndsLines, EndsReading, lines_at}
 use Rattle.mot_air.proofs.Retold.{answered_retold, fed_out, plays_as, seen, told_out}
 use Rattle.mot_air.proofs.playing.play_answering.Goals as goal
-use Rattle.mot_line_folder.specs.Spool.{spool_gave}
+use Rattle.mot_line_folder.specs.Spool.{spool_system, spool_view}
+use Rattle.mot_line_folder.specs.Spooling.{GaveLines}
 use Rattle.mot_status.specs.Teller.{teller}
 
 pub returns : goal.returns
@@ -16,16 +17,23 @@ returns g c =
     let start = g.D.Disk.state c.args.disk in
     let last = c.feed_lines-fed.new.lines in
     let view = teller g.F.System.calls g.L.Write.contents in
-    let made = c.lines_between-lines.ensures in (
-      seen last view spool_gave,
+    let see = spool_view g.F.System.calls in
+    let made = c.lines_between-lines.ensures in
+    let place = c.args.lines.place in (
+      seen last view see,
       sym (c.into_parts-spool.ensures.update ∙ c.end_lines-ended.ensures.update),
-      sym (c.into_lines.ensures ∙ ap spool_gave c.into_parts-spool.ensures.reader
-          ∙ c.end_lines-ended.ensures.lines),
+      subst (λ e. EndsReading e (see last.reader) c.into_calls.result.all)
+          (sym c.end_lines-ended.ensures.ended.ending)
+          (subst (EndsReading (ending_of fed) (see last.reader))
+          (sym (c.into_calls.ensures ∙ ap g.F.System.calls c.into_system.ensures
+          ∙ ap (λ (r : _). g.F.System.calls (spool_system r))
+          c.into_parts-spool.ensures.reader))
+          c.end_lines-ended.ensures.lines),
       fed_out g.D.Disk.state _ how before after start fed ended c.end_lines-ended.ensures.ended
-          (plays_as _ _ (answered_retold c.lines_between-lines.result last view
-          spool_gave _ g.U.Facts.known g.U.Update.tells how
+          (plays_as _ _ (answered_retold c.lines_between-lines.result last view GaveLines see
+          _ g.U.Facts.known g.U.Update.tells how
           (c.args.lines.every - 1) c.args.update
-          c.args.lines.hand made.every made.due made.unread made.hand
+          (lines_at place.path.now (g.F.System.calls place.system)) c.args.lines.hand made.every made.due made.unread made.hand
           (ap (λ (r : _). r.update) made.reported)
           (ap (λ (r : _). view r.watch) made.reported ∙ c.new-watch.ensures.starts))
           how (ending_of fed) before after start (g.D.Disk.state (disk_of fed))

@@ -1,23 +1,15 @@
-use Rattle.std.proofs.Common.{◌≡◌, ◌≢◌, ◌==◌, ℕ, List, None, Option, Some, Ok, Result, ap, if◌then◌else◌}
+use Rattle.std.proofs.Common.{◌≡◌, ◌≢◌, ◌==◌, ℕ, List, None, Option, Some, Ok, if◌then◌else◌}
 use Rattle.std.proofs.Common.{refl, rules, subst, sym}
 use Rattle.std.specs.Prelude.{codes}
-use Rattle.mot_destinations.specs.Packets.{IsPlace, IsTarget, fault_of_turns, opening_handle, opening_path}
-use Rattle.mot_destinations.specs.Packets.{opening_destination}
+use Rattle.mot_destinations.specs.Packets.{IsPlace, IsTarget, fault_of_turns}
 use Rattle.mot_destinations.specs.Packets.OpensInto.{file, output, stream}
 use Rattle.mot_destinations.specs.Packets.OpensPackets.{no_file, no_output, no_place, no_stream, no_turns}
 use Rattle.mot_destinations.specs.Packets.OpensPackets.{ready}
-use Rattle.mot_destinations.specs.declared.fault.Cause.{Cause}
 use Rattle.mot_destinations.specs.declared.fault.PacketsFault.{PacketsFault}
 use Rattle.mot_destinations.specs.declared.packets.Destination.{Destination}
-use Rattle.mot_destinations.specs.declared.packets.Opening.{Opening}
 use Rattle.mot_destinations.specs.declared.packets.Place.{Place}
 use Rattle.mot_destinations.specs.declared.packets.Target.{Target}
-use Rattle.mot_files.specs.declared.system.Handle.{Handle}
 use Rattle.mot_destinations.proofs.packets.open_packets.Goals as goal
-
--- what was opened, as it is handed out
-abbrev handed : Opening → Result (Handle × Destination) Cause
-handed opening = Ok (opening_handle opening, opening_destination opening)
 
 -- what is not standard output
 elsewhere : (path : List ℕ) (target : Target) → path ≢ codes "-" → target ≢ Target.Output
@@ -44,46 +36,51 @@ asked Place.Nothing (Some count) e = (some count, counted count e)
 asked Place.File (Some count) e = (some count, counted count e)
 asked Place.Stream (Some count) e = (some count, counted count e)
 
-pub returns-in-Ok-clause-calls : goal.returns-in-Ok-clause-calls
-returns-in-Ok-clause-calls g c =
+pub returns-in-Ok : goal.returns-in-Ok
+returns-in-Ok g c =
     let dash : c.args.path.now ≡ codes "-" = search rules in
-    ready c.in-Ok.handle Destination.Output (ap handed c.of.ensures) (λ is. refl, λ is. dash)
-    (λ is. absurd (cc)) (output c.in-Ok.ensures)
+    record {
+      calls = ready c.in-Ok.handle Destination.Output refl (λ is. refl, λ is. dash)
+          (λ is. absurd (cc)) (output c.in-Ok.ensures);
+    }
 
-pub returns-in-Err-clause-calls : goal.returns-in-Err-clause-calls
-returns-in-Err-clause-calls g c =
+pub returns-in-Err : goal.returns-in-Err
+returns-in-Err g c =
     let dash : c.args.path.now ≡ codes "-" = search rules in
-    no_output c.in-Err.fault refl dash c.in-Err.ensures
+    record { calls = no_output c.in-Err.fault refl dash c.in-Err.ensures }
 
-pub returns-in-Err-place_at-clause-calls : goal.returns-in-Err-place_at-clause-calls
-returns-in-Err-place_at-clause-calls g c =
+pub returns-in-Err-place_at : goal.returns-in-Err-place_at
+returns-in-Err-place_at g c =
     let other : c.args.path.now ≢ codes "-" = search rules in
-    no_place c.in-Err-place_at.fault refl other c.in-Err-place_at.ensures
+    record { calls = no_place c.in-Err-place_at.fault refl other c.in-Err-place_at.ensures }
 
-pub returns-in-Ok-open_stream-clause-calls : goal.returns-in-Ok-open_stream-clause-calls
-returns-in-Ok-open_stream-clause-calls g c =
+pub returns-in-Ok-open_stream : goal.returns-in-Ok-open_stream
+returns-in-Ok-open_stream g c =
     let other : c.args.path.now ≢ codes "-" = search rules in
     let old = g.S.System.calls c.args.system.now in
     let mid = g.S.System.calls c.place_at.new.system in
-    ready c.in-Ok-open_stream.handle Destination.Stream (ap handed c.of-in-Ok-open_stream.ensures)
-    (elsewhere c.args.path.now Target.Stream other (λ is. cc)) (λ is. absurd (cc))
-    (stream mid (subst (λ place. IsPlace c.args.path.now c.args.disk.now (Ok place) old mid)
-    c.in-Stream.is c.in-Ok-place_at.ensures) c.in-Ok-open_stream.ensures)
+    record {
+      calls = ready c.in-Ok-open_stream.handle Destination.Stream refl
+          (elsewhere c.args.path.now Target.Stream other (λ is. cc)) (λ is. absurd (cc))
+          (stream mid (subst (λ place. IsPlace c.args.path.now c.args.disk.now (Ok place) old mid)
+          c.in-Stream.is c.in-Ok-place_at.ensures) c.in-Ok-open_stream.ensures);
+    }
 
-pub returns-in-Err-open_stream-clause-calls : goal.returns-in-Err-open_stream-clause-calls
-returns-in-Err-open_stream-clause-calls g c =
+pub returns-in-Err-open_stream : goal.returns-in-Err-open_stream
+returns-in-Err-open_stream g c =
     let other : c.args.path.now ≢ codes "-" = search rules in
     let old = g.S.System.calls c.args.system.now in
     let mid = g.S.System.calls c.place_at.new.system in
-    no_stream c.in-Err-open_stream.fault mid refl other
-    (subst (λ place. IsPlace c.args.path.now c.args.disk.now (Ok place) old mid) c.in-Stream.is
-    c.in-Ok-place_at.ensures) c.in-Err-open_stream.ensures
+    record {
+      calls = no_stream c.in-Err-open_stream.fault mid refl other
+          (subst (λ place. IsPlace c.args.path.now c.args.disk.now (Ok place) old mid)
+          c.in-Stream.is c.in-Ok-place_at.ensures) c.in-Err-open_stream.ensures;
+    }
 
 pub returns-in-Some : goal.returns-in-Some
 returns-in-Some g c =
     let other : c.args.path.now ≢ codes "-" = search rules in
     record {
-      path = tt;
       calls = no_turns c.in-Some.fault c.in-Ok-place_at.place refl other c.in_default.not-Stream
           c.in-Ok-place_at.ensures (sym c.in-Some.ensures);
     }
@@ -94,9 +91,7 @@ returns-in-Ok-new_file g c =
     let place = c.in-Ok-place_at.place in
     let asks : fault_of_turns place c.args.turns ≡ None = search rules in
     record {
-      path = ap opening_path c.of-in-Ok-new_file.ensures;
-      calls = ready c.in-Ok-new_file.handle (Destination.File c.in-Ok-new_file.place)
-          (ap handed c.of-in-Ok-new_file.ensures)
+      calls = ready c.in-Ok-new_file.handle (Destination.File c.in-Ok-new_file.place) refl
           (elsewhere c.args.path.now Target.File other (λ is. cc))
           (λ is. asked place c.args.turns asks)
           (file (g.S.System.calls c.place_at.new.system) place c.in-Ok-new_file.place
@@ -107,7 +102,6 @@ pub returns-in-Err-new_file : goal.returns-in-Err-new_file
 returns-in-Err-new_file g c =
     let other : c.args.path.now ≢ codes "-" = search rules in
     record {
-      path = tt;
       calls = no_file c.in-Err-new_file.fault c.in-Ok-place_at.place
           (g.S.System.calls c.place_at.new.system) refl other c.in_default.not-Stream
           c.in-Ok-place_at.ensures c.in-Err-new_file.ensures;

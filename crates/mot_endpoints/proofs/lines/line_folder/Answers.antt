@@ -1,4 +1,7 @@
-use Rattle.std.proofs.Common.{◌≡◌, false, refl, subst, sym}
+use Rattle.std.proofs.Common.{◌≡◌, Ok, [], false, refl, subst, sym}
+use Rattle.std.specs.Borrow.{Bor}
+use Rattle.mot_endpoints.specs.LinePlaces.{ChecksLines}
+use Rattle.mot_files.specs.Host.{calls_of}
 use Rattle.std.specs.Prelude.{codes}
 use Rattle.mot_endpoints.specs.Opened.{BeginsTo, is_fault, named, paths_of}
 use Rattle.mot_endpoints.proofs.Opened.{one_in_vain, one_unfit}
@@ -21,3 +24,8 @@ returns-clause-opens c =
     subst (λ (p : _). BeginsTo (named (codes "lines") p) refusal before after) (sym c.in-Some.is)
     (one_unfit (codes "lines") c.in-Some.path.now refusal before after
     (subst (λ (r : _). is_fault r ≡ false) (sym c.no_memory.ensures) refl) c.in-Ok.ensures.paths)
+
+pub returns-in-Ok-new-clause-checked : goal.returns-in-Ok-new-clause-checked
+returns-in-Ok-new-clause-checked c =
+    subst (λ (p : Bor _). ChecksLines p.now c.args.others (Ok tt) [] (calls_of c.in-Ok.place.system))
+    (sym c.in-Ok.ensures.path) c.in-Ok.ensures.checked

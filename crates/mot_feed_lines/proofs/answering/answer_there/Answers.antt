@@ -28,5 +28,5 @@ returns-clause-run g c = λ s holds honest.
     let old = c.args.server.now in
     let new = c.answer_chunk.new.server in
     updating_lines state old new s _ c.args.intake.now.hand c.answer_chunk.new.intake.hand _ _
-    _ c.args.log.now c.answer_chunk.new.log
+    _ _ c.args.log.now c.answer_chunk.new.log
     holds honest (c.answer_chunk.ensures.run s holds honest) (returns-clause-answered g c)

@@ -1,56 +1,88 @@
-use Rattle.std.proofs.Common.{ap, arith, take}
+use Rattle.std.proofs.Common.{ap, arith, refl, take}
 use Rattle.mot_folder.specs.Inner.Listing.{stage}
 use Rattle.mot_folder.specs.Inner.Listing.GivesNoMore.{endless}
 use Rattle.mot_folder.proofs.Stages.{more_listed, reads_all, reads_fault, reads_more, reads_no_more}
 use Rattle.mot_folder.proofs.Stages.{reads_none}
 use Rattle.mot_folder.proofs.Unlisted.{reads_so, why_same}
 use Rattle.mot_folder.proofs.listing.read_names.Goals as goal
+use Rattle.mot_shelf.proofs.Laws.{gives_on}
+use Rattle.mot_shelf.specs.Given.{and_failed, and_listed}
+use Rattle.mot_shelf.specs.Gives.Gives.{more, none}
+use Rattle.mot_shelf.specs.Reader.{reader_path}
 
 pub loop-init : goal.loop-init
 loop-init g c = record {
-  some = reads_none c.args.types.now (stage (g.S.Shelf.path c.args.shelf.now)
-      (g.S.Shelf.gave c.args.shelf.now) c.args.report.now c.args.names.now.counted
-      c.args.names.now.names.items);
-  long = omega arith;
+  some = λ given. (
+    given,
+    none,
+    (
+      reads_none c.args.types.now (stage (reader_path c.args.shelf.now) given c.args.report.now
+          c.args.names.now.counted c.args.names.now.names.items),
+      omega arith,
+    ),
+  );
 }
 
 pub loop-preserved : goal.loop-preserved
 loop-preserved g c =
-    let path = g.S.Shelf.path c.names.new.self in
-    let given = g.S.Shelf.gave c.names.new.self in
-    let was = c.loop.invariant in
+    let path = reader_path c.names.new.self in
     record {
-      some = reads_more c.args.types.now _ _ path given was.some c.in-Ok.ensures.same _ _
-          c.in-Ok.ensures.gave c.in_ok-add_all-in-Ok.ensures;
-      long = more_listed c.args.types.now _ _ path given was.some c.in-Ok.ensures.same
-          (g.S.Shelf.gave c.add_all.new.shelf) _ c.loop.counter c.in-Ok.ensures.gave
-          c.in_ok-add_all-in-Ok.ensures.listed was.long;
+      some = λ given.
+          let was = c.loop.invariant.some given in
+          let bytes = take c.in-Ok.count c.names.new.room in
+          let mid = and_listed was.0 bytes in
+          let rest = c.in_ok-add_all-in-Ok.ensures mid in (
+            rest.0,
+            gives_on _ _ given mid _ rest.0 (more _ was.0 was.1 (c.in-Ok.ensures.asks was.0)) rest.1,
+            (
+              reads_more c.args.types.now _ _ path mid was.2.0 c.in-Ok.ensures.same _ _ refl rest.2,
+              more_listed c.args.types.now _ _ path mid was.2.0 c.in-Ok.ensures.same rest.0 _
+                  c.loop.counter refl rest.2.listed was.2.1,
+            ),
+          );
     }
 
 pub returns-in_err-add_all-in-Ok : goal.returns-in_err-add_all-in-Ok
-returns-in_err-add_all-in-Ok g c =
+returns-in_err-add_all-in-Ok g c = λ given.
     let types = c.args.types.now in
     let stop = c.in_err-add_all-in-Ok in
-    reads_so types _ _ c.from_residual.result stop.field-0.0.refusal
-    (why_same c.from_residual.result stop.field-0.0 c.from_residual.ensures.1)
-    (reads_no_more types _ _ (g.S.Shelf.path c.names.new.self) (g.S.Shelf.gave c.names.new.self)
-    c.loop.invariant.some c.in-Ok.ensures.same _ _ stop.field-0.0.refusal c.in-Ok.ensures.gave
-    stop.ensures)
+    let was = c.loop.invariant.some given in
+    let mid = and_listed was.0 (take c.in-Ok.count c.names.new.room) in
+    let rest = stop.ensures mid in (
+      rest.0,
+      gives_on _ _ given mid _ rest.0 (more _ was.0 was.1 (c.in-Ok.ensures.asks was.0)) rest.1,
+      reads_so types _ _ c.from_residual.result stop.field-0.0.refusal
+          (why_same c.from_residual.result stop.field-0.0 c.from_residual.ensures.1)
+          (reads_no_more types _ _ (reader_path c.names.new.self) mid was.2.0 c.in-Ok.ensures.same _
+          _ stop.field-0.0.refusal refl rest.2),
+    )
 
 pub returns-in-Err : goal.returns-in-Err
-returns-in-Err g c =
-    reads_fault c.args.types.now _ _ (g.S.Shelf.path c.names.new.self)
-    (g.S.Shelf.gave c.names.new.self) c.loop.invariant.some c.in-Err.ensures.same _
-    c.by.result.refusal c.in-Err.ensures.gave c.by.ensures
+returns-in-Err g c = λ given.
+    let was = c.loop.invariant.some given in
+    let new = and_failed was.0 (reader_path c.loop.shelf) in (
+      new,
+      more _ was.0 was.1 (c.in-Err.ensures.asks was.0),
+      reads_fault c.args.types.now _ _ (reader_path c.names.new.self) new was.2.0
+          c.in-Err.ensures.same _ c.by.result.refusal refl c.by.ensures,
+    )
 
 pub returns : goal.returns
-returns g c = record {
-  later = c.loop.invariant.some.later;
-  why = endless c.from.ensures (omega (arith, c.loop.invariant.long));
-}
+returns g c = λ given.
+    let was = c.loop.invariant.some given in
+    let long = was.2.1 in (
+      was.0,
+      was.1,
+      record { later = was.2.0.later; why = endless c.from.ensures (omega (arith, long)) },
+    )
 
 pub returns-in-Ok-eq0 : goal.returns-in-Ok-eq0
-returns-in-Ok-eq0 g c =
-    reads_all c.args.types.now _ _ (g.S.Shelf.path c.names.new.self)
-    (g.S.Shelf.gave c.names.new.self) c.loop.invariant.some c.in-Ok-eq0.ensures.same _
-    c.in-Ok-eq0.ensures.gave (ap (λ n. take n c.names.new.room) c.in-Ok-eq0.field-0-test)
+returns-in-Ok-eq0 g c = λ given.
+    let was = c.loop.invariant.some given in
+    let new = and_listed was.0 (take c.in-Ok-eq0.field-0 c.names.new.room) in (
+      new,
+      more _ was.0 was.1 (c.in-Ok-eq0.ensures.asks was.0),
+      reads_all c.args.types.now _ _ (reader_path c.names.new.self) new was.2.0
+          c.in-Ok-eq0.ensures.same _ refl
+          (ap (λ n. take n c.names.new.room) c.in-Ok-eq0.field-0-test),
+    )

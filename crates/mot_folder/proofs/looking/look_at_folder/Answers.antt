@@ -23,7 +23,11 @@ use Rattle.mot_numbers.specs.declared.refusal.Refusal.{Refusal}
 use Rattle.mot_journal.specs.Image.{Standing}
 use Rattle.disk_model.specs.Disk.{State}
 use Rattle.mot_playout.specs.Server.{ServerView}
-use Rattle.mot_shelf.specs.Given.{Given}
+use Rattle.mot_shelf.proofs.Laws.{gives_on, gives_one}
+use Rattle.mot_shelf.specs.Given.{Given, nothing}
+use Rattle.mot_shelf.specs.Gives.{Asks, Gives}
+use Rattle.mot_shelf.specs.Reader.{reader_path, view}
+use Rattle.mot_shelf.specs.View.{FolderView}
 use Rattle.mot_update.specs.HasRun.{HasRun}
 use Rattle.mot_playout.specs.Attempts.{fault_of}
 use Rattle.mot_suffixes.specs.Types.{SuffixType}
@@ -50,12 +54,14 @@ of_nothing old new start now s types allows path given report fault known entrie
   told = told;
 }
 
+-- a look begins, and the folder is listed
+begins : (old begun new : FolderView) (given : Given) → Asks old begun nothing nothing
+    → Gives begun nothing new given → Gives old nothing new given
+begins old begun new given asks gives =
+    gives_on old begun nothing nothing new given (gives_one old begun nothing nothing asks) gives
+
 pub look_at_names-requires : goal.look_at_names-requires
 look_at_names-requires g c = record {
-  listed = is_listed c.args.folder.now.types.now (g.S.Shelf.path c.begin.new.self)
-      c.begin-2.new.self _
-      (nameless_none c.begin-2.new.self c.begin-2.ensures.fine c.begin-2.ensures.told)
-      c.in-Ok.ensures.lists;
   updates = ap (λ (k : memory.Carousel). is_kept c.args.folder.now.allows_empty
       c.in-Ok.names.names.items (length k.objects.items)) (sym c.carousel-2.ensures.value)
       ∙ sym c.if-is_kept.ensures;
@@ -65,24 +71,27 @@ pub returns-in-Err-clause-looked : goal.returns-in-Err-clause-looked
 returns-in-Err-clause-looked g c = λ s holds honest.
     let old = c.args.server.now in
     let state = g.D.Disk.state old.disk in
-    let told = c.in-Err.ensures.lists.later.told []
-    (tells_none c.begin-2.new.self c.begin-2.ensures.told) in
+    let lists = c.in-Err.ensures in
+    let told = lists.2.later.told [] (tells_none c.begin-2.new.self c.begin-2.ensures.told) in
     let refusal = c.in-Err.unlisted.refusal in
-    let path = g.S.Shelf.path c.list.new.shelf in
+    let path = reader_path c.list.new.shelf in
     let bare = unlisted_for path refusal Unsaid in
     let last = unlisted_for path refusal c.end_unlisted.ensures.told.0 in
-    let fault = fault_of c.end_unlisted.result in
-    of_nothing old old state state s _ _ _ _ _ fault _ (told.entries ++ last ∷ [])
-    (has_read old old state state s fault
-    (g.met.D.Disk.sound old.disk honest) refl refl honest (unchanged_none state) holds).0
-    (unlisted refusal (subst (λ p. IsUnlisted c.args.folder.now.types.now p
-    (g.S.Shelf.gave c.list.new.shelf) refusal) c.begin.ensures.same c.in-Err.ensures.lists.why)
-    (ap not c.end_unlisted.ensures.any) c.end_unlisted.ensures.fault refl
-    (look-more told.entries (last ∷ []) ∙ ap (λ l. l ++ bare ∷ []) told.are
-    ∙ ap (λ n. unlisted_for n refusal Unsaid ∷ [])
-    (c.in-Err.ensures.lists.later.same ∙ c.begin.ensures.same))
-    (images_same told.entries last refl ∙ told.images) refl)
-    (c.end_unlisted.ensures.told.1 told.entries told.told)
+    let fault = fault_of c.end_unlisted.result in (
+      lists.0,
+      begins _ _ _ lists.0 (c.begin.ensures.asks nothing) lists.1,
+      of_nothing old old state state s _ _ _ _ _ fault _ (told.entries ++ last ∷ [])
+          (has_read old old state state s fault
+          (g.met.D.Disk.sound old.disk honest) refl refl honest (unchanged_none state) holds).0
+          (unlisted refusal (subst (λ p. IsUnlisted c.args.folder.now.types.now p
+          lists.0 refusal) c.begin.ensures.same lists.2.why)
+          (ap not c.end_unlisted.ensures.any) c.end_unlisted.ensures.fault refl
+          (look-more told.entries (last ∷ []) ∙ ap (λ l. l ++ bare ∷ []) told.are
+          ∙ ap (λ n. unlisted_for n refusal Unsaid ∷ [])
+          (lists.2.later.same ∙ c.begin.ensures.same))
+          (images_same told.entries last refl ∙ told.images) refl)
+          (c.end_unlisted.ensures.told.1 told.entries told.told),
+    )
 
 pub returns-then-is_kept-clause-looked : goal.returns-then-is_kept-clause-looked
 returns-then-is_kept-clause-looked g c = λ s holds honest.
@@ -90,32 +99,35 @@ returns-then-is_kept-clause-looked g c = λ s holds honest.
     let state = g.D.Disk.state old.disk in
     let allows = c.args.folder.now.allows_empty in
     let types = c.args.folder.now.types.now in
-    let given = g.S.Shelf.gave c.list.new.shelf in
-    let path = g.S.Shelf.path c.list.new.shelf in
+    let given = c.in-Ok.ensures.0 in
+    let lists = c.in-Ok.ensures.2.0 in
+    let path = reader_path c.list.new.shelf in
     let names = c.in-Ok.names.names.items in
-    let told = c.in-Ok.ensures.lists.later.told []
-    (tells_none c.begin-2.new.self c.begin-2.ensures.told) in
-    let same = c.in-Ok.ensures.lists.later.same ∙ c.begin.ensures.same in
+    let told = lists.later.told [] (tells_none c.begin-2.new.self c.begin-2.ensures.told) in
+    let same = lists.later.same ∙ c.begin.ensures.same in
     let is : is_kept allows names (length s.carousel.objects) ≡ true =
     kept_as_counted allows names old.view s holds.agrees
     ∙ ap (λ (k : memory.Carousel). is_kept allows names (length k.objects.items))
     (sym c.carousel-2.ensures.value)
     ∙ sym c.if-is_kept.ensures in
     let none = none_named allows names (length s.carousel.objects) is in
-    let fault = fault_of c.end_kept.result in
-    of_nothing old old state state s _ _ _ _ _ fault _ (told.entries ++ event_of path Kept ∷ [])
-    (has_read old old state state s fault
-    (g.met.D.Disk.sound old.disk honest) refl refl honest (unchanged_none state) holds).0
-    (kept
-    (subst (λ n. IsListing types (g.S.Shelf.path c.args.folder.now.shelf) given n) none
-    (subst (λ p. IsListing types p given names) c.begin.ensures.same c.in-Ok.ensures.lists.listing))
-    (subst (λ n. is_kept allows n (length s.carousel.objects) ≡ true) none is)
-    (ap not c.end_kept.ensures.any) c.end_kept.ensures.fault refl
-    (look-more told.entries (event_of path Kept ∷ [])
-    ∙ ap (λ l. l ++ event_of path Kept ∷ []) told.are
-    ∙ ap (λ n. event_of n Kept ∷ []) same)
-    (images_same told.entries (event_of path Kept) refl ∙ told.images) refl)
-    (c.end_kept.ensures.told told.entries told.told)
+    let fault = fault_of c.end_kept.result in (
+      given,
+      begins _ _ _ given (c.begin.ensures.asks nothing) c.in-Ok.ensures.1,
+      of_nothing old old state state s _ _ _ _ _ fault _ (told.entries ++ event_of path Kept ∷ [])
+          (has_read old old state state s fault
+          (g.met.D.Disk.sound old.disk honest) refl refl honest (unchanged_none state) holds).0
+          (kept
+          (subst (λ n. IsListing types (reader_path c.args.folder.now.shelf) given n) none
+          (subst (λ p. IsListing types p given names) c.begin.ensures.same lists.listing))
+          (subst (λ n. is_kept allows n (length s.carousel.objects) ≡ true) none is)
+          (ap not c.end_kept.ensures.any) c.end_kept.ensures.fault refl
+          (look-more told.entries (event_of path Kept ∷ [])
+          ∙ ap (λ l. l ++ event_of path Kept ∷ []) told.are
+          ∙ ap (λ n. event_of n Kept ∷ []) same)
+          (images_same told.entries (event_of path Kept) refl ∙ told.images) refl)
+          (c.end_kept.ensures.told told.entries told.told),
+    )
 
 pub returns-clause-looked : goal.returns-clause-looked
 returns-clause-looked g c = λ s holds honest.
@@ -124,24 +136,21 @@ returns-clause-looked g c = λ s holds honest.
     let new = c.look_at_names.new.server in
     let first = c.args.folder.now in
     let last = c.look_at_names.new.folder in
-    subst (λ p. HasLookedAtFolder old new (state old.disk) (state new.disk) s first.types.now
-    first.allows_empty p (g.S.Shelf.gave last.shelf) last.report (fault_of c.look_at_names.result)
-    first.files.known.items last.files.known.items)
-    (c.in-Ok.ensures.lists.later.same ∙ c.begin.ensures.same)
-    (c.look_at_names.ensures.looked s holds honest).0
-
-pub returns-clause-path : goal.returns-clause-path
-returns-clause-path g c = λ s holds honest.
-    (c.look_at_names.ensures.looked s holds honest).1 ∙ c.in-Ok.ensures.lists.later.same
-    ∙ c.begin.ensures.same
-
-pub returns-then-is_kept-clause-path : goal.returns-then-is_kept-clause-path
-returns-then-is_kept-clause-path g c = λ s holds honest.
-    c.in-Ok.ensures.lists.later.same ∙ c.begin.ensures.same
-
-pub returns-in-Err-clause-path : goal.returns-in-Err-clause-path
-returns-in-Err-clause-path g c = λ s holds honest.
-    c.in-Err.ensures.lists.later.same ∙ c.begin.ensures.same
+    let since = view g.S.System.calls first.shelf in
+    let given = c.in-Ok.ensures.0 in
+    let lists = c.in-Ok.ensures.2.0 in
+    let x = c.look_at_names.ensures.looked since given
+    (begins _ _ _ given (c.begin.ensures.asks nothing) c.in-Ok.ensures.1)
+    (is_listed first.types.now (reader_path c.begin.new.self) c.begin-2.new.self _
+    (nameless_none c.begin-2.new.self c.begin-2.ensures.fine c.begin-2.ensures.told) lists)
+    s holds honest in (
+      x.0,
+      x.1,
+      subst (λ p. HasLookedAtFolder old new (state old.disk) (state new.disk) s first.types.now
+          first.allows_empty p x.0 last.report (fault_of c.look_at_names.result)
+          first.files.known.items last.files.known.items)
+          (lists.later.same ∙ c.begin.ensures.same) x.2,
+    )
 
 pub returns-clause-keeps : goal.returns-clause-keeps
 returns-clause-keeps g c = c.look_at_names.ensures.keeps

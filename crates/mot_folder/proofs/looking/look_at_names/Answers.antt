@@ -2,7 +2,8 @@ use Rattle.std.proofs.Common.{◌≡◌, ◌∙◌, ◌++◌, ℕ, None, [], ◌
 use Rattle.std.proofs.Common.{◌≤◌, Bool, true, false, Err, IfErr, List, Ok, Option, Result, Some}
 use Rattle.std.proofs.Common.{inr, length, take}
 use Rattle.std.proofs.lemmas.List.{take_all}
-use Rattle.mot_folder.specs.Inner.Listing.{IsUnread, TellsNameless}
+use Rattle.mot_folder.specs.Inner.Listing.{IsUnread}
+use Rattle.mot_shelf.specs.Reader.{reader_path}
 use Rattle.mot_folder.specs.Inner.Knowing.{IsKept, IsKnownWith, KnowsFiles, WasStamped, is_there}
 use Rattle.mot_folder.specs.Inner.Reading.{TellsLook, front, heading}
 use Rattle.mot_folder.specs.Known.{Among, ComesFrom, IsPassedOver, has_it}
@@ -20,7 +21,7 @@ use Rattle.mot_objects.specs.declared.carousel.Carousel as memory
 use Rattle.mot_objects.specs.declared.object.Object.{Object}
 use Rattle.mot_repository.specs.Repository.{Agrees, RepositoryView}
 use Rattle.mot_folder.proofs.Kept.{kept_as_counted}
-use Rattle.mot_folder.proofs.Taken.{IsLook, fine_is, look_begins, look_is, same_path, taken_so}
+use Rattle.mot_folder.proofs.Taken.{IsLook, fine_is, look_begins, look_is, taken_so}
 use Rattle.mot_folder.proofs.looking.look_at_names.Goals as goal
 use Rattle.mot_numbers.specs.declared.refusal.Refusal.{Refusal}
 use Rattle.mot_numbers.specs.declared.refusal.Refusal.TheVariants.{OutOfMemory}
@@ -31,7 +32,7 @@ use Rattle.disk_model.specs.Disk.{State}
 use Rattle.mot_playout.specs.Server.{ServerView}
 use Rattle.mot_shelf.specs.Given.{Given, nothing}
 use Rattle.mot_update.specs.HasRun.{HasRun}
-use Rattle.mot_update.specs.Told.{Answer, TellsBoth}
+use Rattle.mot_update.specs.Told.{Answer}
 use Rattle.mot_update.specs.declared.wanted.Wanted.{Wanted}
 use Rattle.std.specs.Prelude.{◌≢◌, IsOk, OnOk}
 use Rattle.mot_playout.specs.Attempts.{fault_of}
@@ -160,46 +161,24 @@ knows_begins first files head types unread none = record {
   refused = (tt, tt);
 }
 
--- what was told of a look that began so, of whose names none was gone over
-module _ {waiting : ℕ} (types others : List SuffixType) (begins ends : KnownFiles)
-    (path other : List ℕ) (first last : Given) (names after : List (List ℕ)) (place : ℕ)
-    (start report : Report) (answers : List Answer) (wanted : List Wanted)
-    (listing : IsListing types path first names) (unread : IsUnread nothing first)
-    (nameless : TellsNameless first.files start) (none : begins.read.items ≡ [])
-    (looks : TellsBoth (λ told given. TellsLook types begins.known.items path first names 0 start 0
-    told given × KnowsFiles first begins told)
-    (λ told given. TellsLook others ends.known.items other last after place report waiting told given
-    × KnowsFiles last ends told) answers wanted) where
-  told_behind : TellsLook others ends.known.items other last after place report waiting
-      (heading path types begins.known.items ∷ answers)
-      ((front types begins.known.items ++ []) ++ wanted)
-      × KnowsFiles last ends (heading path types begins.known.items ∷ answers)
-  told_behind = looks (front types begins.known.items ++ [])
-      (heading path types begins.known.items ∷ []) (
-        look_begins types begins.known.items path first names start listing unread.read unread.missed
-            unread.unchanged nameless,
-        knows_begins first begins path types unread none,
-      )
-
-  -- what is known then, of the path that it began with
-  behind : after ≡ names
-      → (IsLook types begins.known.items ends.known.items path last names place report waiting answers
-      wanted × KnowsFiles last ends answers) × (other ≡ path)
-  behind stays = (
-    (
+-- what is known behind a look that began so, of the path that it began with
+behind : {waiting : ℕ} (types others : List SuffixType) (begins ends : KnownFiles)
+    (path other : List ℕ) (last : Given) (names after : List (List ℕ)) (place : ℕ)
+    (report : Report) (answers : List Answer) (wanted : List Wanted)
+    → TellsLook others ends.known.items other last after place report waiting
+    (heading path types begins.known.items ∷ answers)
+    ((front types begins.known.items ++ []) ++ wanted)
+    → KnowsFiles last ends (heading path types begins.known.items ∷ answers) → after ≡ names
+    → IsLook types begins.known.items ends.known.items path last names place report waiting answers
+    wanted × KnowsFiles last ends answers
+behind {waiting = waiting} types others begins ends path other last names after place report answers
+    wanted looks knows stays = (
       subst (λ n. IsLook types begins.known.items ends.known.items path last n place report waiting
           answers wanted) stays
           (look_is types others begins.known.items ends.known.items path other last after place report
-          waiting answers wanted told_behind.0),
-      record {
-        passed = told_behind.1.passed;
-        read = told_behind.1.read;
-        refused = told_behind.1.refused.1;
-      },
-    ),
-    same_path types others begins.known.items ends.known.items path other last after place report
-        waiting answers ((front types begins.known.items ++ []) ++ wanted) told_behind.0,
-  )
+          waiting answers wanted looks),
+      record { passed = knows.passed; read = knows.read; refused = knows.refused.1 },
+    )
 
 -- the carousel that a server has, with its bodies, has what it has without
 has_now : (view : RepositoryView) (s : Standing) → Agrees view s → (k : Known)
@@ -224,39 +203,49 @@ on_ok (Ok x) P is ok = is
 on_ok (Err e) P is ok = absurd (cc (ok))
 
 pub returns-in_err-look-clause-looked : goal.returns-in_err-look-clause-looked
-returns-in_err-look-clause-looked g c = λ s holds honest.
+returns-in_err-look-clause-looked g c = λ since first gives listed s holds honest.
     let state = g.D.Disk.state in
     let old = c.args.server.now in
     let new = c.look.new.server in
     let types = c.args.folder.now.types.now in
-    let path = g.S.Shelf.path c.args.folder.now.shelf in
+    let path = reader_path c.args.folder.now.shelf in
     let names = c.args.folder.now.names.names.items in
     let allows = c.args.folder.now.allows_empty in
     let updates : is_kept allows names (length s.carousel.objects) ≡ false =
     kept_as_counted allows names old.view s holds.agrees ∙ c.requires.updates in
     let source = c.look.new.source in
-    let given = g.S.Shelf.gave source.shelf in
     let seen = take source.place names in
     let looks = c.in_err-look.ensures.looked s holds honest in
     let fault = Some c.in_err-look.field-0.0 in
-    let all = behind types source.types.now c.start.new.self source.files path
-    (g.S.Shelf.path source.shelf) (g.S.Shelf.gave c.args.folder.now.shelf) given names
-    source.names.names.items source.place c.note_most.new.report source.report looks.0.runs.answers
-    looks.0.wanted c.requires.listed.listing c.requires.listed.unread
-    (c.note_most.ensures.further (g.S.Shelf.gave c.args.folder.now.shelf).files
-    (c.note_listed.ensures.further (g.S.Shelf.gave c.args.folder.now.shelf).files
-    c.requires.listed.nameless))
-    c.start.ensures.none.0 looks.1 c.in_err-look.ensures.same in
-    let is = all.0 in
+    let files = c.start.new.self in
+    let x = looks.1 since (front types files.known.items ++ [])
+    (heading path types files.known.items ∷ []) (
+      first,
+      gives,
+      (
+        look_begins types files.known.items path first names c.note_most.new.report listed.listing
+            listed.unread.read listed.unread.missed listed.unread.unchanged
+            (c.note_most.ensures.further first.files
+            (c.note_listed.ensures.further first.files listed.nameless)),
+        knows_begins first files path types listed.unread c.start.ensures.none.0,
+        λ kept. absurd (cc (kept)),
+      ),
+    ) in
+    let given = x.0 in
+    let is = behind types source.types.now files source.files path (reader_path source.shelf) given
+    names source.names.names.items source.place source.report looks.0.runs.answers looks.0.wanted
+    x.2.0 x.2.1 c.in_err-look.ensures.same in
     let known = c.args.folder.now.files.known.items in
     let started_so = started known c.start.new.self _ old.view s holds.agrees
     (ap (λ (k : memory.Carousel). k.objects.items) (sym c.carousel-2.ensures.value))
     c.start.ensures.known in (
+      given,
+      x.1,
       subst (λ (r : Result Unit Refusal). HasLookedAtFolder old new (state old.disk) (state new.disk)
           s types allows path given source.report (fault_of r) known source.files.known.items)
           (sym (same_error c.from_residual.result c.in_err-look.field-0.0 c.from_residual.ensures.1))
           (of_names old new (state old.disk) (state new.disk) s types allows path given source.report names
-          fault known source.files.known.items c.requires.listed.shown is.0.listing updates looks.0 seen
+          fault known source.files.known.items listed.shown is.0.listing updates looks.0 seen
           (λ none. absurd (cc (none))) (λ without none. cc (none)) is.0.tells
           (all_on (passed_over known source.files.known.items s.carousel
           (subst (λ l. AllByRecursion (λ k. Among known k × (has_it s.carousel k ≡ true)) l)
@@ -264,32 +253,39 @@ returns-in_err-look-clause-looked g c = λ s holds honest.
           (all_on (λ k at. was_known at) source.files.known.items
           (subst (λ l. AllByRecursion (Among known) l) (sym is.0.files)
           (all_on (λ k at. at.0) c.start.new.self.known.items started_so)))),
-      all.1,
     )
 
 pub returns-clause-looked : goal.returns-clause-looked
-returns-clause-looked g c = λ s holds honest.
+returns-clause-looked g c = λ since first gives listed s holds honest.
     let state = g.D.Disk.state in
     let old = c.args.server.now in
     let new = c.look.new.server in
     let types = c.args.folder.now.types.now in
-    let path = g.S.Shelf.path c.args.folder.now.shelf in
+    let path = reader_path c.args.folder.now.shelf in
     let names = c.args.folder.now.names.names.items in
     let allows = c.args.folder.now.allows_empty in
     let updates : is_kept allows names (length s.carousel.objects) ≡ false =
     kept_as_counted allows names old.view s holds.agrees ∙ c.requires.updates in
     let source = c.look.new.source in
-    let given = g.S.Shelf.gave source.shelf in
     let looks = c.in_ok-look.ensures.looked s holds honest in
-    let all = behind types source.types.now c.start.new.self source.files path
-    (g.S.Shelf.path source.shelf) (g.S.Shelf.gave c.args.folder.now.shelf) given names
-    source.names.names.items source.place c.note_most.new.report source.report looks.0.runs.answers
-    looks.0.wanted c.requires.listed.listing c.requires.listed.unread
-    (c.note_most.ensures.further (g.S.Shelf.gave c.args.folder.now.shelf).files
-    (c.note_listed.ensures.further (g.S.Shelf.gave c.args.folder.now.shelf).files
-    c.requires.listed.nameless))
-    c.start.ensures.none.0 looks.1 c.in_ok-look.ensures.same in
-    let is = all.0 in
+    let files = c.start.new.self in
+    let x = looks.1 since (front types files.known.items ++ [])
+    (heading path types files.known.items ∷ []) (
+      first,
+      gives,
+      (
+        look_begins types files.known.items path first names c.note_most.new.report listed.listing
+            listed.unread.read listed.unread.missed listed.unread.unchanged
+            (c.note_most.ensures.further first.files
+            (c.note_listed.ensures.further first.files listed.nameless)),
+        knows_begins first files path types listed.unread c.start.ensures.none.0,
+        λ kept. absurd (cc (kept)),
+      ),
+    ) in
+    let given = x.0 in
+    let is = behind types source.types.now files source.files path (reader_path source.shelf) given
+    names source.names.names.items source.place source.report looks.0.runs.answers looks.0.wanted
+    x.2.0 x.2.1 c.in_ok-look.ensures.same in
     let seen : take source.place names ≡ names =
     take_all source.place names (subst (λ (n : List (List ℕ)). length n ≤ source.place)
     c.in_ok-look.ensures.same c.in_ok-look.ensures.ended) in
@@ -308,8 +304,10 @@ returns-clause-looked g c = λ s holds honest.
     source.files.known.items =
     subst (λ l. AllByRecursion (λ k. Among known k × (has_it s.carousel k ≡ true)) l)
     (sym is.0.files) started_so in (
+      given,
+      x.1,
       listed_whole old new (state old.disk) (state new.disk) s types allows path given report
-          names known c.finish.new.self.known.items c.requires.listed.shown is.0.listing updates looks.0 told
+          names known c.finish.new.self.known.items listed.shown is.0.listing updates looks.0 told
           (all_on (passed_over known source.files.known.items s.carousel were) given.unchanged is.1.passed)
           (all_on (comes_from known given source.files looks.0.runs.answers last.carousel
           new.view.carousel.objects.items
@@ -319,7 +317,6 @@ returns-clause-looked g c = λ s holds honest.
           c.finish.new.self.known.items) c.carousel-3.ensures.value c.finish.ensures))
           c.end_listed.result c.end_listed.ensures.fault
           (λ ok. (on_ok c.end_listed.result _ c.end_listed.ensures.whole ok).1),
-      all.1,
     )
 
 pub returns-in_err-look-clause-keeps : goal.returns-in_err-look-clause-keeps

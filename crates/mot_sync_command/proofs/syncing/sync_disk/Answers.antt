@@ -8,6 +8,8 @@ use Rattle.mot_sync_command.proofs.Synced.{syncs}
 use Rattle.mot_sync_command.proofs.syncing.sync_disk.Goals as goal
 use Rattle.mot_update.proofs.Laws.{unopened_is}
 use Rattle.mot_playout.specs.Attempts.{fault_of}
+use Rattle.mot_shelf.specs.Gives.{GaveSo}
+use Rattle.mot_shelf.specs.Reader.{view}
 
 pub returns-in-Err : goal.returns-in-Err
 returns-in-Err g c =
@@ -15,8 +17,9 @@ returns-in-Err g c =
     let opens = c.in-Err.ensures in
     let folder = c.args.folder.now in
     let log = g.L.Write.contents c.args.log.now in
-    subst (λ (e : _). Syncs folder.types.now folder.allows_empty (g.S.Shelf.path folder.shelf)
-    (g.S.Shelf.gave folder.shelf) (state c.args.disk) (state e.disk)
+    let at = view g.S.System.calls folder.shelf in
+    subst (λ (e : _). Syncs folder.types.now folder.allows_empty at at (state c.args.disk)
+    (state e.disk)
     (result_unwrap_or e.result false) (fault_of e.result) log log)
     (sym c.unopened.ensures)
     (record {
@@ -36,16 +39,17 @@ returns g c =
     let folder = c.args.folder.now in
     let types = folder.types.now in
     let allows = folder.allows_empty in
-    let path = g.S.Shelf.path folder.shelf in
-    let given = g.S.Shelf.gave c.look_and_tell-result.new.folder.shelf in
+    let before = view g.S.System.calls folder.shelf in
+    let after = view g.S.System.calls c.look_and_tell-result.new.folder.shelf in
     let old = g.L.Write.contents c.args.log.now in
     let new = g.L.Write.contents c.look_and_tell-result.new.log in
-    subst (λ d. Syncs types allows path given (state c.args.disk) (state d)
+    subst (λ d. Syncs types allows before after (state c.args.disk) (state d)
     (result_unwrap_or result false) (fault_of result) old new)
     (sym c.into_disk.ensures)
     (syncs state c.args.disk c.in-Ok.server c.look_and_tell-result.new.server g.met.D.Disk.sound
     opens.only_syncs opens.opened opens.calm opens.going c.geometry.ensures.valid looks.keeps
-    types allows path given old new result looks.faults (λ s holds honest.
-    subst (λ (l : List Known). LooksAndTells c.in-Ok.server c.look_and_tell-result.new.server
-    (state c.in-Ok.server.disk) (state c.look_and_tell-result.new.server.disk) s types allows path
-    given l old new result) c.new.ensures.none (looks.looked s holds honest)))
+    types allows before after old new result looks.faults (λ s holds honest.
+    subst (λ (l : List Known). GaveSo before after (λ given. LooksAndTells c.in-Ok.server
+    c.look_and_tell-result.new.server (state c.in-Ok.server.disk)
+    (state c.look_and_tell-result.new.server.disk) s types allows before.path given l old new result))
+    c.new.ensures.none (looks.looked s holds honest)))

@@ -1,4 +1,4 @@
-use Rattle.std.proofs.Common.{◌≡◌, ◌∙◌, ℕ, List, [], ◌∷◌, false, inr, refl, subst, sym}
+use Rattle.std.proofs.Common.{◌≡◌, ◌∙◌, [], ◌∷◌, ap, false, inr, refl, subst, sym}
 use Rattle.std.specs.Prelude.{codes}
 use Rattle.std.specs.Result.{result_unwrap_or}
 use Rattle.disk_store.specs.Begun.{begun_state}
@@ -13,23 +13,12 @@ use Rattle.mot_numbers.specs.declared.refusal.Refusal.TheVariants.{DeviceFault}
 use Rattle.mot_outcome.specs.Outcome.{Opens}
 use Rattle.mot_outcome.specs.declared.used.UsedDisk.TheVariants.{OfFile}
 use Rattle.mot_playout.specs.Attempts.{fault_of}
-use Rattle.mot_shelf.specs.Given.{Given}
-use Rattle.mot_shelf.specs.Seen.{given_of}
-use Rattle.mot_shelf.specs.System.{shelf_path}
-use Rattle.mot_shelf.specs.declared.seen.Seen.{Seen}
-
--- the path and what was seen are those that are told
-told : (P : List ℕ → Given → Type 0) (p q : List ℕ) (g h : Seen) → p ≡ q → h ≡ g → P p (given_of g)
-    → P q (given_of h)
-told P p q g h path seen is =
-    subst (λ (x : List ℕ). P x (given_of h)) path
-    (subst (λ (x : Seen). P p (given_of x)) (sym seen) is)
+use Rattle.mot_shelf.specs.View.{FolderView, folder_at}
 
 pub returns-in-Ok-clause-ended : goal.returns-in-Ok-clause-ended
 returns-in-Ok-clause-ended g c =
     let opens = c.in-Ok.ensures in
     let ended = c.try_shelf-ended.result.0 in
-    let seen = c.folder.result.seen in
     let types = c.args.types.now in
     let rules = c.args.rules in
     let allows = rules.allow_empty in
@@ -38,17 +27,23 @@ returns-in-Ok-clause-ended g c =
     let new = g.W.Write.contents c.try_shelf-ended.new.log in
     let all = result_unwrap_or ended.result false in
     let ending = fault_of ended.result in
+    let after = c.try_shelf-ended.ensures.0 in
+    let calls = c.try_shelf-ended.ensures.1 in
+    let is = c.try_shelf-ended.ensures.2 in
     let used = OfFile ended.disk.disk c.folder.result in
     subst (λ (f : _). Concludes (λ r. r ≡ DeviceFault) (λ all ending.
     TriesTo types rules path all ending old new f.disk) f.result f.disk old new)
     (sym c.of_file.ensures)
     (concludes_so _ (λ all ending. TriesTo types rules path all ending old new used) used old new
-    ended.result (since_opened c.in-Ok.disk.disk ended.disk.disk
-    (λ start now. Tries types allows path (given_of seen) start now all ending old new)
-    opens.first ended.disk.begins c.try_shelf-ended.ensures.0.keeps
-    (told (λ pa gi. Tries types allows pa gi (begun_state c.in-Ok.disk) (begun_state ended.disk) all
-    ending old new) (shelf_path c.folder-shelf.result) path c.try_shelf-ended.result.2 seen
-    c.folder-shelf.ensures.path c.folder.ensures c.try_shelf-ended.ensures)))
+    ended.result (
+      after,
+      calls ∙ ap (λ (b : _). b.all) (sym c.folder.ensures),
+      since_opened c.in-Ok.disk.disk ended.disk.disk
+          (λ start now. Tries types allows (folder_at path rules.at_once []) after start now all ending
+          old new) opens.first ended.disk.begins c.try_shelf-ended.ensures.2.0.keeps
+          (subst (λ (f : FolderView). Tries types allows f after (begun_state c.in-Ok.disk)
+          (begun_state ended.disk) all ending old new) c.folder-shelf.ensures.view is),
+    ))
 
 pub returns-in-Ok-clause-opens : goal.returns-in-Ok-clause-opens
 returns-in-Ok-clause-opens g c =

@@ -4,7 +4,7 @@ use Rattle.mot_numbers.proofs.Laws.{same_error}
 use Rattle.mot_objects.specs.declared.carousel.Carousel.{Carousel}
 use Rattle.mot_playout.specs.Attempts.{fault_of}
 use Rattle.mot_update.specs.Looking.{HasSettled, withdraw_all, unknown_names}
-use Rattle.mot_update.specs.Told.{TellsBoth}
+use Rattle.mot_update.specs.Told.{TellsSince}
 use Rattle.mot_update.specs.Faults.{no_memory}
 use Rattle.mot_update.proofs.Answers.{both_nil, both_trans}
 use Rattle.mot_update.proofs.Faults.{tells_on}
@@ -76,7 +76,7 @@ returns-clause-looked g c = λ s holds honest.
     (settled : HasSettled mid new (state mid.disk) (state new.disk) t names place
     (given c.withdraw_these.new.source) (given c.settle_all.new.source)
     (g.S.Source.is_fine c.settle_all.new.source) (fault_of c.settle_all.result))
-    × TellsBoth (told c.withdraw_these.new.source) (told c.settle_all.new.source)
+    × TellsSince (told c.withdraw_these.new.source) (told c.settle_all.new.source)
     settled.runs.answers settled.wanted in
     let settled : Settles names (g.S.Source.place c.args.source.now) =
     subst (Settles names) one.stays

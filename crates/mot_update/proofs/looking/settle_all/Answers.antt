@@ -11,7 +11,7 @@ use Rattle.mot_update.specs.HasRun.{HasRun, marks_of_settling}
 use Rattle.mot_update.specs.Inner.Taking.{IsDoneRightly, commands_if, given_if, marks_if}
 use Rattle.mot_update.specs.Looking.{Gives}
 use Rattle.mot_update.specs.declared.settling.Settled.{Settled}
-use Rattle.mot_update.specs.Told.{AreAnswers, TellsBoth, answers_of}
+use Rattle.mot_update.specs.Told.{AreAnswers, TellsSince, answers_of}
 use Rattle.mot_update.proofs.Answers.{answers-settled, both_gives, both_kept, both_nil, both_on}
 use Rattle.mot_update.proofs.Answers.{both_trans}
 use Rattle.mot_update.proofs.Faults.{calm_here, calm_on, fault_on}
@@ -180,9 +180,9 @@ loop-wanted-preserved g c =
                 (both_on (was_told begun) (was_told taken) (was_told last) answers (w ∷ [])
                 (both_gives (was_told begun) (g.S.Source.offers c.next.new.self w)
                 (was_told taken) [] [] (w ∷ []) next.told
-                (subst (λ (o : Option Settled). TellsBoth (g.S.Source.offers c.next.new.self w)
+                (subst (λ (o : Option Settled). TellsSince (g.S.Source.offers c.next.new.self w)
                 (was_told taken) [] (given_if (Ok o) w)) some two.told))
-                (subst (λ l. TellsBoth (was_told taken) (was_told last) (answers_of l settled) [])
+                (subst (λ l. TellsSince (was_told taken) (was_told last) (answers_of l settled) [])
                 (two.source.2 ∙ next.last) told.told)),
           );
       fine = λ e. is.fine (next.fine (two.fine (told.fine e).0).0);
@@ -232,7 +232,7 @@ loop-wanted-preserved-in_default-2 g c =
                 so_far.0.answers so_far.0.wanted so_far.1
                 (both_gives (was_told begun) (g.S.Source.offers c.next.new.self w)
                 (was_told taken) [] [] [] next.told
-                (subst (λ (o : Option Settled). TellsBoth (g.S.Source.offers c.next.new.self w)
+                (subst (λ (o : Option Settled). TellsSince (g.S.Source.offers c.next.new.self w)
                 (was_told taken) [] (given_if (Ok o) w)) none two.told)),
           );
       fine = λ e. is.fine (next.fine (two.fine e).0);

@@ -3,7 +3,7 @@ use Rattle.disk_model.specs.Disk.{KeepsLength}
 use Rattle.mot_journal.specs.Image.{Standing}
 use Rattle.mot_repository.specs.Repository.{Holds}
 use Rattle.mot_update.specs.Faults.{StaysCalm}
-use Rattle.mot_update.specs.Told.{TellsBoth}
+use Rattle.mot_update.specs.Told.{TellsSince}
 use Rattle.mot_update.proofs.Looks.{SettledSoFar}
 use Rattle.mot_update.proofs.looking.settle_all.Given as goal
 
@@ -19,7 +19,7 @@ invariant-loop-wanted g l = record {
       (g.D.Disk.state l.server.disk) s (g.S.Source.names l.initial.source)
       (g.S.Source.place l.initial.source) (g.S.Source.place l.source)
       (g.S.Source.given l.initial.source) (g.S.Source.given l.source) (g.S.Source.is_fine l.source))
-      × TellsBoth (g.S.Source.was_told l.initial.source) (g.S.Source.was_told l.source)
+      × TellsSince (g.S.Source.was_told l.initial.source) (g.S.Source.was_told l.source)
       so_far.answers so_far.wanted;
   fine : g.S.Source.is_fine l.source ≡ true → g.S.Source.is_fine l.initial.source ≡ true;
 }

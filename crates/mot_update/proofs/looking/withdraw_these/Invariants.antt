@@ -4,7 +4,7 @@ use Rattle.mot_journal.specs.Image.{Standing}
 use Rattle.mot_repository.specs.Repository.{Holds}
 use Rattle.mot_update.specs.Faults.{StaysCalm}
 use Rattle.mot_update.specs.Looking.{Gives, withdraw_all}
-use Rattle.mot_update.specs.Told.{TellsBoth}
+use Rattle.mot_update.specs.Told.{TellsSince}
 use Rattle.mot_update.proofs.Looks.{WithdrewSoFar}
 use Rattle.mot_update.proofs.looking.withdraw_these.Given as goal
 
@@ -20,7 +20,7 @@ invariant-loop-name g l = record {
       → (so_far : WithdrewSoFar l.initial.server l.server (g.D.Disk.state l.initial.server.disk)
       (g.D.Disk.state l.server.disk) s (withdraw_all (take l.name-index l.names))
       (g.S.Source.is_fine l.source))
-      × TellsBoth (g.S.Source.was_told l.initial.source) (g.S.Source.was_told l.source)
+      × TellsSince (g.S.Source.was_told l.initial.source) (g.S.Source.was_told l.source)
       so_far.answers [];
   stays : g.S.Source.place l.source ≡ g.S.Source.place l.initial.source;
   fine : g.S.Source.is_fine l.source ≡ true → g.S.Source.is_fine l.initial.source ≡ true;

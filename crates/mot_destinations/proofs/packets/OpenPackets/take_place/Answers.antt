@@ -9,8 +9,8 @@ returns-in-Err-clause-calls g c =
     (g.S.System.calls c.put_in_place.new.system)) (sym c.in-File.is)
     (Err c.in-Err.fault, ap Err c.from.ensures, c.in-Err.ensures)
 
-pub returns-clause-calls : goal.returns-clause-calls
-returns-clause-calls g c =
+pub returns-in-Ok-clause-calls : goal.returns-in-Ok-clause-calls
+returns-in-Ok-clause-calls g c =
     subst (λ destination. TakesItsPlace destination c.args.self.now.writer.handle (Ok tt)
     (g.S.System.calls c.args.self.now.writer.system) (g.S.System.calls c.put_in_place.new.system))
-    (sym c.in-File.is) (Ok tt, refl, c.in_default-put_in_place.ensures)
+    (sym c.in-File.is) (Ok tt, refl, c.in-Ok.ensures)

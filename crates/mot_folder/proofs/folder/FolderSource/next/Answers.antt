@@ -3,18 +3,16 @@ use Rattle.std.proofs.Common.{arith, inl, inr, length, refl, subst, sym, true, f
 use Rattle.std.proofs.lemmas.Option.{slice_get_read}
 use Rattle.std.specs.Prelude.{IfSome, slice_get}
 use Rattle.mot_files.specs.declared.system.Stamp.{Stamp}
-use Rattle.mot_folder.proofs.Knowing.{fine_unrefused, knows_on, knows_passed, knows_plain, knows_read}
-use Rattle.mot_folder.proofs.Knowing.{left_on, passed_is, with_files}
-use Rattle.mot_folder.proofs.Taken.{named_of, then_missed, then_offered, then_passed}
-use Rattle.mot_folder.specs.Inner.Knowing.{KnowsFiles, is_fine_look}
+use Rattle.mot_folder.proofs.Knowing.{fine_unrefused, knows_on, knows_passed, knows_read, left_on}
+use Rattle.mot_folder.proofs.Knowing.{passed_is, plain, unplain}
+use Rattle.mot_folder.proofs.Taken.{both_same, named_of, then_missed, then_offered, then_passed}
 use Rattle.mot_folder.specs.Inner.Names.{name_or_none}
-use Rattle.mot_folder.specs.Inner.Reading.{Misses, Takes, TellsFile, TellsLook, TellsOffered}
-use Rattle.mot_folder.specs.declared.folder.Untaken.TheVariants.{Refused as NotTaken}
+use Rattle.mot_folder.specs.Inner.Reading.{LookedSince, OfferedSince, TellsFile, TellsLook, TellsOffered}
 use Rattle.mot_folder.specs.declared.known.StampedFile.{StampedFile}
-use Rattle.mot_numbers.specs.declared.refusal.Refusal.TheVariants.{OutOfMemory}
 use Rattle.mot_folder.proofs.folder.FolderSource.next.Goals as goal
-use Rattle.mot_shelf.specs.Given.{Given}
-use Rattle.mot_update.specs.Told.{TellsBoth}
+use Rattle.mot_shelf.proofs.Laws.{gives_on}
+use Rattle.mot_shelf.specs.Given.{and_unchanged, nothing}
+use Rattle.mot_shelf.specs.Reader.{reader_path, view}
 
 -- a stamp that is kept is the one that was given
 kept_stamp : (kept given : Option Stamp) (stamp : Stamp) → IfSome kept (λ k. given ≡ Some k)
@@ -34,45 +32,50 @@ added_with read after name kept given took is same (inr one) =
     inr (one.0, one.1, same ∙ kept_stamp kept given one.0.stamp is one.2, one.3)
 
 pub returns-in-Ok-clause-told : goal.returns-in-Ok-clause-told
-returns-in-Ok-clause-told g c =
-    let old = c.args.self.now in
+returns-in-Ok-clause-told g c = λ since gave told first.
     let mid = c.loop-self.self in
     let is = c.loop-self.invariant in
+    let types = mid.types.now in
+    let known = mid.files.known.items in
     let names = mid.names.names.items in
     let name = c.index-name.result.now in
-    let path = g.S.Shelf.path in
-    let gave = g.S.Shelf.gave in
-    let w = c.in-Ok.wanted in
-    let files = c.add.new.self in
     let within : mid.place < length names =
     subst (λ n. mid.place < n) (c.len.ensures ∙ mid.names.names.ok.0) c.loop-self-test.true in
     let at : slice_get names mid.place ≡ Some name =
     slice_get_read names (length names) mid.place name refl within c.index-name.ensures in
-    let took : (t : Takes mid.types.now name (gave mid.shelf) (gave c.read.new.shelf) w)
-    × (t.stamp ≡ c.in-Ok.stamp) =
-    subst (λ (n : Given). (t : Takes mid.types.now name n (gave c.read.new.shelf) w)
-    × (t.stamp ≡ c.in-Ok.stamp)) c.if-is_unchanged.ensures.gave c.in-Ok.ensures.took in
-    let First = TellsLook old.types.now old.files.known.items (path old.shelf) (gave old.shelf)
-    old.names.names.items old.place old.report old.sizes.waiting in
-    with_files First
-    (TellsOffered mid.types.now files.known.items (path c.read.new.shelf) (gave c.read.new.shelf)
-    names (mid.place + 1) mid.report mid.sizes.waiting w)
-    (KnowsFiles (gave old.shelf) old.files) (KnowsFiles (gave c.read.new.shelf) files) [] []
-    (subst (λ p. TellsBoth First (TellsOffered mid.types.now files.known.items p
-    (gave c.read.new.shelf) names (mid.place + 1) mid.report mid.sizes.waiting w) [] [])
-    (sym (c.in-Ok.ensures.same ∙ c.if-is_unchanged.ensures.same))
-    (subst (λ v. TellsBoth First (TellsOffered mid.types.now v.items (path mid.shelf)
-    (gave c.read.new.shelf) names (mid.place + 1) mid.report mid.sizes.waiting w) [] [])
-    (sym c.add.ensures.known)
-    (then_offered mid.types.now mid.files.known.items (path mid.shelf) names First
-    (gave mid.shelf) (gave c.read.new.shelf) mid.place mid.report mid.sizes.waiting name w
-    is.told within at took.0)))
-    (λ told was. knows_plain (gave c.read.new.shelf) files told
-    (knows_read (gave mid.shelf) (gave c.read.new.shelf) mid.files files told name took.0.bytes
-    took.0.stamp took.0.read
-    (added_with mid.files.read.items files.read.items name c.stamp_to_keep.result c.in-Ok.stamp
-    took.0.stamp c.stamp_to_keep.ensures took.1 c.add.ensures.read)
-    c.add.ensures.known c.add.ensures.noted.0 c.add.ensures.noted.1 (is.knows told was)))
+    let w = c.in-Ok.wanted in
+    let files = c.add.new.self in
+    let now = view g.S.System.calls c.read.new.shelf in
+    let was = is.looked since told gave first in
+    let given = was.0 in
+    let took = c.in-Ok.ensures.took given in
+    let after = took.0 in
+    let takes = took.2.0 in
+    let Look = TellsLook types known (reader_path mid.shelf) given names mid.place mid.report
+    mid.sizes.waiting in
+    unplain (OfferedSince since now types files names (mid.place + 1) mid.report mid.sizes.waiting
+    false w) told gave (
+      after,
+      gives_on _ _ nothing given _ after
+          (gives_on _ _ nothing given _ given was.1 (c.if-is_unchanged.ensures.gave given)) took.1,
+      (
+        subst (λ p. TellsOffered types files.known.items p after names (mid.place + 1) mid.report
+            mid.sizes.waiting w told gave)
+            (sym (c.in-Ok.ensures.same ∙ c.if-is_unchanged.ensures.same))
+            (subst (λ v. TellsOffered types v.items (reader_path mid.shelf) after names
+            (mid.place + 1) mid.report mid.sizes.waiting w told gave) (sym c.add.ensures.known)
+            (plain (TellsOffered types known (reader_path mid.shelf) after names (mid.place + 1)
+            mid.report mid.sizes.waiting w) told gave
+            (then_offered types known (reader_path mid.shelf) names Look given after mid.place
+            mid.report mid.sizes.waiting name w (both_same Look) within at takes gave told
+            was.2.0))),
+        knows_read given after mid.files files told name takes.bytes takes.stamp takes.read
+            (added_with mid.files.read.items files.read.items name c.stamp_to_keep.result
+            c.in-Ok.stamp takes.stamp c.stamp_to_keep.ensures took.2.1 c.add.ensures.read)
+            c.add.ensures.known c.add.ensures.noted.0 c.add.ensures.noted.1 was.2.1,
+        refl,
+      ),
+    )
 
 pub returns-in-Ok-clause-named : goal.returns-in-Ok-clause-named
 returns-in-Ok-clause-named g c =
@@ -88,7 +91,7 @@ returns-in-Ok-clause-named g c =
       is.goes,
       omega arith,
       subst (λ (l : List (List ℕ)). slice_get l mid.place ≡ Some c.in-Ok.wanted.name) is.names
-          (at ∙ ap Some (named_of name c.in-Ok.wanted c.in-Ok.ensures.took.0)),
+          (at ∙ ap Some (named_of name c.in-Ok.wanted (c.in-Ok.ensures.took nothing).2.0)),
     )
 
 pub returns-in-Ok-clause-last : goal.returns-in-Ok-clause-last
@@ -102,99 +105,101 @@ returns-in-Ok-clause-last g c =
     slice_get_read names (length names) mid.place name refl within c.index-name.ensures in
     let back : (mid.place + 1) - 1 ≡ mid.place = omega arith in
     ap (λ n. name_or_none (slice_get names n)) back ∙ ap name_or_none at
-    ∙ named_of name c.in-Ok.wanted c.in-Ok.ensures.took.0
+    ∙ named_of name c.in-Ok.wanted (c.in-Ok.ensures.took nothing).2.0
 
 pub returns-clause-told : goal.returns-clause-told
-returns-clause-told g c =
-    let old = c.args.self.now in
+returns-clause-told g c = λ since gave told first.
     let mid = c.loop-self.self in
-    let is = c.loop-self.invariant in
-    let path = g.S.Shelf.path in
-    let gave = g.S.Shelf.gave in
-    with_files
-    (TellsLook old.types.now old.files.known.items (path old.shelf) (gave old.shelf)
-    old.names.names.items old.place old.report old.sizes.waiting)
-    (TellsLook mid.types.now mid.files.known.items (path mid.shelf) (gave mid.shelf)
-    mid.names.names.items mid.place mid.report mid.sizes.waiting)
-    (KnowsFiles (gave old.shelf) old.files) (KnowsFiles (gave mid.shelf) mid.files) [] [] is.told
-    (λ told was. knows_plain (gave mid.shelf) mid.files told (is.knows told was))
+    unplain (LookedSince since (view g.S.System.calls mid.shelf) mid.types.now mid.files
+    mid.names.names.items mid.place mid.report mid.sizes.waiting mid.is_kept) told gave
+    (c.loop-self.invariant.looked since told gave first)
 
 pub loop-self-preserved-then-is_unchanged : goal.loop-self-preserved-then-is_unchanged
 loop-self-preserved-then-is_unchanged g c =
-    let old = c.args.self.now in
     let mid = c.loop-self.self in
     let is = c.loop-self.invariant in
-    let goes = is.goes in
+    let types = mid.types.now in
+    let known = mid.files.known.items in
     let names = mid.names.names.items in
     let name = c.index-name.result.now in
-    let path = g.S.Shelf.path in
-    let gave = g.S.Shelf.gave in
-    let after = c.is_unchanged.new.shelf in
     let within : mid.place < length names =
     subst (λ n. mid.place < n) (c.len.ensures ∙ mid.names.names.ok.0) c.loop-self-test.true in
     let at : slice_get names mid.place ≡ Some name =
     slice_get_read names (length names) mid.place name refl within c.index-name.ensures in
-    let First = TellsLook old.types.now old.files.known.items (path old.shelf) (gave old.shelf)
-    old.names.names.items old.place old.report old.sizes.waiting in
-    let passed = c.if-is_unchanged.ensures.gave in
-    let stamp = passed.0 in
+    let goes = is.goes in
     record {
-      types = is.types;
-      path = c.if-is_unchanged.ensures.same ∙ is.path;
       names = is.names;
       goes = omega (arith, goes);
-      told = subst (λ p. TellsBoth First (TellsLook mid.types.now mid.files.known.items p
-          (gave after) names (mid.place + 1) mid.report mid.sizes.waiting) [] [])
-          (sym c.if-is_unchanged.ensures.same)
-          (then_passed mid.types.now mid.files.known.items (path mid.shelf) names First
-          (gave mid.shelf) (gave after) mid.place mid.report mid.sizes.waiting name stamp is.told
-          within at passed.2);
-      knows = λ told was. knows_passed (gave mid.shelf) (gave after) mid.files told name stamp
-          passed.2 passed.1 (is.knows told was);
-      fine = λ e. absurd (let no : false ≡ true =
-          sym (passed_is mid.report.any_refused (gave mid.shelf).unchanged (name, stamp))
-          ∙ ap (λ (n : Given). is_fine_look mid.report.any_refused n.unchanged) (sym passed.2)
-          ∙ e in cc (no));
+      looked = λ since told gave first.
+          let was = is.looked since told gave first in
+          let given = was.0 in
+          let passed = c.if-is_unchanged.ensures.gave given in
+          let after = and_unchanged given name passed.0 in
+          let Look = TellsLook types known (reader_path mid.shelf) given names mid.place mid.report
+          mid.sizes.waiting in (
+            after,
+            gives_on _ _ nothing given _ after was.1 passed.2,
+            (
+              subst (λ p. TellsLook types known p after names (mid.place + 1) mid.report
+                  mid.sizes.waiting told gave) (sym c.if-is_unchanged.ensures.same)
+                  (plain (TellsLook types known (reader_path mid.shelf) after names (mid.place + 1)
+                  mid.report mid.sizes.waiting) told gave
+                  (then_passed types known (reader_path mid.shelf) names Look given after mid.place
+                  mid.report mid.sizes.waiting name passed.0 (both_same Look) within at refl gave
+                  told was.2.0)),
+              knows_passed given after mid.files told name passed.0 refl passed.1 was.2.1,
+              λ kept. absurd (cc (kept)),
+            ),
+          );
+      fine = λ e. absurd (let no : false ≡ true = sym (passed_is mid.report.any_refused) ∙ e in
+          cc (no));
     }
 
 pub loop-self-preserved : goal.loop-self-preserved
 loop-self-preserved g c =
-    let old = c.args.self.now in
     let mid = c.loop-self.self in
     let is = c.loop-self.invariant in
-    let goes = is.goes in
+    let types = mid.types.now in
+    let known = mid.files.known.items in
     let names = mid.names.names.items in
     let name = c.index-name.result.now in
-    let path = g.S.Shelf.path in
-    let gave = g.S.Shelf.gave in
-    let after = c.read.new.shelf in
-    let report = c.tell_untaken.new.report in
     let within : mid.place < length names =
     subst (λ n. mid.place < n) (c.len.ensures ∙ mid.names.names.ok.0) c.loop-self-test.true in
     let at : slice_get names mid.place ≡ Some name =
     slice_get_read names (length names) mid.place name refl within c.index-name.ensures in
-    let told : TellsFile mid.report report name =
+    let goes = is.goes in
+    let report = c.tell_untaken.new.report in
+    let told_so : TellsFile mid.report report name =
     subst (λ n. TellsFile mid.report report n) c.as_bytes.ensures.value c.tell_untaken.ensures.told in
-    let First = TellsLook old.types.now old.files.known.items (path old.shelf) (gave old.shelf)
-    old.names.names.items old.place old.report old.sizes.waiting in
-    let same = c.in-Err.ensures.same ∙ c.if-is_unchanged.ensures.same in
-    let took = subst (λ (n : Given). Misses mid.types.now name n (gave after)
-    (c.in-Err.untaken ≡ NotTaken OutOfMemory))
-    c.if-is_unchanged.ensures.gave c.in-Err.ensures.took in
     record {
-      types = is.types;
-      path = same ∙ is.path;
       names = is.names;
       goes = omega (arith, goes);
-      told = subst (λ p. TellsBoth First (TellsLook mid.types.now mid.files.known.items p
-          (gave after) names (mid.place + 1) report mid.sizes.waiting) [] []) (sym same)
-          (then_missed mid.types.now mid.files.known.items (path mid.shelf) names First
-          (gave mid.shelf) (gave after) mid.place mid.report report mid.sizes.waiting name
-          is.told within at took c.tell_untaken.ensures.memory
-          c.tell_untaken.ensures.any c.tell_untaken.ensures.stays told);
-      knows = λ told was. knows_on (gave mid.shelf) (gave after) mid.files told
-          (left_on (gave mid.shelf) (gave after) name took) (is.knows told was);
+      looked = λ since told gave first.
+          let was = is.looked since told gave first in
+          let given = was.0 in
+          let took = c.in-Err.ensures.took given in
+          let after = took.0 in
+          let Look = TellsLook types known (reader_path mid.shelf) given names mid.place mid.report
+          mid.sizes.waiting in (
+            after,
+            gives_on _ _ nothing given _ after
+                (gives_on _ _ nothing given _ given was.1 (c.if-is_unchanged.ensures.gave given))
+                took.1,
+            (
+              subst (λ p. TellsLook types known p after names (mid.place + 1) report
+                  mid.sizes.waiting told gave)
+                  (sym (c.in-Err.ensures.same ∙ c.if-is_unchanged.ensures.same))
+                  (plain (TellsLook types known (reader_path mid.shelf) after names (mid.place + 1)
+                  report mid.sizes.waiting) told gave
+                  (then_missed types known (reader_path mid.shelf) names Look given after mid.place
+                  mid.report report mid.sizes.waiting name (both_same Look) within at took.2
+                  c.tell_untaken.ensures.memory c.tell_untaken.ensures.any
+                  c.tell_untaken.ensures.stays told_so gave told was.2.0)),
+              knows_on given after mid.files told (left_on given after name took.2) was.2.1,
+              λ kept. absurd (cc (kept)),
+            ),
+          );
       fine = λ e.
-          let none = fine_unrefused report.any_refused (gave after).unchanged e in
+          let none = fine_unrefused report.any_refused mid.any_passed e in
           let any = c.tell_untaken.ensures.any in absurd (cc (none, any));
     }

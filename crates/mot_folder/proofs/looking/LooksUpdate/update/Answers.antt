@@ -1,4 +1,4 @@
-use Rattle.std.proofs.Common.{◌≡◌, ◌∙◌, ◌||◌, ◌+◌, ℕ, Bool, true, false, not, ◌∷◌, ◌++◌, Option}
+use Rattle.std.proofs.Common.{◌≡◌, ◌∙◌, ◌||◌, ◌+◌, ℕ, Bool, true, false, not, Option}
 use Rattle.std.proofs.Common.{None, [], Err, Ok, Result, min}
 use Rattle.std.specs.Prelude.{OnOk}
 use Rattle.std.proofs.Common.{ap, refl, sym}
@@ -14,7 +14,10 @@ use Rattle.mot_journal.specs.Image.{Standing}
 use Rattle.mot_numbers.specs.declared.refusal.Refusal.{Refusal}
 use Rattle.mot_playout.specs.Attempts.{fault_of}
 use Rattle.mot_playout.specs.Server.{ServerView}
-use Rattle.mot_shelf.specs.Given.{Given}
+use Rattle.mot_shelf.proofs.Laws.{gives_path}
+use Rattle.mot_shelf.specs.Given.{nothing}
+use Rattle.mot_shelf.specs.Gives.{GaveSo}
+use Rattle.mot_shelf.specs.Reader.{view}
 use Rattle.mot_update.specs.Between.{IsUpdating, may_look}
 use Rattle.mot_update.specs.Watching.{looks_known}
 use Rattle.mot_update.specs.declared.moment.Moment.{Moment}
@@ -25,44 +28,42 @@ twice_not true = refl
 twice_not false = refl
 
 -- looks so far, and one more
-so_is : (before behind : LooksSoFar) (given : Given) (report : Report) {left : ℕ}
-    → behind.left ≡ left
-    → behind.given ≡ before.given ++ given ∷ []
+so_is : (before behind : LooksSoFar) (report : Report) {left : ℕ} → behind.left ≡ left
     → behind.refused ≡ (before.refused || report.any_refused)
     → behind.known ≡ known_after before.known report.events.items
-    → behind ≡ so_far left (before.given ++ given ∷ [])
-    (before.refused || not (not report.any_refused)) (known_after before.known report.events.items)
-    behind.files
-so_is before behind given report {left} paced noted kept told =
-    ap (λ n. so_far n behind.given behind.refused behind.known behind.files) paced
-    ∙ ap (λ l. so_far left l behind.refused behind.known behind.files) noted
-    ∙ ap (λ (b : Bool). so_far left (before.given ++ given ∷ []) b behind.known behind.files)
+    → behind ≡ so_far left behind.folder (before.refused || not (not report.any_refused))
+    (known_after before.known report.events.items) behind.files
+so_is before behind report {left} paced kept told =
+    ap (λ n. so_far n behind.folder behind.refused behind.known behind.files) paced
+    ∙ ap (λ (b : Bool). so_far left behind.folder b behind.known behind.files)
     (kept ∙ ap (λ (b : Bool). before.refused || b) (twice_not report.any_refused))
-    ∙ ap (λ k. so_far left (before.given ++ given ∷ [])
-    (before.refused || not (not report.any_refused)) k behind.files) told
+    ∙ ap (λ k. so_far left behind.folder (before.refused || not (not report.any_refused)) k
+    behind.files) told
 
 -- a look runs commands, and tells of them
 updating_by : {D : Type 0} (old new : ServerView D) (start now : State) (s : Standing)
-    (w after : Watch) (moment : Moment) (before behind : LooksSoFar) (given : Given)
+    (w after : Watch) (moment : Moment) (before behind : LooksSoFar)
     (report : Report) (fault : Option Refusal)
     → after ≡ w → is_look_due before.left (may_look moment) ≡ true
-    → behind.left ≡ packets_left report.any_left w.every → behind.given ≡ before.given ++ given ∷ []
+    → behind.left ≡ packets_left report.any_left w.every
     → behind.refused ≡ (before.refused || report.any_refused)
     → behind.known ≡ known_after before.known report.events.items
     → (fault ≡ None → report.any_left_out ≡ false)
-    → HasLookedAtFolder old new start now s w.types w.allows w.path given report fault before.files
-    behind.files
+    → GaveSo before.folder behind.folder (λ given. HasLookedAtFolder old new start now s w.types
+    w.allows w.path given report fault before.files behind.files)
     → IsUpdating (TellsWatch w after moment before behind) old new start now s fault
-updating_by old new start now s w after moment before behind given report fault same due paced noted
-    kept told whole looked = record {
+updating_by old new start now s w after moment before behind report fault same due paced
+    kept told whole gave =
+    let looked = gave.2 in
+    record {
       commands = looked.commands;
       marks = looked.marks;
       run = looked.run;
       told = (
         same,
-        one_look due report.any_left given looked.names looked.wanted (not report.any_refused)
+        one_look due report.any_left gave.0 looked.names looked.wanted (not report.any_refused)
             looked.entries report.events.items behind.files (λ none. looked.told (whole none))
-            (so_is before behind given report paced noted kept told) looked.look,
+            gave.1 (so_is before behind report paced kept told) looked.look,
       );
     }
 
@@ -104,7 +105,7 @@ returns-then-not-look_is_due-clause-run g c = λ s holds honest.
         refl,
         no_look (due_is c.args.self.now.left c.args.moment
             c.may_look.result false c.may_look.ensures c.if-not-look_is_due.ensures.due)
-            (ap (λ n. so_far n c.args.self.now.looks.all c.args.self.now.any_refused
+            (ap (λ n. so_far n (view g.S.System.calls c.args.self.now.folder.shelf) c.args.self.now.any_refused
             (looks_known c.args.self.now.count c.args.self.now.folder.report.events.items
             c.args.self.now.before.items) c.args.self.now.folder.files.known.items)
             (c.if-not-look_is_due.ensures.counts
@@ -119,25 +120,26 @@ returns-clause-run g c = λ s holds honest.
     let state = g.D.Disk.state in
     let old = c.args.server.now in
     let new = c.look_at_folder-result.new.server in
+    let looked = c.look_at_folder-result.ensures.looked s holds honest in
     updating_by old new (state old.disk) (state new.disk) s _ _ c.args.moment
-    (so_far c.args.self.now.left c.args.self.now.looks.all c.args.self.now.any_refused
+    (so_far c.args.self.now.left (view g.S.System.calls c.args.self.now.folder.shelf) c.args.self.now.any_refused
     (looks_known c.args.self.now.count c.args.self.now.folder.report.events.items
-    c.args.self.now.before.items) c.args.self.now.folder.files.known.items) _ _
+    c.args.self.now.before.items) c.args.self.now.folder.files.known.items) _
     c.look_at_folder-result.new.folder.report
     (fault_of c.look_at_folder-result.result)
     (ap (λ p. watch p c.args.self.now.folder.types.now c.args.self.now.folder.allows_empty
     c.args.self.now.every c.args.self.now.within)
-    (c.look_at_folder-result.ensures.path s holds honest))
+    (gives_path _ nothing _ looked.0 looked.1))
     (due_is c.args.self.now.left c.args.moment c.may_look.result true c.may_look.ensures
     c.if-not-look_is_due.ensures.due)
-    c.packets_left-self.ensures c.note.ensures
+    c.packets_left-self.ensures
     refl
     (ap (λ n. looks_known n c.look_at_folder-result.new.folder.report.events.items
     c.turn_over-was_listed.new.before.items) c.saturating_add-self.ensures
     ∙ ap (looks_known (min (c.args.self.now.count + 1) 18446744073709551615)
     c.look_at_folder-result.new.folder.report.events.items) c.turn_over-was_listed.ensures.before)
     (whole_if c.look_at_folder-result.result _ c.look_at_folder-result.ensures.whole)
-    (c.look_at_folder-result.ensures.looked s holds honest)
+    looked
 
 pub returns-clause-looked : goal.returns-clause-looked
 returns-clause-looked g c = λ due s holds honest.
@@ -153,4 +155,4 @@ pub returns-clause-listed : goal.returns-clause-listed
 returns-clause-listed g c = λ due. c.turn_over-was_listed.ensures.listed
 
 pub returns-clause-looks : goal.returns-clause-looks
-returns-clause-looks g c = λ due. (c.packets_left-self.ensures, c.note.ensures)
+returns-clause-looks g c = λ due. c.packets_left-self.ensures

@@ -10,8 +10,5 @@ returns-clause-open g c = refl
 pub returns-clause-folder : goal.returns-clause-folder
 returns-clause-folder g c = c.tell_fault.ensures.folder
 
-pub returns-clause-given : goal.returns-clause-given
-returns-clause-given g c = refl
-
 pub returns-clause-stops : goal.returns-clause-stops
 returns-clause-stops g c = refl
