@@ -101,8 +101,7 @@ PlaysAsked target tale Reads p ending begun taken start now =
     (frame : ℕ) × IsFrame p.rate frame ending start now
     × PlaysInto target (tale frame) Reads (played_as p frame) ending begun taken start now
 
--- How packets were sent that so many calls of a handle came before: to it alone they were written,
--- and what each write took was so played. Then, at the end, a new file took its place; or it did not,
+-- What became of the place of packets once playing had ended: a new file took its place, or could not,
 -- or was taken away.
 pub data EndsSending (destination : Destination) (handle : Handle) (ending : Option Refusal)
     (old new : List Call) : Type 0 where
@@ -114,6 +113,8 @@ pub data EndsSending (destination : Destination) (handle : Handle) (ending : Opt
   taken_away : ending ≢ None → IsTakenAway destination handle old new
       → EndsSending destination handle ending old new
 
+-- Behind the first of these calls packets were sent to a handle, and what it took was so played. Then
+-- it was asked why a packet was not taken, if one was not, and the place was given up.
 pub record Sends (destination : Destination) (handle : Handle) (ending : Option Refusal)
     (Played : (begun taken : List (List ℕ)) → Type 0) (old new : List Call) : Type 0 where
   pub sent : List Call
