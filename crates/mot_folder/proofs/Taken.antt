@@ -9,7 +9,7 @@ use Rattle.std.proofs.lemmas.Bool.{or_parts}
 use Rattle.std.proofs.lemmas.Slice.Eq.{bytes_eq-Decides}
 use Rattle.std.proofs.lemmas.Grind.{flat_map-append}
 use Rattle.std.proofs.lemmas.List.Folds.{list_any-append}
-use Rattle.std.proofs.lemmas.List.{length-map, map-append}
+use Rattle.std.proofs.lemmas.List.{map-append}
 use Rattle.std.proofs.lemmas.List.Elements.{filter-append}
 use Rattle.mot_events.specs.Events.{event_of}
 use Rattle.mot_events.specs.declared.event.Deed.TheVariants as deed
@@ -18,8 +18,7 @@ use Rattle.mot_events.specs.declared.event.Met.{Met}
 use Rattle.mot_events.specs.declared.event.Why.{Why}
 use Rattle.mot_folder.specs.Inner.Images.{NotesImage}
 use Rattle.mot_folder.specs.Inner.Names.{name_or_none}
-use Rattle.mot_folder.specs.Inner.Reading.{Misses, Takes, TellsFile, TellsLook, TellsOffered}
-use Rattle.mot_folder.specs.Inner.Reading.{as_wanted, file_as_wanted, front, heading}
+use Rattle.mot_folder.specs.Inner.Reading.{LookStart, Misses, Takes, TellsFile, TellsLook, TellsOffered}
 use Rattle.mot_folder.specs.Inner.Reading.Misses.{was_refused, was_unkept, was_unread}
 use Rattle.mot_folder.specs.Inner.Listing.{TellsNameless}
 use Rattle.mot_folder.specs.Inner.Reasons.{TellsNoMore, TellsUnless, and_waiting}
@@ -37,7 +36,6 @@ use Rattle.mot_numbers.specs.declared.refusal.Refusal.{Refusal}
 use Rattle.mot_folder.specs.Taken.AreTaken.{no_file, one_refused, one_unchanged, one_unkept}
 use Rattle.mot_folder.specs.Taken.AreTaken.{one_unread, one_wanted}
 use Rattle.mot_folder.specs.declared.report.Report.{Report}
-use Rattle.mot_objects.specs.Content.{ContentNumbers}
 use Rattle.mot_playout.specs.declared.running.Attempt.TheVariants.{Accepted, Refused as WasRefused}
 use Rattle.mot_files.specs.declared.system.Stamp.{Stamp}
 use Rattle.mot_folder.specs.declared.known.Known.{Known}
@@ -686,21 +684,20 @@ take-named names i name lt at =
     ap (λ n. take n names) on ∙ take-suc-named names i lt
     ∙ ap (λ o. take i names ++ name_or_none o ∷ []) at
 
-module _ (types : List SuffixType) (known : List Known) (path : List ℕ) (names : List (List ℕ)) where
+module _ (began : LookStart) (types : List SuffixType) (known : List Known) (path : List ℕ)
+    (names : List (List ℕ)) where
   -- what was given and told in a look goes on
   pub look_on : (g h : Given) (place after : ℕ) (old new : Report) (waiting waits : ℕ) (answers : List Answer)
       (more : List Wanted) → (IsListing types path g names → IsListing types path h names)
       → TellsBoth (TellsOf types g old waiting (take place names))
       (TellsOf types h new waits (take after names)) answers more
-      → TellsBoth (TellsLook types known path g names place old waiting)
-      (TellsLook types known path h names after new waits) answers more
+      → TellsBoth (TellsLook began types known path g names place old waiting)
+      (TellsLook began types known path h names after new waits) answers more
   look_on g h place after old new waiting waits answers more still step = λ given told was. record {
-    answers = was.answers ++ answers;
-    wanted = was.wanted ++ more;
-    headed = ap (λ l. l ++ answers) was.headed;
-    typed = ap (λ l. l ++ more) was.typed ∙ append_assoc (front types known) was.wanted more;
+    same_types = was.same_types;
+    same_known = was.same_known;
     listing = still was.listing;
-    tells = step was.wanted was.answers was.tells;
+    tells = step given told was.tells;
   }
 
   still_read : (g : Given) (name bytes : List ℕ) (stamp : Option Stamp)
@@ -747,13 +744,13 @@ module _ (types : List SuffixType) (known : List Known) (path : List ℕ) (names
   -- and an object of the next name is given
   pub then_given : (P : List Answer → List Wanted → Type 0) (g h : Given) (place : ℕ)
       (old new : Report) (waiting : ℕ) (name : List ℕ) (w : Wanted)
-      → TellsBoth P (TellsLook types known path g names place old waiting) [] []
+      → TellsBoth P (TellsLook began types known path g names place old waiting) [] []
       → place < length names → slice_get names place ≡ Some name → Takes types name g h w
       → NotesImage old new w
-      → TellsBoth P (TellsLook types known path h names (place + 1) new waiting) [] (w ∷ [])
+      → TellsBoth P (TellsLook began types known path h names (place + 1) new waiting) [] (w ∷ [])
   then_given P g h place old new waiting name w told lt at is notes =
-      behind P (TellsLook types known path g names place old waiting)
-      (TellsLook types known path h names (place + 1) new waiting) (w ∷ []) told
+      behind P (TellsLook began types known path g names place old waiting)
+      (TellsLook began types known path h names (place + 1) new waiting) (w ∷ []) told
       (look_on g h place (place + 1) old new waiting waiting [] (w ∷ [])
       (λ was. subst (λ (n : Given). IsListing types path n names) (sym is.read)
       (still_read g name is.bytes is.stamp was))
@@ -764,14 +761,14 @@ module _ (types : List SuffixType) (known : List Known) (path : List ℕ) (names
   -- or it is told as that of a file that could not be taken
   pub then_missed : {E : Type 0} (P : List Answer → List Wanted → Type 0) (g h : Given) (place : ℕ)
       (old new : Report) (waiting : ℕ) (name : List ℕ)
-      → TellsBoth P (TellsLook types known path g names place old waiting) [] []
+      → TellsBoth P (TellsLook began types known path g names place old waiting) [] []
       → place < length names → slice_get names place ≡ Some name → Misses types name g h E
       → (E → new.any_without_memory ≡ true) → new.any_refused ≡ true
       → (old.any_without_memory ≡ true → new.any_without_memory ≡ true) → TellsFile old new name
-      → TellsBoth P (TellsLook types known path h names (place + 1) new waiting) [] []
+      → TellsBoth P (TellsLook began types known path h names (place + 1) new waiting) [] []
   then_missed P g h place old new waiting name told lt at is memory any stays one =
-      behind P (TellsLook types known path g names place old waiting)
-      (TellsLook types known path h names (place + 1) new waiting) [] told
+      behind P (TellsLook began types known path g names place old waiting)
+      (TellsLook began types known path h names (place + 1) new waiting) [] told
       (look_on g h place (place + 1) old new waiting waiting [] [] (listing_misses g h name is)
       (subst (λ l. TellsBoth (TellsOf types g old waiting (take place names))
       (TellsOf types h new waiting l) [] [])
@@ -782,13 +779,13 @@ module _ (types : List SuffixType) (known : List Known) (path : List ℕ) (names
   -- or the file of the next name is passed over
   pub then_passed : (P : List Answer → List Wanted → Type 0) (g h : Given) (place : ℕ)
       (report : Report) (waiting : ℕ) (name : List ℕ) (stamp : Stamp)
-      → TellsBoth P (TellsLook types known path g names place report waiting) [] []
+      → TellsBoth P (TellsLook began types known path g names place report waiting) [] []
       → place < length names → slice_get names place ≡ Some name
       → h ≡ and_unchanged g name stamp
-      → TellsBoth P (TellsLook types known path h names (place + 1) report waiting) [] []
+      → TellsBoth P (TellsLook began types known path h names (place + 1) report waiting) [] []
   then_passed P g h place report waiting name stamp told lt at is =
-      behind P (TellsLook types known path g names place report waiting)
-      (TellsLook types known path h names (place + 1) report waiting) [] told
+      behind P (TellsLook began types known path g names place report waiting)
+      (TellsLook began types known path h names (place + 1) report waiting) [] told
       (look_on g h place (place + 1) report report waiting waiting [] []
       (λ was. subst (λ (n : Given). IsListing types path n names) (sym is)
       (still_passed g name stamp was))
@@ -799,9 +796,9 @@ module _ (types : List SuffixType) (known : List Known) (path : List ℕ) (names
   -- an object is offered: its file was read
   pub then_offered : (P : List Answer → List Wanted → Type 0) (g h : Given) (place : ℕ)
       (report : Report) (waiting : ℕ) (name : List ℕ) (w : Wanted)
-      → TellsBoth P (TellsLook types known path g names place report waiting) [] []
+      → TellsBoth P (TellsLook began types known path g names place report waiting) [] []
       → place < length names → slice_get names place ≡ Some name → Takes types name g h w
-      → TellsBoth P (TellsOffered types known path h names (place + 1) report waiting w) [] []
+      → TellsBoth P (TellsOffered began types known path h names (place + 1) report waiting w) [] []
   then_offered P g h place report waiting name w told lt at is = λ given answers was. record {
     before = g;
     index = place;
@@ -815,13 +812,11 @@ module _ (types : List SuffixType) (known : List Known) (path : List ℕ) (names
   -- nothing is read for a file that is made to last
   look_kept : (h : Given) (place : ℕ) (report : Report) (waiting : ℕ) (name : List ℕ)
       (told : List Answer) (gave : List Wanted)
-      → TellsLook types known path h names place report waiting told gave
-      → TellsLook types known path (and_kept h name) names place report waiting told gave
+      → TellsLook began types known path h names place report waiting told gave
+      → TellsLook began types known path (and_kept h name) names place report waiting told gave
   look_kept h place report waiting name told gave is = record {
-    answers = is.answers;
-    wanted = is.wanted;
-    headed = is.headed;
-    typed = is.typed;
+    same_types = is.same_types;
+    same_known = is.same_known;
     listing = record {
       pieces = is.listing.pieces;
       whole = is.listing.whole;
@@ -833,7 +828,7 @@ module _ (types : List SuffixType) (known : List Known) (path : List ℕ) (names
       told = is.tells.told;
       are = is.tells.are;
       waits = is.tells.waits;
-      lasting = kept_on h.kept name is.answers is.tells.lasting;
+      lasting = kept_on h.kept name told is.tells.lasting;
       any = is.tells.any;
       missed = is.tells.missed;
       read = is.tells.read;
@@ -845,11 +840,11 @@ module _ (types : List SuffixType) (known : List Known) (path : List ℕ) (names
   -- and then it is given
   pub then_taken : (h : Given) (place : ℕ) (old new : Report) (waiting : ℕ) (w : Wanted)
       → NotesImage old new w
-      → TellsBoth (TellsOffered types known path h names place old waiting w)
-      (TellsLook types known path h names place new waiting) [] (w ∷ [])
+      → TellsBoth (TellsOffered began types known path h names place old waiting w)
+      (TellsLook began types known path h names place new waiting) [] (w ∷ [])
   then_taken h place old new waiting w notes = λ given answers was.
-      let before = TellsLook types known path was.before names was.index old waiting in
-      subst (λ n. TellsLook types known path h names n new waiting (answers ++ []) (given ++ w ∷ []))
+      let before = TellsLook began types known path was.before names was.index old waiting in
+      subst (λ n. TellsLook began types known path h names n new waiting (answers ++ []) (given ++ w ∷ []))
       (sym was.next)
       (then_given before was.before h was.index old new waiting w.name w
       (both_same before) was.within was.named was.takes notes given answers was.was)
@@ -857,10 +852,10 @@ module _ (types : List SuffixType) (known : List Known) (path : List ℕ) (names
   -- also if it was made to last before
   pub then_kept : (h k : Given) (place : ℕ) (old new : Report) (waiting : ℕ) (w : Wanted)
       (name : List ℕ) → k ≡ and_kept h name → NotesImage old new w
-      → TellsBoth (TellsOffered types known path h names place old waiting w)
-      (TellsLook types known path k names place new waiting) [] (w ∷ [])
+      → TellsBoth (TellsOffered began types known path h names place old waiting w)
+      (TellsLook began types known path k names place new waiting) [] (w ∷ [])
   then_kept h k place old new waiting w name is notes = λ given answers was.
-      subst (λ (n : Given). TellsLook types known path n names place new waiting (answers ++ [])
+      subst (λ (n : Given). TellsLook began types known path n names place new waiting (answers ++ [])
       (given ++ w ∷ [])) (sym is)
       (look_kept h place new waiting name (answers ++ []) (given ++ w ∷ [])
       (then_taken h place old new waiting w notes given answers was))
@@ -870,11 +865,11 @@ module _ (types : List SuffixType) (known : List Known) (path : List ℕ) (names
       → k ≡ and_missed h w.name → new.any_refused ≡ true
       → (old.any_without_memory ≡ true → new.any_without_memory ≡ true)
       → TellsFile old new w.name
-      → TellsBoth (TellsOffered types known path h names place old waiting w)
-      (TellsLook types known path k names place new waiting) [] []
+      → TellsBoth (TellsOffered began types known path h names place old waiting w)
+      (TellsLook began types known path k names place new waiting) [] []
   then_left h k place old new waiting w is any stays one = λ given answers was.
-      let before = TellsLook types known path was.before names was.index old waiting in
-      subst (λ n. TellsLook types known path k names n new waiting (answers ++ []) (given ++ []))
+      let before = TellsLook began types known path was.before names was.index old waiting in
+      subst (λ n. TellsLook began types known path k names n new waiting (answers ++ []) (given ++ []))
       (sym was.next)
       (then_missed {E = ⊥} before was.before k was.index old new waiting w.name (both_same before)
       was.within was.named
@@ -882,175 +877,14 @@ module _ (types : List SuffixType) (known : List Known) (path : List ℕ) (names
       (is ∙ ap (λ (n : Given). and_missed n w.name) was.takes.read))
       (λ no. absurd no) any stays one given answers was.was)
 
--- ---- what a look is of
-
-cut_front : (xs ys vs ws : List Wanted) → length xs ≡ length ys → xs ++ vs ≡ ys ++ ws
-    → (xs ≡ ys) × (vs ≡ ws)
-cut_front [] [] vs ws len e = (refl, e)
-cut_front [] (y ∷ ys) vs ws len e = absurd (omega (arith, len))
-cut_front (x ∷ xs) [] vs ws len e = absurd (omega (arith, len))
-cut_front (x ∷ xs) (y ∷ ys) vs ws len e =
-    let head : x ≡ y = cc (e) in
-    let tail : xs ++ vs ≡ ys ++ ws = cc (e) in
-    let rest = cut_front xs ys vs ws (omega (arith, len)) tail in
-    (cc (head, rest.0), rest.1)
-
-type_with : List ℕ → ContentNumbers → Option (List ℕ) → SuffixType
-type_with suffix content mime = record { suffix = suffix; content = content; mime = mime }
-
-rebuilt : (t o : SuffixType) → t.suffix ≡ o.suffix → t.content ≡ o.content → t.mime ≡ o.mime
-    → t ≡ o
-unfolding type_with
-rebuilt t o suffix content mime =
-    ap (λ x. type_with x t.content t.mime) suffix ∙ ap (λ x. type_with o.suffix x t.mime) content
-    ∙ ap (λ x. type_with o.suffix o.content x) mime
-
-same_types : (types others : List SuffixType) → map as_wanted types ≡ map as_wanted others
-    → types ≡ others
-same_types [] [] e = refl
-same_types [] (o ∷ others) e = absurd (cc (e))
-same_types (t ∷ types) [] e = absurd (cc (e))
-same_types (t ∷ types) (o ∷ others) e =
-    let one : as_wanted t ≡ as_wanted o = cc (e) in
-    let rest : map as_wanted types ≡ map as_wanted others = cc (e) in
-    let same = same_types types others rest in
-    let suffix : t.suffix ≡ o.suffix = ap (λ (w : Wanted). w.name) one in
-    let content : t.content ≡ o.content = ap (λ (w : Wanted). w.content) one in
-    let mime : t.mime ≡ o.mime = ap (λ (w : Wanted). w.mime) one in
-    ap (λ (x : SuffixType). x ∷ types) (rebuilt t o suffix content mime)
-    ∙ ap (λ l. o ∷ l) same
-
--- the files that were known, out of what stands for them
-known_with : List ℕ → ContentNumbers → (device number len written changed : ℕ) → Known
-known_with name numbers device number len written changed = record {
-  name = name;
-  stamp = record {
-    device = device;
-    number = number;
-    len = len;
-    written = record { nanos = written };
-    changed = record { nanos = changed };
-  };
-  tid = numbers.content_type;
-  version = numbers.subtype;
-}
-
--- the place in a list of bytes
-nth : ℕ → List ℕ → ℕ
-nth i [] = 0
-nth zero (x ∷ xs) = x
-nth (suc i) (x ∷ xs) = nth i xs
-
-known_of : Wanted → Known
-known_of w = known_with w.name w.content (nth 0 w.body) (nth 1 w.body) (nth 2 w.body)
-    (nth 3 w.body) (nth 4 w.body)
-
-known_again : (k : Known) → known_of (file_as_wanted k) ≡ k
-unfolding known_of known_with nth
-known_again k = refl
-
-all_again : (known : List Known) → map known_of (map file_as_wanted known) ≡ known
-all_again [] = refl
-all_again (k ∷ known) =
-    ap (λ (x : Known). x ∷ map known_of (map file_as_wanted known)) (known_again k)
-    ∙ ap (λ l. k ∷ l) (all_again known)
-
-same_known : (known others : List Known)
-    → map file_as_wanted known ≡ map file_as_wanted others → known ≡ others
-same_known known others e = sym (all_again known) ∙ ap (map known_of) e ∙ all_again others
-
--- a look that began with these goes on with these, and with what was given and told in it
-pub record IsLook (types : List SuffixType) (known now : List Known) (path : List ℕ) (g : Given)
-    (names : List (List ℕ)) (place : ℕ) (report : Report) (waiting : ℕ) (answers : List Answer)
-    (wanted : List Wanted) : Type 0 where
-  pub listing : IsListing types path g names
-  pub tells : TellsOf types g report waiting (take place names) answers wanted
-  pub files : now ≡ known
-
 -- before the first of the names is gone over
-pub look_begins : (types : List SuffixType) (known : List Known) (path : List ℕ) (g : Given)
-    (names : List (List ℕ)) (report : Report) → IsListing types path g names → g.read ≡ []
-    → g.missed ≡ [] → g.unchanged ≡ [] → TellsNameless g.files report
-    → TellsLook types known path g names 0 report 0 (heading path types known ∷ [])
-    (front types known ++ [])
-look_begins types known path g names report listing no_read none_missed none_passed told = record {
-  answers = [];
-  wanted = [];
-  headed = refl;
-  typed = refl;
+pub look_begins : (began : LookStart) (path : List ℕ) (g : Given) (names : List (List ℕ))
+    (report : Report) → IsListing began.types path g names → g.read ≡ [] → g.missed ≡ []
+    → g.unchanged ≡ [] → TellsNameless g.files report
+    → TellsLook began began.types began.known path g names 0 report 0 [] []
+look_begins began path g names report listing no_read none_missed none_passed told = record {
+  same_types = refl;
+  same_known = refl;
   listing = listing;
-  tells = of_none types g report no_read none_missed none_passed told;
+  tells = of_none began.types g report no_read none_missed none_passed told;
 }
-
-module _ (types others : List SuffixType) (known then : List Known) (path other : List ℕ)
-    (head : heading path types known ≡ heading other others then) where
-  head_path : path ≡ other
-  head_path = cc (head)
-
-  number_in : Answer → ℕ
-  number_in (Withdrew name (Accepted done)) = done.directory
-  number_in (Withdrew name (WasRefused refusal)) = 0
-  number_in (Put name came) = 0
-  number_in (Replaced name came) = 0
-
-  object_in : Answer → Option ℕ
-  object_in (Withdrew name (Accepted done)) = done.object
-  object_in (Withdrew name (WasRefused refusal)) = None
-  object_in (Put name came) = None
-  object_in (Replaced name came) = None
-
-  head_types : length types ≡ length others
-  unfolding number_in
-  head_types = ap number_in head
-
-  head_known : length known ≡ length then
-  unfolding object_in
-  head_known =
-      let same : Some (length known) ≡ Some (length then) = ap object_in head in
-      cc (same)
-
--- and behind it
-pub look_is : (types others : List SuffixType) (known then : List Known) (path other : List ℕ)
-    (g : Given) (names : List (List ℕ)) (place : ℕ) (report : Report) (waiting : ℕ)
-    (answers : List Answer) (wanted : List Wanted)
-    → TellsLook others then other g names place report waiting (heading path types known ∷ answers)
-    ((front types known ++ []) ++ wanted)
-    → IsLook types known then path g names place report waiting answers wanted
-look_is types others known then path other g names place report waiting answers wanted was =
-    let head : heading path types known ≡ heading other others then = cc (was.headed) in
-    let told : answers ≡ was.answers = cc (was.headed) in
-    let typed : map as_wanted types ++ (map file_as_wanted known ++ wanted)
-    ≡ map as_wanted others ++ (map file_as_wanted then ++ was.wanted) =
-    sym (append_assoc (map as_wanted types) (map file_as_wanted known) wanted)
-    ∙ ap (λ l. l ++ wanted) (sym (append-nil (front types known))) ∙ was.typed
-    ∙ append_assoc (map as_wanted others) (map file_as_wanted then) was.wanted in
-    let first = cut_front (map as_wanted types) (map as_wanted others)
-    (map file_as_wanted known ++ wanted) (map file_as_wanted then ++ was.wanted)
-    (length-map types as_wanted ∙ head_types types others known then path other head
-    ∙ sym (length-map others as_wanted)) typed in
-    let second = cut_front (map file_as_wanted known) (map file_as_wanted then) wanted was.wanted
-    (length-map known file_as_wanted ∙ head_known types others known then path other head
-    ∙ sym (length-map then file_as_wanted)) first.1 in
-    let same = same_types types others first.0 in
-    subst (λ (t : List SuffixType). IsLook t known then path g names place report waiting answers
-    wanted) (sym same)
-    (subst (λ p. IsLook others known then p g names place report waiting answers wanted)
-    (sym (head_path types others known then path other head))
-    (subst (λ (a : List Answer). IsLook others known then other g names place report waiting a
-    wanted) (sym told)
-    (subst (λ (w : List Wanted). IsLook others known then other g names place report waiting
-    was.answers w) (sym second.1) (record {
-      listing = was.listing;
-      tells = was.tells;
-      files = sym (same_known known then second.0);
-    }))))
-
--- and it is of the same path
-pub same_path : (types others : List SuffixType) (known then : List Known) (path other : List ℕ)
-    (g : Given) (names : List (List ℕ)) (place : ℕ) (report : Report) (waiting : ℕ)
-    (answers : List Answer) (gave : List Wanted)
-    → TellsLook others then other g names place report waiting (heading path types known ∷ answers)
-    gave → other ≡ path
-same_path types others known then path other g names place report waiting answers gave was =
-    let head : heading path types known ≡ heading other others then = cc (was.headed) in
-    sym (head_path types others known then path other head)

@@ -3,7 +3,7 @@ ghost use Rattle.std.specs.Prelude.{◌≡◌, ◌⊎◌, ◌||◌, ◌-◌, ◌
 ghost use Rattle.std.specs.Prelude.{IfOk, IfSome, MatchBool, MatchResult, Some, slice_get};
 ghost use Rattle.mot_folder.specs.Inner.Knowing.{IsKnownWith, is_fine_look};
 ghost use Rattle.mot_folder.specs.Inner.Names.{name_or_none};
-ghost use Rattle.mot_folder.specs.Inner.Reading.{LookedSince, Misses, OfferedSince, Takes, TellsFile, TellsUntaken};
+ghost use Rattle.mot_folder.specs.Inner.Reading.{LookStart, LookedSince, Misses, OfferedSince, Takes, TellsFile, TellsUntaken};
 ghost use Rattle.mot_folder.specs.Inner.Reading.{TellsFault, is_for_next};
 ghost use Rattle.mot_folder.specs.Inner.Reasons.{TellsSettled, and_settled};
 ghost use Rattle.mot_folder.specs.Inner.Images.{NotesImage};
@@ -16,7 +16,6 @@ ghost use Rattle.mot_files.specs.declared.reading.Unread.TheVariants.{TooLong};
 ghost use Rattle.mot_shelf.specs.Given.{Given, and_unchanged};
 ghost use Rattle.mot_shelf.specs.Gives.{Gives, GoesOnSo};
 ghost use Rattle.mot_shelf.specs.Reader.{reader_path, view};
-ghost use Rattle.mot_shelf.specs.View.{FolderView};
 ghost use Rattle.mot_files.specs.declared.system.Stamp.{Stamp};
 ghost use Rattle.mot_suffixes.specs.Types.{SuffixType, type_of_name};
 ghost use Rattle.mot_update.specs.Looking.{was_settled};
@@ -111,8 +110,8 @@ impl<'a, S: System + Drop> Source for Folder<'a, S> {
     // Where a file is passed over, no object of its name is given.
     ghost is_fine = { λ folder. is_fine_look folder.report.any_refused folder.any_passed };
 
-    // The folder when the look began.
-    ghost Since = { FolderView };
+    // What the look began with.
+    ghost Since = { LookStart };
 
     ghost was_told = { λ folder since told given. LookedSince since (view S.calls folder.shelf)
         folder.types.now folder.files folder.names.names.items folder.place folder.report

@@ -1,6 +1,6 @@
 -- A folder while its files are read, and what a source of them was told.
-use Rattle.std.specs.Prelude.{◌≡◌, ◌⊎◌, ◌+◌, ◌<◌, ◌-◌, ℕ, List, [], ◌∷◌, ◌++◌, length, map, take}
-use Rattle.std.specs.Prelude.{None, Option, Some, Bool, true, false, slice_get}
+use Rattle.std.specs.Prelude.{◌≡◌, ◌⊎◌, ◌+◌, ◌<◌, ◌-◌, ℕ, List, length, take}
+use Rattle.std.specs.Prelude.{Option, Some, Bool, true, false, slice_get}
 use Rattle.mot_events.specs.Events.{event_of}
 use Rattle.mot_events.specs.declared.event.Deed.TheVariants.{Read}
 use Rattle.mot_events.specs.declared.event.LookEvent.{LookEvent}
@@ -23,12 +23,11 @@ use Rattle.mot_folder.specs.declared.report.Report.{Report}
 use Rattle.mot_files.specs.declared.reading.Unread.TheVariants.{Changed, NoMemory as OutOfRoom, System, TooLong, Young}
 use Rattle.mot_numbers.specs.declared.refusal.Refusal.{Refusal}
 use Rattle.mot_numbers.specs.declared.refusal.Refusal.TheVariants.{BodyTooLong, OutOfMemory}
-use Rattle.mot_playout.specs.declared.running.Attempt.TheVariants.{Accepted}
 use Rattle.mot_shelf.specs.Given.{Given, and_missed, and_read}
 use Rattle.mot_shelf.specs.Gives.{GaveSo}
 use Rattle.mot_shelf.specs.View.{FolderView}
 use Rattle.mot_suffixes.specs.Types.{SuffixType, type_of_name}
-use Rattle.mot_update.specs.Told.{Answer, Withdrew}
+use Rattle.mot_update.specs.Told.{Answer}
 use Rattle.mot_update.specs.Updating.{is_known}
 use Rattle.mot_update.specs.declared.wanted.Wanted.{Wanted}
 
@@ -58,67 +57,49 @@ abbrev pub TellsFile : Report → Report → List ℕ → Type 0
 TellsFile old new name =
     (met : Met) × (is_of_file met ≡ true) × TellsOne old new (event_of name met)
 
--- Which path and types a look is of, and what was known of files when it began, does not change: no
--- clause of a source can say so, but what it was told and what it gave only go on. So they stand in
--- front of these: the path with the numbers of the types and of the files, and the types and files.
-abbrev pub heading : List ℕ → List SuffixType → List Known → Answer
-heading path types known =
-    Withdrew path (Accepted (record { object = Some (length known); directory = length types }))
+-- What a look began with: its types, what was known of files, and the folder.
+pub record LookStart : Type 0 where
+  pub types : List SuffixType
+  pub known : List Known
+  pub folder : FolderView
 
-abbrev pub as_wanted : SuffixType → Wanted
-as_wanted type =
-    record { name = type.suffix; content = type.content; mime = type.mime; body = [] }
-
-abbrev pub file_as_wanted : Known → Wanted
-file_as_wanted k = record {
-  name = k.name;
-  content = record { content_type = k.tid; subtype = k.version };
-  mime = None;
-  body = k.stamp.device ∷ k.stamp.number ∷ k.stamp.len ∷ k.stamp.written.nanos
-      ∷ k.stamp.changed.nanos ∷ [];
-}
-
-abbrev pub front : List SuffixType → List Known → List Wanted
-front types known = map as_wanted types ++ map file_as_wanted known
-
--- what was told, and given, in a look at the folder of this path, up to this place in the names
-pub record TellsLook (types : List SuffixType) (known : List Known) (path : List ℕ) (given : Given)
-    (names : List (List ℕ)) (place : ℕ) (report : Report) (waiting : ℕ) (told : List Answer)
-    (gave : List Wanted) : Type 0 where
-  pub answers : List Answer
-  pub wanted : List Wanted
-  pub headed : told ≡ heading path types known ∷ answers
-  pub typed : gave ≡ front types known ++ wanted
+-- What was told, and given, in a look that began so, at the folder of this path, up to this place in
+-- the names. It still has its types, and knows of files what it knew.
+pub record TellsLook (began : LookStart) (types : List SuffixType) (known : List Known)
+    (path : List ℕ) (given : Given) (names : List (List ℕ)) (place : ℕ) (report : Report)
+    (waiting : ℕ) (told : List Answer) (gave : List Wanted) : Type 0 where
+  pub same_types : types ≡ began.types
+  pub same_known : known ≡ began.known
   pub listing : IsListing types path given names
-  pub tells : TellsOf types given report waiting (take place names) answers wanted
+  pub tells : TellsOf types given report waiting (take place names) told gave
 
 -- the same, once the file of the name before this place was read, of which this is wanted
-pub record TellsOffered (types : List SuffixType) (known : List Known) (path : List ℕ)
-    (given : Given) (names : List (List ℕ)) (place : ℕ) (report : Report) (waiting : ℕ) (offered : Wanted)
-    (told : List Answer) (gave : List Wanted) : Type 0 where
+pub record TellsOffered (began : LookStart) (types : List SuffixType) (known : List Known)
+    (path : List ℕ) (given : Given) (names : List (List ℕ)) (place : ℕ) (report : Report)
+    (waiting : ℕ) (offered : Wanted) (told : List Answer) (gave : List Wanted) : Type 0 where
   pub before : Given
   pub index : ℕ
   pub next : place ≡ index + 1
   pub within : index < length names
   pub named : slice_get names index ≡ Some offered.name
   pub takes : Takes types offered.name before given offered
-  pub was : TellsLook types known path before names index report waiting told gave
+  pub was : TellsLook began types known path before names index report waiting told gave
 
 -- the look, by the calls since it began
-abbrev pub LookedSince : (since now : FolderView) (types : List SuffixType) (files : KnownFiles)
-    (names : List (List ℕ)) (place : ℕ) (report : Report) (waiting : ℕ) (is_kept : Bool)
-    → List Answer → List Wanted → Type 0
-LookedSince since now types files names place report waiting is_kept told gave =
-    GaveSo since now (λ given. TellsLook types files.known.items now.path given names place report
-    waiting told gave × KnowsFiles given files told
+abbrev pub LookedSince : (began : LookStart) (now : FolderView) (types : List SuffixType)
+    (files : KnownFiles) (names : List (List ℕ)) (place : ℕ) (report : Report) (waiting : ℕ)
+    (is_kept : Bool) → List Answer → List Wanted → Type 0
+LookedSince began now types files names place report waiting is_kept told gave =
+    GaveSo began.folder now (λ given. TellsLook began types files.known.items now.path given names
+    place report waiting told gave × KnowsFiles given files told
     × (is_kept ≡ true → is_known given.kept (name_or_none (slice_get names (place - 1))) ≡ true))
 
-abbrev pub OfferedSince : (since now : FolderView) (types : List SuffixType) (files : KnownFiles)
-    (names : List (List ℕ)) (place : ℕ) (report : Report) (waiting : ℕ) (is_kept : Bool) → Wanted
-    → List Answer → List Wanted → Type 0
-OfferedSince since now types files names place report waiting is_kept offered told gave =
-    GaveSo since now (λ given. TellsOffered types files.known.items now.path given names place report
-    waiting offered told gave × KnowsFiles given files told × (is_kept ≡ false))
+abbrev pub OfferedSince : (began : LookStart) (now : FolderView) (types : List SuffixType)
+    (files : KnownFiles) (names : List (List ℕ)) (place : ℕ) (report : Report) (waiting : ℕ)
+    (is_kept : Bool) → Wanted → List Answer → List Wanted → Type 0
+OfferedSince began now types files names place report waiting is_kept offered told gave =
+    GaveSo began.folder now (λ given. TellsOffered began types files.known.items now.path given names
+    place report waiting offered told gave × KnowsFiles given files told × (is_kept ≡ false))
 
 -- whether the next look may take what was not taken: a file that is too young, or was changed
 abbrev pub is_for_next : Untaken → Bool

@@ -1,11 +1,11 @@
-use Rattle.std.proofs.Common.{◌≡◌, ◌∙◌, ◌++◌, ℕ, None, [], ◌∷◌, ap, refl, subst, sym}
+use Rattle.std.proofs.Common.{◌≡◌, ◌∙◌, ℕ, None, [], ap, refl, subst, sym}
 use Rattle.std.proofs.Common.{◌≤◌, Bool, true, false, Err, IfErr, List, Ok, Option, Result, Some}
 use Rattle.std.proofs.Common.{inr, length, take}
 use Rattle.std.proofs.lemmas.List.{take_all}
 use Rattle.mot_folder.specs.Inner.Listing.{IsUnread}
 use Rattle.mot_shelf.specs.Reader.{reader_path}
 use Rattle.mot_folder.specs.Inner.Knowing.{IsKept, IsKnownWith, KnowsFiles, WasStamped, is_there}
-use Rattle.mot_folder.specs.Inner.Reading.{TellsLook, front, heading}
+use Rattle.mot_folder.specs.Inner.Reading.{LookStart, TellsLook}
 use Rattle.mot_folder.specs.Known.{Among, ComesFrom, IsPassedOver, has_it}
 use Rattle.mot_folder.specs.Known.ComesFrom.{was_known}
 use Rattle.mot_folder.specs.declared.known.Known.{Known}
@@ -21,7 +21,7 @@ use Rattle.mot_objects.specs.declared.carousel.Carousel as memory
 use Rattle.mot_objects.specs.declared.object.Object.{Object}
 use Rattle.mot_repository.specs.Repository.{Agrees, RepositoryView}
 use Rattle.mot_folder.proofs.Kept.{kept_as_counted}
-use Rattle.mot_folder.proofs.Taken.{IsLook, fine_is, look_begins, look_is, taken_so}
+use Rattle.mot_folder.proofs.Taken.{fine_is, look_begins, taken_so}
 use Rattle.mot_folder.proofs.looking.look_at_names.Goals as goal
 use Rattle.mot_numbers.specs.declared.refusal.Refusal.{Refusal}
 use Rattle.mot_numbers.specs.declared.refusal.Refusal.TheVariants.{OutOfMemory}
@@ -30,6 +30,7 @@ use Rattle.mot_objects.specs.declared.command.Command.{Command}
 use Rattle.mot_journal.specs.Image.{Standing}
 use Rattle.disk_model.specs.Disk.{State}
 use Rattle.mot_playout.specs.Server.{ServerView}
+use Rattle.mot_shelf.proofs.Laws.{gives_path}
 use Rattle.mot_shelf.specs.Given.{Given, nothing}
 use Rattle.mot_update.specs.HasRun.{HasRun}
 use Rattle.mot_update.specs.Told.{Answer}
@@ -152,33 +153,28 @@ listed_whole {fine = fine} old new start now s types allows path given report na
     (λ none. absurd (cc (none))) (λ without none. cc (none)) told passed comes)
 
 -- what is known of files when a look begins
-knows_begins : (first : Given) (files : KnownFiles) (head : List ℕ) (types : List SuffixType)
-    → IsUnread nothing first → files.read.items ≡ []
-    → KnowsFiles first files (heading head types files.known.items ∷ [])
-knows_begins first files head types unread none = record {
+knows_begins : (first : Given) (files : KnownFiles) → IsUnread nothing first
+    → files.read.items ≡ [] → KnowsFiles first files []
+knows_begins first files unread none = record {
   passed = subst (λ l. AllByRecursion (IsKnownWith files.known.items) l) (sym unread.unchanged) tt;
   read = subst (λ l. AllByRecursion (WasStamped first) l) (sym none) tt;
-  refused = (tt, tt);
+  refused = tt;
 }
 
--- what is known behind a look that began so, of the path that it began with
-behind : {waiting : ℕ} (types others : List SuffixType) (begins ends : KnownFiles)
+-- a look that began so is of the types that it began with, and of this path and these names
+behind : {waiting : ℕ} (began : LookStart) (types : List SuffixType) (known : List Known)
     (path other : List ℕ) (last : Given) (names after : List (List ℕ)) (place : ℕ)
     (report : Report) (answers : List Answer) (wanted : List Wanted)
-    → TellsLook others ends.known.items other last after place report waiting
-    (heading path types begins.known.items ∷ answers)
-    ((front types begins.known.items ++ []) ++ wanted)
-    → KnowsFiles last ends (heading path types begins.known.items ∷ answers) → after ≡ names
-    → IsLook types begins.known.items ends.known.items path last names place report waiting answers
-    wanted × KnowsFiles last ends answers
-behind {waiting = waiting} types others begins ends path other last names after place report answers
-    wanted looks knows stays = (
-      subst (λ n. IsLook types begins.known.items ends.known.items path last n place report waiting
-          answers wanted) stays
-          (look_is types others begins.known.items ends.known.items path other last after place report
-          waiting answers wanted looks),
-      record { passed = knows.passed; read = knows.read; refused = knows.refused.1 },
-    )
+    → TellsLook began types known other last after place report waiting answers wanted
+    → other ≡ path → after ≡ names
+    → TellsLook began began.types known path last names place report waiting answers wanted
+behind {waiting = waiting} began types known path other last names after place report answers wanted
+    looks is_path stays =
+    subst (λ t. TellsLook began t known path last names place report waiting answers wanted)
+    looks.same_types
+    (subst (λ p. TellsLook began types known p last names place report waiting answers wanted) is_path
+    (subst (λ n. TellsLook began types known other last n place report waiting answers wanted) stays
+    looks))
 
 -- the carousel that a server has, with its bodies, has what it has without
 has_now : (view : RepositoryView) (s : Standing) → Agrees view s → (k : Known)
@@ -218,23 +214,26 @@ returns-in_err-look-clause-looked g c = λ since first gives listed s holds hone
     let looks = c.in_err-look.ensures.looked s holds honest in
     let fault = Some c.in_err-look.field-0.0 in
     let files = c.start.new.self in
-    let x = looks.1 since (front types files.known.items ++ [])
-    (heading path types files.known.items ∷ []) (
+    let began : LookStart =
+    record { types = types; known = files.known.items; folder = since } in
+    let x = looks.1 began [] [] (
       first,
       gives,
       (
-        look_begins types files.known.items path first names c.note_most.new.report listed.listing
+        look_begins began path first names c.note_most.new.report listed.listing
             listed.unread.read listed.unread.missed listed.unread.unchanged
             (c.note_most.ensures.further first.files
             (c.note_listed.ensures.further first.files listed.nameless)),
-        knows_begins first files path types listed.unread c.start.ensures.none.0,
+        knows_begins first files listed.unread c.start.ensures.none.0,
         λ kept. absurd (cc (kept)),
       ),
     ) in
     let given = x.0 in
-    let is = behind types source.types.now files source.files path (reader_path source.shelf) given
-    names source.names.names.items source.place source.report looks.0.runs.answers looks.0.wanted
-    x.2.0 x.2.1 c.in_err-look.ensures.same in
+    let is = behind began source.types.now source.files.known.items path (reader_path source.shelf)
+    given names source.names.names.items source.place source.report looks.0.runs.answers
+    looks.0.wanted x.2.0
+    (gives_path since nothing _ given x.1 ∙ sym (gives_path since nothing _ first gives))
+    c.in_err-look.ensures.same in
     let known = c.args.folder.now.files.known.items in
     let started_so = started known c.start.new.self _ old.view s holds.agrees
     (ap (λ (k : memory.Carousel). k.objects.items) (sym c.carousel-2.ensures.value))
@@ -245,13 +244,13 @@ returns-in_err-look-clause-looked g c = λ since first gives listed s holds hone
           s types allows path given source.report (fault_of r) known source.files.known.items)
           (sym (same_error c.from_residual.result c.in_err-look.field-0.0 c.from_residual.ensures.1))
           (of_names old new (state old.disk) (state new.disk) s types allows path given source.report names
-          fault known source.files.known.items listed.shown is.0.listing updates looks.0 seen
-          (λ none. absurd (cc (none))) (λ without none. cc (none)) is.0.tells
+          fault known source.files.known.items listed.shown is.listing updates looks.0 seen
+          (λ none. absurd (cc (none))) (λ without none. cc (none)) is.tells
           (all_on (passed_over known source.files.known.items s.carousel
           (subst (λ l. AllByRecursion (λ k. Among known k × (has_it s.carousel k ≡ true)) l)
-          (sym is.0.files) started_so)) given.unchanged is.1.passed)
+          (sym is.same_known) started_so)) given.unchanged x.2.1.passed)
           (all_on (λ k at. was_known at) source.files.known.items
-          (subst (λ l. AllByRecursion (Among known) l) (sym is.0.files)
+          (subst (λ l. AllByRecursion (Among known) l) (sym is.same_known)
           (all_on (λ k at. at.0) c.start.new.self.known.items started_so)))),
     )
 
@@ -269,23 +268,26 @@ returns-clause-looked g c = λ since first gives listed s holds honest.
     let source = c.look.new.source in
     let looks = c.in_ok-look.ensures.looked s holds honest in
     let files = c.start.new.self in
-    let x = looks.1 since (front types files.known.items ++ [])
-    (heading path types files.known.items ∷ []) (
+    let began : LookStart =
+    record { types = types; known = files.known.items; folder = since } in
+    let x = looks.1 began [] [] (
       first,
       gives,
       (
-        look_begins types files.known.items path first names c.note_most.new.report listed.listing
+        look_begins began path first names c.note_most.new.report listed.listing
             listed.unread.read listed.unread.missed listed.unread.unchanged
             (c.note_most.ensures.further first.files
             (c.note_listed.ensures.further first.files listed.nameless)),
-        knows_begins first files path types listed.unread c.start.ensures.none.0,
+        knows_begins first files listed.unread c.start.ensures.none.0,
         λ kept. absurd (cc (kept)),
       ),
     ) in
     let given = x.0 in
-    let is = behind types source.types.now files source.files path (reader_path source.shelf) given
-    names source.names.names.items source.place source.report looks.0.runs.answers looks.0.wanted
-    x.2.0 x.2.1 c.in_ok-look.ensures.same in
+    let is = behind began source.types.now source.files.known.items path (reader_path source.shelf)
+    given names source.names.names.items source.place source.report looks.0.runs.answers
+    looks.0.wanted x.2.0
+    (gives_path since nothing _ given x.1 ∙ sym (gives_path since nothing _ first gives))
+    c.in_ok-look.ensures.same in
     let seen : take source.place names ≡ names =
     take_all source.place names (subst (λ (n : List (List ℕ)). length n ≤ source.place)
     c.in_ok-look.ensures.same c.in_ok-look.ensures.ended) in
@@ -294,7 +296,7 @@ returns-clause-looked g c = λ since first gives listed s holds honest.
     let told : TellsOf types given report waiting names looks.0.runs.answers looks.0.wanted =
     c.end_listed.ensures.told types given waiting names looks.0.runs.answers looks.0.wanted
     (subst (λ l. TellsOf types given source.report waiting l looks.0.runs.answers looks.0.wanted) seen
-    is.0.tells) in
+    is.tells) in
     let known = c.args.folder.now.files.known.items in
     let last = looks.0.runs.run.leaves.last in
     let started_so = started known c.start.new.self _ old.view s holds.agrees
@@ -303,16 +305,16 @@ returns-clause-looked g c = λ since first gives listed s holds honest.
     let were : AllByRecursion (λ k. Among known k × (has_it s.carousel k ≡ true))
     source.files.known.items =
     subst (λ l. AllByRecursion (λ k. Among known k × (has_it s.carousel k ≡ true)) l)
-    (sym is.0.files) started_so in (
+    (sym is.same_known) started_so in (
       given,
       x.1,
       listed_whole old new (state old.disk) (state new.disk) s types allows path given report
-          names known c.finish.new.self.known.items listed.shown is.0.listing updates looks.0 told
-          (all_on (passed_over known source.files.known.items s.carousel were) given.unchanged is.1.passed)
+          names known c.finish.new.self.known.items listed.shown is.listing updates looks.0 told
+          (all_on (passed_over known source.files.known.items s.carousel were) given.unchanged x.2.1.passed)
           (all_on (comes_from known given source.files looks.0.runs.answers last.carousel
           new.view.carousel.objects.items
           (all_on (λ k at. at.0) source.files.known.items were)
-          (has_now new.view last looks.0.runs.run.leaves.agrees) is.1) c.finish.new.self.known.items
+          (has_now new.view last looks.0.runs.run.leaves.agrees) x.2.1) c.finish.new.self.known.items
           (subst (λ (k : memory.Carousel). AllByRecursion (IsKept source.files k.objects.items)
           c.finish.new.self.known.items) c.carousel-3.ensures.value c.finish.ensures))
           c.end_listed.result c.end_listed.ensures.fault

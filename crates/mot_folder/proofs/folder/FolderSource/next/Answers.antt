@@ -51,7 +51,7 @@ returns-in-Ok-clause-told g c = λ since gave told first.
     let took = c.in-Ok.ensures.took given in
     let after = took.0 in
     let takes = took.2.0 in
-    let Look = TellsLook types known (reader_path mid.shelf) given names mid.place mid.report
+    let Look = TellsLook since types known (reader_path mid.shelf) given names mid.place mid.report
     mid.sizes.waiting in
     unplain (OfferedSince since now types files names (mid.place + 1) mid.report mid.sizes.waiting
     false w) told gave (
@@ -59,14 +59,14 @@ returns-in-Ok-clause-told g c = λ since gave told first.
       gives_on _ _ nothing given _ after
           (gives_on _ _ nothing given _ given was.1 (c.if-is_unchanged.ensures.gave given)) took.1,
       (
-        subst (λ p. TellsOffered types files.known.items p after names (mid.place + 1) mid.report
+        subst (λ p. TellsOffered since types files.known.items p after names (mid.place + 1) mid.report
             mid.sizes.waiting w told gave)
             (sym (c.in-Ok.ensures.same ∙ c.if-is_unchanged.ensures.same))
-            (subst (λ v. TellsOffered types v.items (reader_path mid.shelf) after names
+            (subst (λ v. TellsOffered since types v.items (reader_path mid.shelf) after names
             (mid.place + 1) mid.report mid.sizes.waiting w told gave) (sym c.add.ensures.known)
-            (plain (TellsOffered types known (reader_path mid.shelf) after names (mid.place + 1)
+            (plain (TellsOffered since types known (reader_path mid.shelf) after names (mid.place + 1)
             mid.report mid.sizes.waiting w) told gave
-            (then_offered types known (reader_path mid.shelf) names Look given after mid.place
+            (then_offered since types known (reader_path mid.shelf) names Look given after mid.place
             mid.report mid.sizes.waiting name w (both_same Look) within at takes gave told
             was.2.0))),
         knows_read given after mid.files files told name takes.bytes takes.stamp takes.read
@@ -135,16 +135,16 @@ loop-self-preserved-then-is_unchanged g c =
           let given = was.0 in
           let passed = c.if-is_unchanged.ensures.gave given in
           let after = and_unchanged given name passed.0 in
-          let Look = TellsLook types known (reader_path mid.shelf) given names mid.place mid.report
+          let Look = TellsLook since types known (reader_path mid.shelf) given names mid.place mid.report
           mid.sizes.waiting in (
             after,
             gives_on _ _ nothing given _ after was.1 passed.2,
             (
-              subst (λ p. TellsLook types known p after names (mid.place + 1) mid.report
+              subst (λ p. TellsLook since types known p after names (mid.place + 1) mid.report
                   mid.sizes.waiting told gave) (sym c.if-is_unchanged.ensures.same)
-                  (plain (TellsLook types known (reader_path mid.shelf) after names (mid.place + 1)
+                  (plain (TellsLook since types known (reader_path mid.shelf) after names (mid.place + 1)
                   mid.report mid.sizes.waiting) told gave
-                  (then_passed types known (reader_path mid.shelf) names Look given after mid.place
+                  (then_passed since types known (reader_path mid.shelf) names Look given after mid.place
                   mid.report mid.sizes.waiting name passed.0 (both_same Look) within at refl gave
                   told was.2.0)),
               knows_passed given after mid.files told name passed.0 refl passed.1 was.2.1,
@@ -179,19 +179,19 @@ loop-self-preserved g c =
           let given = was.0 in
           let took = c.in-Err.ensures.took given in
           let after = took.0 in
-          let Look = TellsLook types known (reader_path mid.shelf) given names mid.place mid.report
+          let Look = TellsLook since types known (reader_path mid.shelf) given names mid.place mid.report
           mid.sizes.waiting in (
             after,
             gives_on _ _ nothing given _ after
                 (gives_on _ _ nothing given _ given was.1 (c.if-is_unchanged.ensures.gave given))
                 took.1,
             (
-              subst (λ p. TellsLook types known p after names (mid.place + 1) report
+              subst (λ p. TellsLook since types known p after names (mid.place + 1) report
                   mid.sizes.waiting told gave)
                   (sym (c.in-Err.ensures.same ∙ c.if-is_unchanged.ensures.same))
-                  (plain (TellsLook types known (reader_path mid.shelf) after names (mid.place + 1)
+                  (plain (TellsLook since types known (reader_path mid.shelf) after names (mid.place + 1)
                   report mid.sizes.waiting) told gave
-                  (then_missed types known (reader_path mid.shelf) names Look given after mid.place
+                  (then_missed since types known (reader_path mid.shelf) names Look given after mid.place
                   mid.report report mid.sizes.waiting name (both_same Look) within at took.2
                   c.tell_untaken.ensures.memory c.tell_untaken.ensures.any
                   c.tell_untaken.ensures.stays told_so gave told was.2.0)),

@@ -31,10 +31,10 @@ returns-clause-told g c = λ since gave told was.
       given,
       was.1,
       (
-        subst (λ v. TellsLook types v.items path given names self.place report
+        subst (λ v. TellsLook since types v.items path given names self.place report
             c.and_settled-waiting.result (told ++ answers) (gave ++ []))
             (sym c.settle.ensures.known)
-            (look_on types known path names given given self.place self.place self.report
+            (look_on since types known path names given given self.place self.place self.report
             report self.sizes.waiting c.and_settled-waiting.result answers [] (λ is. is)
             (subst (λ n. TellsBoth (TellsOf types given self.report self.sizes.waiting seen)
             (TellsOf types given report n seen) answers []) (sym c.and_settled-waiting.ensures)

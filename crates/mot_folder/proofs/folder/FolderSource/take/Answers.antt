@@ -17,7 +17,7 @@ returns-then-not-is_new-clause-told g c = λ since given told was.
       was.0,
       was.1,
       (
-        then_taken self.types.now self.files.known.items (reader_path self.shelf)
+        then_taken since self.types.now self.files.known.items (reader_path self.shelf)
             self.names.names.items was.0 self.place self.report c.note_image.new.report
             self.sizes.waiting wanted c.note_image.ensures.notes given told was.2.0,
         knows_plain was.0 self.files told was.2.1,
@@ -41,9 +41,9 @@ returns-in-Ok-clause-told g c = λ since given told was.
       new,
       more _ was.0 was.1 (c.in-Ok.ensures.asks was.0),
       (
-        subst (λ p. TellsLook types known p new names self.place report self.sizes.waiting
+        subst (λ p. TellsLook since types known p new names self.place report self.sizes.waiting
             (told ++ []) (given ++ wanted ∷ [])) (sym c.in-Ok.ensures.same)
-            (then_kept types known (reader_path self.shelf) names was.0 new self.place self.report
+            (then_kept since types known (reader_path self.shelf) names was.0 new self.place self.report
             report self.sizes.waiting wanted name refl c.note_image-in-Ok.ensures.notes given told
             was.2.0),
         knows_plain new self.files told
@@ -67,9 +67,9 @@ returns-in-Err-clause-told g c = λ since given told was.
       new,
       more _ was.0 was.1 (c.in-Err.ensures.asks was.0),
       (
-        subst (λ p. TellsLook types known p new names self.place report self.sizes.waiting
+        subst (λ p. TellsLook since types known p new names self.place report self.sizes.waiting
             (told ++ []) (given ++ [])) (sym c.in-Err.ensures.same)
-            (then_left types known (reader_path self.shelf) names was.0 new self.place self.report
+            (then_left since types known (reader_path self.shelf) names was.0 new self.place self.report
             report self.sizes.waiting wanted (ap (and_missed was.0) is)
             c.tell_untaken.ensures.any c.tell_untaken.ensures.stays
             (subst (λ n. TellsFile self.report report n) is c.tell_untaken.ensures.told) given told

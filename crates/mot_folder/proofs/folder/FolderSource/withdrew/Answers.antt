@@ -17,7 +17,7 @@ returns-clause-told g c = λ since gave told was.
       given,
       was.1,
       (
-        look_on types self.files.known.items (reader_path self.shelf) names given given self.place
+        look_on since types self.files.known.items (reader_path self.shelf) names given given self.place
             self.place self.report c.answered.new.self self.sizes.waiting self.sizes.waiting _ []
             (λ is. is)
             (of_answer types given self.report c.answered.new.self self.sizes.waiting
