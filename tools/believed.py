@@ -55,7 +55,7 @@ PROMISES = [
         ("mot_feed", "feed", ""), ("mot_feed", "feed_often", ""), ("mot_feed", "feed_every", ""), ("mot_folder", "look_at_folder", ""), ("mot_suffixes", "FileTypes::new", ""),
         ("mot_suffixes", "FileTypes::add", ""), ("mot_suffixes", "FileTypes::of_name", ""), ("mot_endpoints", "file_types", ""),
         ("mot_feed_lines", "answer_there", ""), ("mot_feed_lines", "Lines::new", ""), ("mot_feed_lines", "Lines::update", ""),
-        ("mot_air", "play", ""), ("mot_sync_command", "sync", ""), ("mot_sync_command", "try_sync", ""), ("mot_commands", "export_file", ""),
+        ("mot_air", "play", ""), ("mot_sync_command", "sync", ""), ("mot_commands", "export_file", ""),
         ("mot_commands", "inspect_file", ""), ("mot_air", "play_disk", ""),
         ("mot_air", "play_and_answer", ""), ("mot_sync_command", "sync_disk", ""), ("mot_export", "export_disk", ""), ("mot_export", "inspect_disk", ""),
     ]),

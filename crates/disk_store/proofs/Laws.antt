@@ -17,8 +17,8 @@ use Rattle.disk_store.specs.declared.call_count.CallCount.{CallCount}
 use Rattle.disk_store.specs.declared.file.SecondDisk.{SecondDisk}
 use Rattle.disk_store.specs.declared.file.system.HeldFile.{HeldFile}
 
-module _ {S : Type 0} {start : Ghosts S} where
-  module _ (is_new : Bool) (first disk : FileDiskFrom S start) (was : IsFirst is_new first)
+module _ {S F : Type 0} {start : Ghosts S F} where
+  module _ (is_new : Bool) (first disk : FileDiskFrom S F start) (was : IsFirst is_new first)
       (begins : BeginWith (first_calls is_new (file_state disk).len) (calls_on disk))
       (keeps : KeepsLength (file_state first) (file_state disk)) where
     -- the file's disk after these calls, by its counts
@@ -41,7 +41,7 @@ module _ {S : Type 0} {start : Ghosts S} where
           (was.first_bytes there (sym keeps.len ∙ len));
     }
 
-  module _ (first disk : FileDiskFrom S start) (P : State → State → Type 0) where
+  module _ (first disk : FileDiskFrom S F start) (P : State → State → Type 0) where
     -- what holds since a file was opened is told of the disk that is handed out
     pub since_opened : IsFirst false first
         → BeginWith (first_calls false (file_state disk).len) (calls_on disk)
@@ -86,7 +86,7 @@ one_or_failed Never (Err e) old new call failed noted none = elim none [
 ]
 
 -- whatever is called on it, its first calls stay
-pub begins_after : {S : Type 0} {start : Ghosts S} (is_new : Bool) (old new : FileDiskFrom S start)
+pub begins_after : {S F : Type 0} {start : Ghosts S F} (is_new : Bool) (old new : FileDiskFrom S F start)
     → BeginWith (first_calls is_new (file_state old).len) (calls_on old)
     → (file_state new).len ≡ (file_state old).len
     → (more : List Call) × (calls_on new ≡ calls_on old ++ more)
@@ -97,11 +97,11 @@ begins_after is_new old new begins len goes =
     (BeginWith-more (first_calls is_new (file_state old).len) (calls_on old) goes.0 begins))
 
 -- what holds of a file's disk is told of the second disk that it ends as
-module _ {S : Type 0} {start : Ghosts S} {T : Type 0} {other : Ghosts T} (disk : FileDiskFrom T other)
-    (second : SecondDisk S start) (bytes : other.bytes ≡ start.others)
+module _ {S F : Type 0} {start : Ghosts S F} {T : Type 0} {other : Ghosts T F} (disk : FileDiskFrom T F other)
+    (second : SecondDisk S F start) (bytes : other.bytes ≡ start.others)
     (file : second.file ≡ disk.file) (failures : second.failures ≡ disk.failures)
     (count : second.calls ≡ disk.calls) where
-  abbrev state_with : List ℕ → HeldFile → ℕ → CallCount → State
+  abbrev state_with : List ℕ → HeldFile F → ℕ → CallCount → State
   state_with bytes file failures count =
       replayed_state (after_call bytes) no_content file.history.calls
       (content_after bytes file.history.calls) (AreRight bytes file.history.calls no_content)
@@ -117,5 +117,5 @@ module _ {S : Type 0} {start : Ghosts S} {T : Type 0} {other : Ghosts T} (disk :
       (state_with other.bytes second.file second.failures c)) (sym count)
       (subst (λ (n : ℕ). P other.bytes (second_calls second)
       (state_with other.bytes second.file n disk.calls)) (sym failures)
-      (subst (λ (f : HeldFile). P other.bytes f.history.calls
+      (subst (λ (f : HeldFile F). P other.bytes f.history.calls
       (state_with other.bytes f disk.failures disk.calls)) (sym file) p)))

@@ -47,22 +47,22 @@ pub record IsSinceMade (bytes : List ℕ) (len : ℕ) (P : State → State → T
   pub since : P (state_after bytes (first_calls true now.len)) now
 
 -- a file that held these bytes as it was opened
-module _ {S : Type 0} {start : Ghosts S} where
+module _ {S F : Type 0} {start : Ghosts S F} where
   -- what its disk was as it was made, or opened
-  abbrev pub first_state : Bool → FileDiskFrom S start → State
+  abbrev pub first_state : Bool → FileDiskFrom S F start → State
   first_state is_new disk = state_after start.bytes (first_calls is_new (file_state disk).len)
 
-  abbrev pub HasFirstCalls : Bool → FileDiskFrom S start → Type 0
+  abbrev pub HasFirstCalls : Bool → FileDiskFrom S F start → Type 0
   HasFirstCalls is_new disk = HasBegun start.bytes is_new (calls_on disk) (file_state disk)
 
-  abbrev pub SinceOpened : (State → State → Type 0) → FileDiskFrom S start → Type 0
+  abbrev pub SinceOpened : (State → State → Type 0) → FileDiskFrom S F start → Type 0
   SinceOpened P disk = IsSinceOpened start.bytes P (calls_on disk) (file_state disk)
 
-  abbrev pub SinceMade : ℕ → (State → State → Type 0) → FileDiskFrom S start → Type 0
+  abbrev pub SinceMade : ℕ → (State → State → Type 0) → FileDiskFrom S F start → Type 0
   SinceMade len P disk = IsSinceMade start.bytes len P (calls_on disk) (file_state disk)
 
   -- nothing was called on it but its making or opening
-  pub record IsFirst (is_new : Bool) (disk : FileDiskFrom S start) : Type 0 where
+  pub record IsFirst (is_new : Bool) (disk : FileDiskFrom S F start) : Type 0 where
     pub order : calls_on disk ≡ first_calls is_new (file_state disk).len
     pub new : IsNew (file_state disk).bytes (file_state disk)
     pub first_bytes : is_new ≡ false → (file_state disk).len ≡ length start.bytes

@@ -6,6 +6,6 @@ use Rattle.disk_store.specs.declared.file.begun.Beginning as beginning
 use Rattle.disk_store.specs.declared.file.begun.BegunFile.{BegunFile}
 
 -- all that contracts know of it as a disk
-abbrev pub begun_state : {S K : Type 0} {s : start.Ghosts S} {k : beginning.Ghosts K}
-    → BegunFile S K s k → State
+abbrev pub begun_state : {S K F : Type 0} {s : start.Ghosts S F} {k : beginning.Ghosts K}
+    → BegunFile S K F s k → State
 begun_state file = file_state file.disk

@@ -9,7 +9,7 @@ use Rattle.disk_store.specs.File.{calls_on, file_content, file_state}
 use Rattle.disk_store.specs.declared.file.start.Start.{Ghosts}
 use Rattle.disk_store.specs.declared.file.FileDiskFrom.{FileDiskFrom}
 
-module _ {S : Type 0} {start : Ghosts S} (disk : FileDiskFrom S start) where
+module _ {S F : Type 0} {start : Ghosts S F} (disk : FileDiskFrom S F start) where
   now_is : (k : ℕ) → length (calls_on disk) ≤ k
       → content_after start.bytes (take k (calls_on disk)) ≡ file_content disk
   now_is k le = ap (content_after start.bytes) (take_all k (calls_on disk) le)

@@ -6,6 +6,8 @@ ghost use Rattle.disk_store.specs.Calls.{content_after};
 mod begun;
 mod calls;
 mod fault;
+mod files;
+mod host;
 mod opening;
 mod second;
 mod start;
@@ -14,6 +16,8 @@ mod system;
 use crate::call_count::CallCount;
 pub use begun::{Beginning, BegunFile, WasMade, WasThere, make_file, open_file};
 pub use fault::OpenFault;
+pub use files::{DiskFile, DiskFiles, Facts};
+pub use host::HostFiles;
 pub use opening::Unopened;
 pub use start::{Second, Start, Unknown, with_second};
 use std::marker::PhantomData;
@@ -28,7 +32,7 @@ pub use system::SideFile;
 /// `S` stands for the latter, and the opening reads none of it. A file that was made held zeros.
 #[derive(Drop)]
 pub struct FileDiskFrom<S: Start> {
-    file: HeldFile,
+    file: HeldFile<S::File>,
     len: u64,
     failures: u64,
     can_sync: bool,
@@ -47,7 +51,7 @@ pub type FileDisk = FileDiskFrom<Unknown>;
 /// A file's disk that takes no more calls.
 #[derive(Drop)]
 pub struct SecondDisk<S: Start> {
-    file: HeldFile,
+    file: HeldFile<S::File>,
     failures: u64,
     calls: CallCount,
     len: u64,

@@ -1,8 +1,7 @@
 -- What the commands on air do.
 use Rattle.std.specs.Prelude.{ℕ, ◌≡◌, ◌≢◌, ◌⊎◌, ◌++◌, ◌-◌, Bool, true, false, not, List, [], ◌∷◌}
-use Rattle.std.specs.Prelude.{Option, Some, None, Ok, Err, codes, option_map, unwrap_or}
+use Rattle.std.specs.Prelude.{Option, Some, None, Ok, Err, option_map, unwrap_or}
 use Rattle.std.specs.Io.KnownBytes.{Keeps}
-use Rattle.clap.specs.Words.{Text}
 use Rattle.disk_model.specs.Disk.{State}
 use Rattle.disk_store.specs.Beginning.{SinceOpened}
 use Rattle.disk_store.specs.declared.file.start.Start.{Ghosts}
@@ -13,7 +12,7 @@ use Rattle.mot_air.specs.Telling.{EndsReading, lines_at, tale_with, watch_in, wa
 use Rattle.mot_destinations.specs.declared.packets.Target.{Target}
 use Rattle.mot_destinations.specs.declared.packets.Target.TheVariants.{File, Output}
 use Rattle.mot_endpoints.specs.Lines.{IsUnlined}
-use Rattle.mot_endpoints.specs.Opened.{named}
+use Rattle.mot_endpoints.specs.Opened.{Need, if_given}
 use Rattle.std.specs.Borrow.{Bor}
 use Rattle.mot_destinations.specs.Packets.{IsReason, IsTakenAway, IsTarget, OpensInto, TakesItsPlace}
 use Rattle.mot_destinations.specs.Packets.{target_in, writes_to}
@@ -68,14 +67,13 @@ watch_asked table p frame = watched p.folder
 abbrev pub folder_asked : PlayTask → FolderView
 folder_asked p = objects_at p.folder p.rules.at_once
 
+-- which other files the task names
+abbrev pub others_of : PlayTask → Others
+others_of p = record { objects = p.folder; disk = p.disk; packets = p.packets; types = p.types }
+
 -- the folder of lines that is asked for, by these calls no other file of the command stands in it
 abbrev pub LinesAsked : PlayTask → SpoolView → Type 0
-LinesAsked p lines = LinesOf p.lines (record {
-  objects = p.folder;
-  disk = p.disk;
-  packets = p.packets;
-  types = p.types;
-}) lines
+LinesAsked p lines = LinesOf p.lines (others_of p) lines
 
 -- what is told of playing it: no line has begun, and lines are read at every eighth packet, where
 -- no other number is asked for
@@ -149,12 +147,12 @@ abbrev pub Hands : Beside → (FolderView → SpoolView → Type 0) → Type 0
 Hands beside IsSo = (folder : FolderView) × (folder.calls ≡ beside.folder.all)
     × ((lines : SpoolView) × IsSo folder lines)
 
-module _ {S : Type 0} {start : Ghosts S} where
+module _ {S F : Type 0} {start : Ghosts S F} where
   -- The disk of a file was played into what takes packets, up to this ending; where it came to its
   -- end, true if all is done. What was given and sent the calls tell that are handed out. Beside
   -- packets on standard output nothing is printed to it.
   abbrev pub PlaysTo : PlayTask → (ℕ → Bool → FolderView → SpoolView → Tale) → (all : Bool)
-      → Option Refusal → (old new : Option (List ℕ)) → UsedDisk S start → Type 0
+      → Option Refusal → (old new : Option (List ℕ)) → UsedDisk S F start → Type 0
   PlaysTo p tale all ending old new used =
       (target : Target) × IsTarget p.packets.now target × (target ≡ Output → Keeps old new)
       × ((refused : Bool) × (ending ≡ None → all ≡ is_all_done target refused)
@@ -168,20 +166,21 @@ module _ {S : Type 0} {start : Ghosts S} where
 
   -- A disk was played, and ended so: by this refusal, or by none. Then all is done that is asked, or,
   -- with false, all but what files ask that were refused.
-  abbrev pub PlaysTask : PlayTask → (all : Bool) → Option Refusal → UsedDisk S start
+  abbrev pub PlaysTask : PlayTask → (all : Bool) → Option Refusal → UsedDisk S F start
       → (old new : Option (List ℕ)) → Type 0
   PlaysTask p all ending used old new = (table : List SuffixType) × IsTyped p.types table
       × ((lines : SpoolView) × LinesAsked p lines
       × PlaysTo p (tale_asked table p lines) all ending old new used)
 
--- In these a list of what a host came to has of each as what, and by which path.
+-- what takes the packets is opened last before the disk
+abbrev pub packets_of : PlayTask → List Need
+packets_of p = Need.packets p.packets.now p.disk.now p.turns ∷ []
 
--- what comes before the disk that is played, in order
-abbrev pub played_with : PlayTask → List (Text × Text)
-played_with p =
-    named (codes "types") p.types ++ (named (codes "lines") p.lines
-    ++ (named (codes "folder") p.folder ++ (named (codes "status") p.status
-    ++ (codes "packets", p.packets.now) ∷ [])))
+-- what it needs before the disk that is played, in order
+abbrev pub needs_of : PlayTask → List Need
+needs_of p =
+    if_given Need.types p.types ++ (if_given (λ path. Need.lines path (others_of p)) p.lines
+    ++ (if_given Need.folder p.folder ++ (if_given Need.status p.status ++ packets_of p)))
 
 -- why nothing is played: there is no table of suffixes, or no folder of lines, or the disk, or what
 -- is to take the packets, can't be opened

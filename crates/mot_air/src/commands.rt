@@ -1,12 +1,11 @@
 //! The commands on air, over any streams.
-ghost use Rattle.std.specs.Prelude.{◌≡◌, ◌++◌, codes, option_map};
+ghost use Rattle.std.specs.Prelude.{◌≡◌, option_map};
 ghost use Rattle.mot_air.specs.Commands.{IsUnplayed};
 ghost use Rattle.mot_outcome.specs.Outcome.{Concludes};
-ghost use Rattle.mot_air.specs.Commands.{PlaysTask, objects_at, played_with};
+ghost use Rattle.mot_air.specs.Commands.{PlaysTask, needs_of, objects_at};
 ghost use Rattle.mot_air.specs.declared.manner.Manner.{Manner};
 ghost use Rattle.mot_air.specs.Telling.{folder_in, watch_in, watched};
-ghost use Rattle.mot_files.specs.Host.{calls_of};
-ghost use Rattle.mot_endpoints.specs.Opened.{named, paths_of};
+ghost use Rattle.mot_endpoints.specs.Opened.{AreMet, Need, if_given};
 ghost use Rattle.mot_outcome.specs.Outcome.{Opens};
 ghost use Rattle.mot_shelf.specs.Reader.{reader_path};
 ghost use Rattle.mot_playout.specs.Attempts.{fault_of};
@@ -17,8 +16,7 @@ use disk_model::Disk;
 use disk_store::Start;
 use mot_cli::{LookRules, PlayTask};
 use mot_destinations::StatusFile;
-use mot_endpoints::{Host, Others, file_types, line_folder};
-use mot_files::HostSystem;
+use mot_endpoints::{Host, Machine, Others, file_types, line_folder};
 use mot_folder::FileTypes;
 use mot_outcome::Finished;
 use std::alloc::Global;
@@ -26,8 +24,8 @@ use std::io::Write;
 
 /// Plays a disk, with looks at the folder of objects and answers to the lines of the other, if they
 /// are given, for files of the known suffixes and of those that a file adds.
-pub fn play<'a, B: Start, W: Write, E: Write>(
-    host: &mut Host<'a>,
+pub fn play<'a, B: Start, W: Write, E: Write, M: Machine<File = B::File> + Drop>(
+    host: &mut Host<M>,
     alloc: Global,
     task: PlayTask<'a>,
     start: B,
@@ -37,8 +35,8 @@ pub fn play<'a, B: Start, W: Write, E: Write>(
     ensures ended { Concludes (IsUnplayed task.entry) (λ all ending. PlaysTask task.entry all ending
         result.disk (W.contents writer.old) (W.contents writer.new))
         result.result result.disk (W.contents writer.old) (W.contents writer.new) }
-    ensures opens { Opens (played_with task.entry) task.entry.disk.now
-        (fault_of result.result) result.disk (paths_of host.old) (paths_of host.new) }
+    ensures opens { Opens (needs_of task.entry) task.entry.disk.now
+        (fault_of result.result) result.disk (M.System.calls host.old.system) (M.System.calls host.new.system) }
 {
     let PlayTask { disk, packets, .. } = task;
     let types = match file_types(host, alloc, task.types) {
@@ -67,17 +65,18 @@ pub fn play<'a, B: Start, W: Write, E: Write>(
 }
 
 /// The folder, if one is given, with what is known of suffixes.
-fn followed<'a: 't, 't>(
-    host: &mut Host<'a>,
+fn followed<'a: 't, 't, M: Machine + Drop>(
+    host: &mut Host<M>,
     folder: Option<&'a str>,
     types: &'t FileTypes,
     rules: LookRules,
-) -> Option<Followed<'t, HostSystem<'a, HostRuntime>>>
+) -> Option<Followed<'t, M::System>>
     ensures given { (how : Manner) → watched result (λ followed. watch_in how
         (reader_path followed.shelf) followed.types.now followed.allows_empty)
         ≡ watched folder.entry (λ path. watch_in how path.now types.now rules.allow_empty) }
-    ensures folder { folder_in calls_of result ≡ objects_at folder.entry rules.at_once }
-    ensures opens { paths_of host.new ≡ paths_of host.old ++ named (codes "folder") folder.entry }
+    ensures folder { folder_in M.System.calls result ≡ objects_at folder.entry rules.at_once }
+    ensures opens { AreMet (if_given Need.folder folder.entry) (M.System.calls host.old.system)
+        (M.System.calls host.new.system) }
 {
     match folder {
         Some(path) => Some(Followed {
@@ -90,15 +89,15 @@ fn followed<'a: 't, 't>(
 }
 
 /// The file that the status is written to, if one is given.
-fn status_file<'a>(
-    host: &mut Host<'a>,
+fn status_file<'a, M: Machine + Drop>(
+    host: &mut Host<M>,
     path: Option<&'a str>,
     disk: &'a str,
-) -> Option<StatusFile<'a, HostSystem<'a, HostRuntime>>>
+) -> Option<StatusFile<'a, M::System>>
     ensures path { option_map (λ status. status.path.now) result
         ≡ option_map (λ path. path.now) path.entry }
-    ensures opens { paths_of host.new
-        ≡ paths_of host.old ++ named (codes "status") path.entry }
+    ensures opens { AreMet (if_given Need.status path.entry) (M.System.calls host.old.system)
+        (M.System.calls host.new.system) }
 {
     match path {
         Some(path) => Some(host.status(path, disk)),

@@ -1,5 +1,5 @@
 //! Playing the disk of a file into what a path names.
-ghost use Rattle.std.specs.Prelude.{◌≡◌, ◌⊎◌, ◌-◌, ℕ, [], ◌∷◌, false, true, Some, None, Err, Ok, codes};
+ghost use Rattle.std.specs.Prelude.{◌≡◌, ◌⊎◌, ◌-◌, ℕ, [], ◌∷◌, false, true, Some, None, Err, Ok};
 ghost use Rattle.std.specs.Prelude.{◌++◌, IfErr, IfOk, List, MatchResult, Option, option_map, unwrap_or};
 ghost use Rattle.std.specs.Io.KnownBytes.{Keeps};
 ghost use Rattle.clap.specs.Words.{Text};
@@ -9,16 +9,15 @@ ghost use Rattle.mot_air.specs.Directory.{IsFrame, directory_of, early_of, look_
 ghost use Rattle.mot_air.specs.Inner.Unbegun.{IsUnbegun};
 ghost use Rattle.mot_air.specs.Playing.{Plays};
 ghost use Rattle.mot_air.specs.Commands.{EndsSending, Hands, PlaysAsked, PlaysTo, Sends, is_all_done};
-ghost use Rattle.mot_air.specs.Commands.{played_as};
+ghost use Rattle.mot_air.specs.Commands.{packets_of, played_as};
 ghost use Rattle.mot_outcome.specs.Outcome.{Concludes, Opens};
 ghost use Rattle.mot_air.specs.Telling.{BesideView, EndsAs, EndsReading, HandsOut, folder_in};
 ghost use Rattle.mot_air.specs.Telling.{tale_told, tale_with, watch_in, watched};
-ghost use Rattle.mot_endpoints.specs.Opened.{paths_of};
+ghost use Rattle.mot_endpoints.specs.Opened.{AreMet, Need};
 ghost use Rattle.mot_destinations.specs.Packets.{IsReason, IsTarget, OpensInto, destination_of};
 ghost use Rattle.mot_destinations.specs.Packets.{target_of, writer_handle, writer_system};
 ghost use Rattle.mot_destinations.specs.declared.fault.PacketsFault.{PacketsFault};
-ghost use Rattle.mot_files.specs.Call.{Call};
-ghost use Rattle.mot_files.specs.Host.{calls_of};
+ghost use Rattle.mot_files.specs.Call.{Call, opened_disk};
 ghost use Rattle.mot_numbers.specs.declared.refusal.Refusal.TheVariants.{DeviceFault, WriteFault};
 ghost use Rattle.mot_playout.specs.Attempts.{fault_of};
 ghost use Rattle.mot_shelf.specs.Reader.{reader_path};
@@ -33,9 +32,9 @@ use disk_model::Disk;
 use disk_store::{BegunFile, Start, WasThere};
 use mot_cli::PlayTask;
 use mot_destinations::{Cause, OpenPackets, StatusFile, Target};
-use mot_endpoints::Host;
+use mot_endpoints::{Host, Machine};
 use mot_events::LookEvent;
-use mot_files::{CallLog, HostSystem, System};
+use mot_files::{CallLog, System};
 use mot_line_folder::LineFolder;
 use mot_numbers::Refusal;
 use mot_outcome::{Beside, Finished, clear_after};
@@ -71,8 +70,15 @@ pub(crate) struct Airing<'a, 't, F: System + Drop, Y: System + Drop> {
 
 /// Plays the disk of the file that the words name into what they name for packets. The log goes to
 /// `writer`, and to `errors` if the packets go to `writer`.
-pub(crate) fn play_file<'a, B: Start, Y: System + Drop, W: Write, E: Write>(
-    host: &mut Host<'a>,
+pub(crate) fn play_file<
+    'a,
+    B: Start,
+    Y: System + Drop,
+    W: Write,
+    E: Write,
+    M: Machine<File = B::File> + Drop,
+>(
+    host: &mut Host<M>,
     alloc: Global,
     airing: Airing<'a, '_, Y, Y>,
     start: B,
@@ -89,9 +95,9 @@ pub(crate) fn play_file<'a, B: Start, Y: System + Drop, W: Write, E: Write>(
         (lines_in Y.calls airing.entry.lines) then_lines)
         all ending (W.contents writer.old) (W.contents writer.new) result.disk)
         result.result result.disk (W.contents writer.old) (W.contents writer.new) }
-    ensures opens { Opens ((codes "packets", airing.entry.task.packets.now) ∷ [])
+    ensures opens { Opens (packets_of airing.entry.task)
         airing.entry.task.disk.now (fault_of result.result) result.disk
-        (paths_of host.old) (paths_of host.new) }
+        (M.System.calls host.old.system) (M.System.calls host.new.system) }
 {
     match open_both(host, airing.task, start) {
         Ok((opened, disk)) => {
@@ -105,29 +111,23 @@ pub(crate) fn play_file<'a, B: Start, Y: System + Drop, W: Write, E: Write>(
 
 /// Opens what the words name for packets, and then the disk. If that is not opened, a new file is
 /// taken away again.
-fn open_both<'a, B: Start>(
-    host: &mut Host<'a>,
+fn open_both<'a, B: Start, M: Machine<File = B::File> + Drop>(
+    host: &mut Host<M>,
     task: PlayTask<'a>,
     start: B,
-) -> Result<
-    (
-        OpenPackets<'a, HostSystem<'a, HostRuntime>>,
-        BegunFile<B, WasThere>,
-    ),
-    Finished<B, bool>,
->
+) -> Result<(OpenPackets<'a, M::System>, BegunFile<B, WasThere>), Finished<B, bool>>
     ensures target { IfOk result (λ both. IsTarget task.entry.packets.now (target_of both.0)) }
     ensures opened { IfOk result (λ both. OpensInto task.entry.packets.now task.entry.disk.now
-        (writer_handle both.0.writer) [] (calls_of (writer_system both.0.writer))
+        (writer_handle both.0.writer) [] (M.System.calls (writer_system both.0.writer))
         (destination_of both.0)) }
     ensures first { IfOk result (λ both. IsFirst false both.1.disk) }
     ensures refused { IfErr result (λ unbegun. IsUnbegun
         (λ r. (r ≡ DeviceFault) ⊎ (r ≡ WriteFault)) unbegun.result unbegun.disk) }
     ensures opens { MatchResult result
-        (λ _. paths_of host.new ≡ paths_of host.old
-        ++ (codes "packets", task.entry.packets.now) ∷ (codes "disk", task.entry.disk.now) ∷ [])
-        (λ unbegun. Opens ((codes "packets", task.entry.packets.now) ∷ []) task.entry.disk.now
-        (fault_of unbegun.result) unbegun.disk (paths_of host.old) (paths_of host.new)) }
+        (λ _. (then : List Call) × AreMet (packets_of task.entry) (M.System.calls host.old.system) then
+        × (M.System.calls host.new.system ≡ then ++ opened_disk task.entry.disk.now true ∷ []))
+        (λ unbegun. Opens (packets_of task.entry) task.entry.disk.now (fault_of unbegun.result)
+        unbegun.disk (M.System.calls host.old.system) (M.System.calls host.new.system)) }
 {
     let mut opened = match host.packets(task.packets, task.disk, task.turns) {
         Ok(opened) => opened,
@@ -166,9 +166,9 @@ fn play_both<B: Start, P: System + Drop, F: System + Drop, Y: System + Drop, W: 
         (lines_in Y.calls airing.entry.lines) then_lines)
         all ending (W.contents writer.old) (W.contents writer.new) result.disk)
         result.result result.disk (W.contents writer.old) (W.contents writer.new) }
-    ensures opens { (path : Text) (others before after : List (Text × Text))
-        → after ≡ before ++ (others ++ (codes "disk", path) ∷ [])
-        → Opens others path (fault_of result.result) result.disk before after }
+    ensures opens { (path : Text) (needs : List Need) (old then new : List Call)
+        → AreMet needs old then → new ≡ then ++ opened_disk path true ∷ []
+        → Opens needs path (fault_of result.result) result.disk old new }
 {
     let target = opened.target();
     let end = play_into(alloc, disk, opened, airing, writer, errors);

@@ -12,7 +12,7 @@ use Rattle.mot_cli.specs.declared.options.Options.{Options}
 use Rattle.mot_cli.specs.declared.playing.PlayTask.{PlayTask}
 use Rattle.mot_cli.specs.declared.task.Task.{Task}
 use Rattle.mot_cli.specs.declared.task.Task.TheVariants.{Memory, Format, Copy, Serve, Check, Migrate}
-use Rattle.mot_cli.specs.declared.task.Task.TheVariants.{Play, Sync, Export, Inspect, TrySync}
+use Rattle.mot_cli.specs.declared.task.Task.TheVariants.{Play, Sync, Export, Inspect}
 use Rattle.mot_cli.specs.declared.task.Task.TheVariants.{GetBody, ListObjects, PutFiles}
 use Rattle.mot_cli.specs.declared.task.Task.TheVariants.{WithdrawNames}
 
@@ -64,9 +64,7 @@ module _ (rows : List Row) (none : (g : Geometry) → GiveGeometry rows g → �
       clash 1 101 105 (codes "memory") (codes "migrate") refl refl (omega arith) (sym is ∙ t.0)
   memory_needs_geometry name is (Play p) t =
       clash 0 109 112 (codes "memory") (codes "play") refl refl (omega arith) (sym is ∙ t.0)
-  memory_needs_geometry name is (Sync disk folder types rules) t =
-      clash 0 109 115 (codes "memory") (codes "sync") refl refl (omega arith) (sym is ∙ t.0)
-  memory_needs_geometry name is (TrySync disk folder types rules) t =
+  memory_needs_geometry name is (Sync sync) t =
       clash 0 109 115 (codes "memory") (codes "sync") refl refl (omega arith) (sym is ∙ t.0)
   memory_needs_geometry name is (ListObjects disk) t =
       clash 0 109 108 (codes "memory") (codes "list") refl refl (omega arith) (sym is ∙ t.0)
@@ -99,9 +97,7 @@ module _ (rows : List Row)
       clash 0 102 109 (codes "format") (codes "migrate") refl refl (omega arith) (sym is ∙ t.0)
   format_needs_both name is (Play p) t =
       clash 0 102 112 (codes "format") (codes "play") refl refl (omega arith) (sym is ∙ t.0)
-  format_needs_both name is (Sync disk folder types rules) t =
-      clash 0 102 115 (codes "format") (codes "sync") refl refl (omega arith) (sym is ∙ t.0)
-  format_needs_both name is (TrySync disk folder types rules) t =
+  format_needs_both name is (Sync sync) t =
       clash 0 102 115 (codes "format") (codes "sync") refl refl (omega arith) (sym is ∙ t.0)
   format_needs_both name is (ListObjects disk) t =
       clash 0 102 108 (codes "format") (codes "list") refl refl (omega arith) (sym is ∙ t.0)
@@ -132,9 +128,7 @@ module _ (rows : List Row) (none : (after : Option ℕ) → GiveLastId rows afte
       clash 0 99 109 (codes "copy") (codes "migrate") refl refl (omega arith) t.0
   copy_needs_id (Play p) t =
       clash 0 99 112 (codes "copy") (codes "play") refl refl (omega arith) t.0
-  copy_needs_id (Sync disk folder types rules) t =
-      clash 0 99 115 (codes "copy") (codes "sync") refl refl (omega arith) t.0
-  copy_needs_id (TrySync disk folder types rules) t =
+  copy_needs_id (Sync sync) t =
       clash 0 99 115 (codes "copy") (codes "sync") refl refl (omega arith) t.0
   copy_needs_id (ListObjects disk) t =
       clash 0 99 108 (codes "copy") (codes "list") refl refl (omega arith) t.0
@@ -165,9 +159,7 @@ module _ (rows : List Row) (none : (p : PlayTask) → IsTask (codes "play") rows
       clash 0 112 99 (codes "play") (codes "check") refl refl (omega arith) t.0
   play_needs (Migrate path) t =
       clash 0 112 109 (codes "play") (codes "migrate") refl refl (omega arith) t.0
-  play_needs (Sync disk folder types rules) t =
-      clash 0 112 115 (codes "play") (codes "sync") refl refl (omega arith) t.0
-  play_needs (TrySync disk folder types rules) t =
+  play_needs (Sync sync) t =
       clash 0 112 115 (codes "play") (codes "sync") refl refl (omega arith) t.0
   play_needs (ListObjects disk) t =
       clash 0 112 108 (codes "play") (codes "list") refl refl (omega arith) t.0
@@ -209,8 +201,7 @@ no_command name rows none (Serve path) t = none.not_serve t.0
 no_command name rows none (Check path) t = none.not_check t.0
 no_command name rows none (Migrate path) t = none.not_migrate t.0
 no_command name rows none (Play p) t = none.not_play t.0
-no_command name rows none (Sync disk folder types rules) t = none.not_sync t.0
-no_command name rows none (TrySync disk folder types rules) t = none.not_sync t.0
+no_command name rows none (Sync sync) t = none.not_sync t.0
 no_command name rows none (ListObjects disk) t = none.not_list t.0
 no_command name rows none (PutFiles disk files types) t = none.not_put t.0
 no_command name rows none (WithdrawNames disk names) t = none.not_withdraw t.0

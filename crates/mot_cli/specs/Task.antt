@@ -13,7 +13,7 @@ use Rattle.mot_cli.specs.declared.task.NoTask.{NoTask}
 use Rattle.mot_cli.specs.declared.task.NoTask.TheVariants.{Lacks, OutOfRange}
 use Rattle.mot_cli.specs.declared.task.Task.{Task}
 use Rattle.mot_cli.specs.declared.task.Task.TheVariants.{Memory, Format, Copy, Serve, Check, Migrate}
-use Rattle.mot_cli.specs.declared.task.Task.TheVariants.{Play, Sync, Export, Inspect, TrySync}
+use Rattle.mot_cli.specs.declared.task.Task.TheVariants.{Play, Sync, Export, Inspect}
 use Rattle.mot_cli.specs.declared.task.Task.TheVariants.{GetBody, ListObjects, PutFiles}
 use Rattle.mot_cli.specs.declared.task.Task.TheVariants.{WithdrawNames}
 use Rattle.mot_numbers.specs.declared.refusal.Refusal.{Refusal}
@@ -65,14 +65,10 @@ IsTask name rows (Play p) =
     × IsGiven (first_of (codes "early") rows) p.early × GiveRate rows p.rate
     × NameOption rows (codes "status") p.status × (p.levels ≡ is_set rows (codes "levels"))
     × (is_whole rows ≡ true)
-IsTask name rows (Sync disk folder types rules) =
-    (name ≡ codes "sync") × NameWord rows (codes "DISK") disk.now
-    × NameWord rows (codes "DIR") folder.now × NameOption rows (codes "types") types
-    × AreRules rows rules × (is_set rows (codes "dry-run") ≡ false)
-IsTask name rows (TrySync disk folder types rules) =
-    (name ≡ codes "sync") × NameWord rows (codes "DISK") disk.now
-    × NameWord rows (codes "DIR") folder.now × NameOption rows (codes "types") types
-    × AreRules rows rules × (is_set rows (codes "dry-run") ≡ true)
+IsTask name rows (Sync sync) =
+    (name ≡ codes "sync") × NameWord rows (codes "DISK") sync.disk.now
+    × NameWord rows (codes "DIR") sync.folder.now × NameOption rows (codes "types") sync.types
+    × AreRules rows sync.rules × (sync.dry_run ≡ is_set rows (codes "dry-run"))
 IsTask name rows (ListObjects disk) = (name ≡ codes "list") × NameWord rows (codes "DISK") disk.now
 IsTask name rows (PutFiles disk files types) =
     (name ≡ codes "put") × NameWord rows (codes "DISK") disk.now

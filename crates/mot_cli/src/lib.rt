@@ -15,5 +15,5 @@ pub use command::motcar_matches;
 pub use copying::CopyTask;
 pub use given::has_levels;
 pub use options::Options;
-pub use playing::{LookRules, PlayTask};
+pub use playing::{LookRules, PlayTask, SyncTask};
 pub use task::{NoTask, Task, task_of};

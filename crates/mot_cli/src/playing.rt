@@ -21,6 +21,21 @@ pub struct LookRules {
     pub at_once: bool,
 }
 
+/// The folder that the carousel of a disk is made equal to.
+#[derive(Clone, Copy)]
+pub struct SyncTask<'a> {
+    /// The path of the disk's file.
+    pub disk: &'a str,
+    /// The path of the folder.
+    pub folder: &'a str,
+    /// The path of the file that adds suffixes, if one is given.
+    pub types: Option<&'a str>,
+    /// How the folder is looked at.
+    pub rules: LookRules,
+    /// Whether it is only printed what would be done, and nothing changed.
+    pub dry_run: bool,
+}
+
 /// What is played, and into what.
 #[derive(Clone, Copy)]
 pub struct PlayTask<'a> {
@@ -128,23 +143,13 @@ pub(crate) fn sync_of<'m, 'a>(disk: &'a str, words: &'m ArgMatches<'a>) -> Optio
     ensures none { IfNone result ((task : Task)
         → IsTask (codes "sync") (rows_of (found_of words.now)) task → ⊥) }
 {
-    let folder = word_of(words, "DIR")?;
-    let types = option_of(words, "types");
-    let rules = rules_of(words);
-    if is_set(words, "dry-run") {
-        return Some(Task::TrySync {
-            disk,
-            folder,
-            types,
-            rules,
-        });
-    }
-    Some(Task::Sync {
+    Some(Task::Sync(SyncTask {
         disk,
-        folder,
-        types,
-        rules,
-    })
+        folder: word_of(words, "DIR")?,
+        types: option_of(words, "types"),
+        rules: rules_of(words),
+        dry_run: is_set(words, "dry-run"),
+    }))
 }
 
 /// How the folder of a command is looked at.

@@ -9,7 +9,7 @@ use crate::by_hand::{get_of, put_of, withdraw_of};
 use crate::copying::{CopyTask, copy_of};
 use crate::given::word_of;
 use crate::options::{directory_of, geometry_of};
-use crate::playing::{LookRules, PlayTask, inspect_of, play_of, sync_of};
+use crate::playing::{PlayTask, SyncTask, inspect_of, play_of, sync_of};
 use crate::whole::{is_whole, missing_option};
 use clap::ArgMatches;
 use mot_numbers::{Geometry, Refusal, TransportId};
@@ -38,28 +38,8 @@ pub enum Task<'m, 'a> {
     Migrate(&'a str),
     /// Play a disk.
     Play(PlayTask<'a>),
-    /// Make the carousel of a disk equal to a folder.
-    Sync {
-        /// The path of the disk's file.
-        disk: &'a str,
-        /// The path of the folder.
-        folder: &'a str,
-        /// The path of the file that adds suffixes, if one is given.
-        types: Option<&'a str>,
-        /// How the folder is looked at.
-        rules: LookRules,
-    },
-    /// Print what that would do, and change nothing.
-    TrySync {
-        /// The path of the disk's file.
-        disk: &'a str,
-        /// The path of the folder.
-        folder: &'a str,
-        /// The path of the file that adds suffixes, if one is given.
-        types: Option<&'a str>,
-        /// How the folder is looked at.
-        rules: LookRules,
-    },
+    /// Make the carousel of a disk equal to a folder, or print what that would do.
+    Sync(SyncTask<'a>),
     /// Print the objects of the disk of the file at this path.
     ListObjects(&'a str),
     /// Put files, or replace the objects of their names.

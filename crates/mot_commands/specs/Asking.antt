@@ -100,12 +100,12 @@ module _ {D : Type 0} (state : D → State) where
       (λ first last. TakesTill Withdraws WithdrawStops ending all names (first, old) (last, new))
       start
 
-module _ {S : Type 0} {start : Ghosts S} where
+module _ {S F : Type 0} {start : Ghosts S F} where
   -- No file was opened or made for such a refusal, and nothing printed; or it ended so: what was
   -- done, and what ended it.
   abbrev pub Comes : (IsEarly : Refusal → Type 0)
-      → (IsEnded : (all : Bool) → Option Refusal → UsedDisk S start → Type 0)
-      → Finished S Bool start → (old new : Option (List ℕ)) → Type 0
+      → (IsEnded : (all : Bool) → Option Refusal → UsedDisk S F start → Type 0)
+      → Finished S Bool F start → (old new : Option (List ℕ)) → Type 0
   Comes IsEarly IsEnded finished old new =
       IsErrAnd finished.result (λ refusal. IsEarly refusal × IsUntold finished.disk old new)
       ⊎ IsEnded (result_unwrap_or finished.result false) (fault_of finished.result) finished.disk

@@ -1,6 +1,6 @@
 -- What the commands that serve, make, check and migrate a disk do.
 use Rattle.std.specs.Prelude.{ℕ, ◌≡◌, ◌≢◌, ◌⊎◌, Bool, true, List, [], ◌∷◌, ◌++◌, Option, Some}
-use Rattle.std.specs.Prelude.{codes, false}
+use Rattle.std.specs.Prelude.{Result, false}
 use Rattle.clap.specs.Words.{Text}
 use Rattle.disk_store.specs.Beginning.{HasFirstCalls, SinceMade, SinceOpened}
 use Rattle.disk_store.specs.File.{file_state}
@@ -8,11 +8,12 @@ use Rattle.disk_store.specs.Ram.{ram_state}
 use Rattle.disk_store.specs.declared.file.start.Start.{Ghosts}
 use Rattle.disk_store.specs.declared.memory.ram.RamDisk.{RamDisk}
 use Rattle.mot_devices.specs.Looking.{OnlyLooks}
-use Rattle.mot_devices.specs.Uses.{IsFree}
+use Rattle.mot_devices.specs.Uses.{IsFree, IsUsed}
+use Rattle.mot_devices.specs.declared.device_use.DeviceUse.{DeviceUse}
 use Rattle.mot_export.specs.Exporting.{Exports}
 use Rattle.mot_export.specs.Inspecting.{Inspects}
-use Rattle.mot_files.specs.Call.{Call}
-use Rattle.mot_endpoints.specs.Opened.{in_vain}
+use Rattle.mot_files.specs.Call.{Call, made_disk, opened_disk, removed}
+use Rattle.mot_files.specs.declared.system.Fault.{Fault}
 use Rattle.mot_commands.specs.Asking.{WithdrawsEach}
 use Rattle.mot_commands.specs.Report.{Checks, Formats, Migrates}
 use Rattle.mot_commands.specs.Serving.{Serves}
@@ -50,85 +51,88 @@ IsUnmade g r = (r ≡ OutOfMemory) ⊎ IsBadGeometry g r
 abbrev pub IsUnformatted : Geometry → Refusal → Type 0
 IsUnformatted g r = (r ≡ DeviceFault) ⊎ IsBadGeometry g r
 
-module _ {S : Type 0} {start : Ghosts S} where
+module _ {S F : Type 0} {start : Ghosts S F} where
   -- a disk was made in memory, and served
-  abbrev pub ServesMemory : Geometry → Option Refusal → UsedDisk S start
+  abbrev pub ServesMemory : Geometry → Option Refusal → UsedDisk S F start
       → (unread left old new : Option (List ℕ)) → Type 0
   ServesMemory g ending (InMemory disk value) unread left old new =
       ServesNew g ending unread left old new disk
   ServesMemory g ending used unread left old new = ⊥
 
   -- a file was opened or else made, so long, and a disk made of it
-  abbrev pub FormatsFile : Geometry → (directory : ℕ) → Option Refusal → UsedDisk S start
+  abbrev pub FormatsFile : Geometry → (directory : ℕ) → Option Refusal → UsedDisk S F start
       → (old new : Option (List ℕ)) → Type 0
   FormatsFile g directory ending used old new = OnFile (λ disk beside.
       IsValid g × (SinceOpened (Formats g directory ending old new) disk
       ⊎ SinceMade (length_of g) (Formats g directory ending old new) disk)) used
 
   -- a file was opened, and its disk served, told, or migrated
-  abbrev pub ServesFile : Option Refusal → UsedDisk S start
+  abbrev pub ServesFile : Option Refusal → UsedDisk S F start
       → (unread left old new : Option (List ℕ)) → Type 0
   ServesFile ending used unread left old new = OnFile (λ disk beside. SinceOpened
       (λ first now. Serves file_state disk ending unread left old new first) disk) used
 
-  abbrev pub ChecksFile : Option Refusal → UsedDisk S start → (old new : Option (List ℕ)) → Type 0
+  abbrev pub ChecksFile : Option Refusal → UsedDisk S F start → (old new : Option (List ℕ)) → Type 0
   ChecksFile ending used old new = OnOpened (Checks ending old new) used
 
-  abbrev pub MigratesFile : Option Refusal → UsedDisk S start → (old new : Option (List ℕ))
+  abbrev pub MigratesFile : Option Refusal → UsedDisk S F start → (old new : Option (List ℕ))
       → Type 0
   MigratesFile ending used old new = OnOpened (Migrates ending old new) used
 
   -- a file was opened, and its carousel printed, or its sizes told
-  abbrev pub ExportsFile : Option Refusal → UsedDisk S start → (old new : Option (List ℕ))
+  abbrev pub ExportsFile : Option Refusal → UsedDisk S F start → (old new : Option (List ℕ))
       → Type 0
   ExportsFile ending used old new = OnOpened (Exports ending old new) used
 
-  abbrev pub InspectsFile : (rate : Option ℕ) → Option Refusal → UsedDisk S start
+  abbrev pub InspectsFile : (rate : Option ℕ) → Option Refusal → UsedDisk S F start
       → (old new : Option (List ℕ)) → Type 0
   InspectsFile rate ending used old new = OnOpened (Inspects rate ending old new) used
 
   -- a file was opened, and its objects listed, or the body of one of them printed
-  abbrev pub ListsFile : Option Refusal → UsedDisk S start → (old new : Option (List ℕ)) → Type 0
+  abbrev pub ListsFile : Option Refusal → UsedDisk S F start → (old new : Option (List ℕ)) → Type 0
   ListsFile ending used old new = OnOpened (Lists ending old new) used
 
-  abbrev pub GetsFile : (name : List ℕ) → Option Refusal → UsedDisk S start
+  abbrev pub GetsFile : (name : List ℕ) → Option Refusal → UsedDisk S F start
       → (old new : Option (List ℕ)) → Type 0
   GetsFile name ending used old new = OnOpened (Gets name ending old new) used
 
   -- or objects of it withdrawn
   abbrev pub WithdrawsFile : (names : List Text) → (all : Bool) → Option Refusal
-      → UsedDisk S start → (old new : Option (List ℕ)) → Type 0
+      → UsedDisk S F start → (old new : Option (List ℕ)) → Type 0
   WithdrawsFile names all ending used old new = OnFile (λ disk beside. SinceOpened
       (λ first now. WithdrawsEach file_state names disk all ending old new first) disk) used
 
   -- its calls are those of a file that was made, or that was opened
-  abbrev pub IsBegun : (is_new : Bool) → UsedDisk S start → Type 0
+  abbrev pub IsBegun : (is_new : Bool) → UsedDisk S F start → Type 0
   IsBegun is_new = OnFile (λ disk beside. HasFirstCalls is_new disk)
 
-  -- A new file is made at the path, or that is tried in vain. It is removed again exactly if it could
-  -- not be formatted.
-  pub data MakesFile (ending : Option Refusal) (path : Text) (used : UsedDisk S start)
-      (before after : List (Text × Text)) : Type 0 where
-    unmade : IsUntouched used → ending ≡ Some DeviceFault
-        → after ≡ before ++ in_vain (codes "disk") path ∷ []
-        → MakesFile ending path used before after
-    made : IsBegun true used → ending ≢ Some DeviceFault
-        → after ≡ before ++ (codes "disk", path) ∷ [] → MakesFile ending path used before after
-    removed : IsBegun true used → ending ≡ Some DeviceFault
-        → after ≡ before ++ (codes "disk", path) ∷ (codes "removed", path) ∷ []
-        → MakesFile ending path used before after
+  -- By these calls a new file is made at the path, or that is tried in vain. It is removed again exactly
+  -- if it could not be formatted.
+  pub data MakesFile (ending : Option Refusal) (path : Text) (used : UsedDisk S F start)
+      (old new : List Call) : Type 0 where
+    unmade : IsUntouched used → ending ≡ Some DeviceFault → new ≡ old ++ made_disk path false ∷ []
+        → MakesFile ending path used old new
+    made : IsBegun true used → ending ≢ Some DeviceFault → new ≡ old ++ made_disk path true ∷ []
+        → MakesFile ending path used old new
+    taken_away : (answer : Result (Unit {0}) Fault) → IsBegun true used → ending ≡ Some DeviceFault
+        → new ≡ old ++ made_disk path true ∷ removed path answer ∷ []
+        → MakesFile ending path used old new
 
-  -- which files `format` comes to that ended so: the one of its path is opened; or that is tried in
-  -- vain, and only then it is made
-  pub data OpensOrMakes (ending : Option Refusal) (path : Text) (used : UsedDisk S start)
-      (before after : List (Text × Text)) : Type 0 where
-    unbegun : IsUntouched used → after ≡ before → OpensOrMakes ending path used before after
-    opened : IsBegun false used → after ≡ before ++ (codes "disk", path) ∷ []
-        → OpensOrMakes ending path used before after
-    unopened : MakesFile ending path used (before ++ in_vain (codes "disk") path ∷ []) after
-        → OpensOrMakes ending path used before after
+  -- the file of its path is opened; or that is tried in vain, and only then it is made
+  pub data OpensOrMakes (ending : Option Refusal) (path : Text) (used : UsedDisk S F start)
+      (old new : List Call) : Type 0 where
+    opened : IsBegun false used → new ≡ old ++ opened_disk path true ∷ []
+        → OpensOrMakes ending path used old new
+    unopened : MakesFile ending path used (old ++ opened_disk path false ∷ []) new
+        → OpensOrMakes ending path used old new
 
-  -- which calls `format` makes of the system beside those on its disk: that is made only if its path
-  -- was found free, and that changed nothing
-  abbrev pub LooksFirst : Text → UsedDisk S start → (old new : List Call) → Type 0
-  LooksFirst path used old new = OnlyLooks old new × (IsUntouched used ⊎ IsFree path old new)
+  -- Which calls `format` makes of its host that ended so. Its path is looked at, by which nothing is
+  -- changed: only if it is free, its file is opened or made.
+  pub data FormatsFree (ending : Option Refusal) (path : Text) (used : UsedDisk S F start)
+      (old new : List Call) : Type 0 where
+    unasked : IsUntouched used → ending ≡ Some BadGeometry → new ≡ old
+        → FormatsFree ending path used old new
+    in_use : (found : DeviceUse) → IsUntouched used → ending ≡ Some DeviceFault
+        → IsUsed path found old new → OnlyLooks old new → FormatsFree ending path used old new
+    free : (looked : List Call) → OnlyLooks old looked → IsFree path old looked
+        → OpensOrMakes ending path used looked new → FormatsFree ending path used old new

@@ -1,5 +1,5 @@
 -- What putting files does.
-use Rattle.std.specs.Prelude.{◌≡◌, ◌==◌, ◌⊎◌, ℕ, Bool, true, false, if◌then◌else◌, List, [], ◌∷◌, ◌++◌}
+use Rattle.std.specs.Prelude.{◌≡◌, ◌==◌, ℕ, Bool, true, false, if◌then◌else◌, List, [], ◌∷◌, ◌++◌}
 use Rattle.std.specs.Prelude.{Option, None, Some, codes, map}
 use Rattle.std.specs.Borrow.{Bor}
 use Rattle.std.specs.Io.KnownBytes.{Appends, Keeps}
@@ -23,7 +23,7 @@ use Rattle.mot_numbers.specs.declared.refusal.Refusal.TheVariants.{OutOfMemory, 
 use Rattle.mot_objects.specs.Name.{IsName}
 use Rattle.mot_objects.specs.Stands.{index_of}
 use Rattle.mot_objects.specs.declared.body.TheConstants.{MAX_BODY}
-use Rattle.mot_outcome.specs.Outcome.{IsUntouched, OnFile}
+use Rattle.mot_outcome.specs.Outcome.{OnFile}
 use Rattle.mot_outcome.specs.declared.used.UsedDisk.{UsedDisk}
 use Rattle.mot_session.specs.Served.{WritesFront}
 use Rattle.mot_suffixes.specs.Types.{SuffixType, type_of_name}
@@ -107,26 +107,31 @@ module _ {D : Type 0} (state : D → State) (types : List SuffixType) where
 abbrev pub texts : List (Bor Text) → List Text
 texts words = map (λ (word : Bor Text). word.now) words
 
-module _ {S : Type 0} {start : Ghosts S} where
+module _ {S F : Type 0} {start : Ghosts S F} where
   -- A file was opened, and files were put on its disk, typed by this table of suffixes, up to this
   -- ending. The writer's known bytes were old and are new, and the calls of the system that were made
   -- before and after are these.
   abbrev pub PutsTo : (table : List SuffixType) → (files : List Text) → (all : Bool)
       → Option Refusal → (old new : Option (List ℕ)) → (before after : List Call)
-      → UsedDisk S start → Type 0
+      → UsedDisk S F start → Type 0
   PutsTo table files all ending old new before after = OnFile (λ disk beside. SinceOpened
       (λ first now. PutsEach file_state table files disk all ending old new before after first)
       disk)
 
   abbrev pub PutsFiles : (types : Option (Bor Text)) → (files : List Text) → (all : Bool)
-      → Option Refusal → UsedDisk S start → (old new : Option (List ℕ))
+      → Option Refusal → UsedDisk S F start → (old new : Option (List ℕ))
       → (before after : List Call) → Type 0
   PutsFiles types files all ending used old new before after = (table : List SuffixType)
       × IsTyped types table × PutsTo table files all ending old new before after used
 
-  -- no file was opened, and no call made; or the calls are those of files that were put
-  abbrev pub PutLooks : (types : Option (Bor Text)) → (files : List Text) → UsedDisk S start
+  -- these are the calls of files that were put, whatever came of it
+  abbrev pub PutsSome : (table : List SuffixType) → (files : List Text) → UsedDisk S F start
       → (before after : List Call) → Type 0
-  PutLooks types files used before after = (IsUntouched used × (after ≡ before))
-      ⊎ ((all : Bool) × (ending : Option Refusal) × (old : Option (List ℕ))
-      × (new : Option (List ℕ)) × PutsFiles types files all ending used old new before after)
+  PutsSome table files used before after = (all : Bool) × (ending : Option Refusal)
+      × (old : Option (List ℕ)) × (new : Option (List ℕ))
+      × PutsTo table files all ending old new before after used
+
+  abbrev pub PutReads : (types : Option (Bor Text)) → (files : List Text) → UsedDisk S F start
+      → (before after : List Call) → Type 0
+  PutReads types files used before after = (table : List SuffixType) × IsTyped types table
+      × PutsSome table files used before after

@@ -7,12 +7,11 @@ ghost use Rattle.mot_outcome.specs.Outcome.{Opens, Prints};
 ghost use Rattle.mot_commands.specs.Commands.{ChecksFile};
 ghost use Rattle.mot_outcome.specs.Outcome.{Finishes};
 ghost use Rattle.mot_commands.specs.Report.{Checks, clean_line, layout_line};
-ghost use Rattle.mot_endpoints.specs.Opened.{paths_of};
 
 use crate::finishing::finish;
 use disk_model::Disk;
 use disk_store::Start;
-use mot_endpoints::Host;
+use mot_endpoints::{Host, Machine};
 use mot_journal::Layout;
 use mot_numbers::Refusal;
 use mot_objects::Carousel;
@@ -24,8 +23,8 @@ use std::alloc::Global;
 use std::io::Write;
 
 /// Prints what the disk of the file at the path keeps, whether it is clean, and its layout.
-pub fn check_file<S: Start, W: Write>(
-    host: &mut Host<'_>,
+pub fn check_file<S: Start, W: Write, M: Machine<File = S::File> + Drop>(
+    host: &mut Host<M>,
     alloc: Global,
     path: &str,
     start: S,
@@ -35,7 +34,7 @@ pub fn check_file<S: Start, W: Write>(
         ChecksFile ending used (W.contents writer.old) (W.contents writer.new))
         result (W.contents writer.old) (W.contents writer.new) }
     ensures files { Opens [] path.now (fault_of result.result) result.disk
-        (paths_of host.old) (paths_of host.new) }
+        (M.System.calls host.old.system) (M.System.calls host.new.system) }
 {
     match host.disk(path, start) {
         Ok(disk) => {

@@ -1,22 +1,21 @@
 //! What `export` does.
 ghost use Rattle.std.specs.Prelude.{◌≡◌, []};
 ghost use Rattle.mot_commands.specs.Commands.{ExportsFile};
-ghost use Rattle.mot_endpoints.specs.Opened.{paths_of};
 ghost use Rattle.mot_numbers.specs.declared.refusal.Refusal.TheVariants.{DeviceFault};
 ghost use Rattle.mot_outcome.specs.Outcome.{Finishes, Opens};
 ghost use Rattle.mot_playout.specs.Attempts.{fault_of};
 
 use crate::finishing::finish;
 use disk_store::Start;
-use mot_endpoints::Host;
+use mot_endpoints::{Host, Machine};
 use mot_export::export_disk;
 use mot_outcome::Finished;
 use std::alloc::Global;
 use std::io::Write;
 
 /// Prints the carousel of the disk of the file at the path as lines.
-pub fn export_file<B: Start, W: Write>(
-    host: &mut Host<'_>,
+pub fn export_file<B: Start, W: Write, M: Machine<File = B::File> + Drop>(
+    host: &mut Host<M>,
     alloc: Global,
     path: &str,
     start: B,
@@ -26,7 +25,7 @@ pub fn export_file<B: Start, W: Write>(
         ExportsFile ending used (W.contents writer.old) (W.contents writer.new))
         result (W.contents writer.old) (W.contents writer.new) }
     ensures files { Opens [] path.now (fault_of result.result) result.disk
-        (paths_of host.old) (paths_of host.new) }
+        (M.System.calls host.old.system) (M.System.calls host.new.system) }
 {
     match host.disk(path, start) {
         Ok(disk) => {

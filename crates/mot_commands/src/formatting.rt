@@ -4,19 +4,17 @@ ghost use Rattle.std.specs.Prelude.{◌≡◌, ◌≢◌, Some, false, true};
 ghost use Rattle.mot_numbers.specs.Geometry.{IsValid};
 ghost use Rattle.mot_numbers.specs.declared.refusal.Refusal.TheVariants.{DeviceFault};
 ghost use Rattle.mot_outcome.specs.Outcome.{Prints};
-ghost use Rattle.mot_commands.specs.Commands.{FormatsFile, IsUnformatted, LooksFirst};
+ghost use Rattle.mot_commands.specs.Commands.{FormatsFile, FormatsFree, IsUnformatted};
 ghost use Rattle.mot_outcome.specs.Outcome.{Finishes};
 ghost use Rattle.mot_commands.specs.Commands.{MakesFile, OpensOrMakes};
 ghost use Rattle.mot_commands.specs.Report.{Formats, formatted_line};
-ghost use Rattle.mot_endpoints.specs.Opened.{paths_of};
 
 use crate::finishing::finish;
 use disk_model::Disk;
 use disk_store::{Start, Unopened};
 use mot_destinations::Cause;
 use mot_devices::use_of;
-use mot_endpoints::Host;
-use mot_files::System;
+use mot_endpoints::{Host, Machine};
 use mot_journal::{Reason, format_from};
 use mot_numbers::{Geometry, Refusal, TransportId};
 use mot_outcome::{Beside, Finished, write_number};
@@ -26,9 +24,8 @@ use std::io::Write;
 
 /// Makes a disk of the file at the path, as `format_free` does. No file is touched for a geometry
 /// out of range, or if the path names a device in use or a file of another disk.
-pub fn format_file<Y: System, S: Start, W: Write>(
-    host: &mut Host<'_>,
-    system: &mut Y,
+pub fn format_file<S: Start, W: Write, M: Machine<File = S::File> + Drop>(
+    host: &mut Host<M>,
     alloc: Global,
     path: &str,
     start: S,
@@ -39,15 +36,13 @@ pub fn format_file<Y: System, S: Start, W: Write>(
     ensures ended { Finishes (IsUnformatted geometry) (λ ending used.
         FormatsFile geometry directory ending used (W.contents writer.old) (W.contents writer.new))
         result (W.contents writer.old) (W.contents writer.new) }
-    ensures files { OpensOrMakes (fault_of result.result) path.now result.disk
-        (paths_of host.old) (paths_of host.new) }
-    ensures looked { LooksFirst path.now result.disk
-        (Y.calls system.old) (Y.calls system.new) }
+    ensures files { FormatsFree (fault_of result.result) path.now result.disk
+        (M.System.calls host.old.system) (M.System.calls host.new.system) }
 {
     if !geometry.is_valid() {
         return Finished::unbegun(Refusal::BadGeometry, None, start);
     }
-    match use_of(system, alloc, path) {
+    match use_of(&mut host.system, alloc, path) {
         Some(found) => Finished::unbegun(Refusal::DeviceFault, Some(Cause::from(found)), start),
         None => format_free(host, path, start, geometry, directory, writer),
     }
@@ -55,8 +50,8 @@ pub fn format_file<Y: System, S: Start, W: Write>(
 
 /// Makes a disk of the file at the path. The file is made if it can't be opened, and removed again
 /// if the disk could not be made of it.
-fn format_free<S: Start, W: Write>(
-    host: &mut Host<'_>,
+fn format_free<S: Start, W: Write, M: Machine<File = S::File> + Drop>(
+    host: &mut Host<M>,
     path: &str,
     start: S,
     geometry: Geometry,
@@ -68,7 +63,7 @@ fn format_free<S: Start, W: Write>(
         FormatsFile geometry directory ending used (W.contents writer.old) (W.contents writer.new))
         result (W.contents writer.old) (W.contents writer.new) }
     ensures files { OpensOrMakes (fault_of result.result) path.now result.disk
-        (paths_of host.old) (paths_of host.new) }
+        (M.System.calls host.old.system) (M.System.calls host.new.system) }
 {
     match host.disk(path, start) {
         Ok(mut disk) => {
@@ -85,8 +80,8 @@ fn format_free<S: Start, W: Write>(
 }
 
 /// Makes a new file, and a disk of it. If it can't be formatted, it is removed again.
-fn format_new_file<S: Start, W: Write>(
-    host: &mut Host<'_>,
+fn format_new_file<S: Start, W: Write, M: Machine<File = S::File> + Drop>(
+    host: &mut Host<M>,
     path: &str,
     unopened: Unopened<S>,
     geometry: Geometry,
@@ -98,7 +93,7 @@ fn format_new_file<S: Start, W: Write>(
         FormatsFile geometry directory ending used (W.contents writer.old) (W.contents writer.new))
         result (W.contents writer.old) (W.contents writer.new) }
     ensures files { MakesFile (fault_of result.result) path.now result.disk
-        (paths_of host.old) (paths_of host.new) }
+        (M.System.calls host.old.system) (M.System.calls host.new.system) }
 {
     let mut disk = match host.make_disk(path, geometry.length(), unopened.start) {
         Ok(disk) => disk,

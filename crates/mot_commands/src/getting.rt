@@ -10,13 +10,12 @@ ghost use Rattle.mot_outcome.specs.Outcome.{Finishes, Opens};
 ghost use Rattle.mot_commands.specs.Commands.{GetsFile};
 ghost use Rattle.mot_commands.specs.Shown.{Gets};
 ghost use Rattle.mot_commands.specs.Inner.Got.{MissesBody, ReadsBody};
-ghost use Rattle.mot_endpoints.specs.Opened.{paths_of};
 ghost use Rattle.mot_repository.specs.Repository.{HasStanding, object_body};
 
 use crate::finishing::finish;
 use disk_model::Disk;
 use disk_store::Start;
-use mot_endpoints::Host;
+use mot_endpoints::{Host, Machine};
 use mot_numbers::Refusal;
 use mot_objects::Name;
 use mot_outcome::{Finished, write_last};
@@ -26,8 +25,8 @@ use std::alloc::Global;
 use std::io::Write;
 
 /// Prints the body of the object of this name on the disk of the file at the path.
-pub fn get_file<S: Start, W: Write>(
-    host: &mut Host<'_>,
+pub fn get_file<S: Start, W: Write, M: Machine<File = S::File> + Drop>(
+    host: &mut Host<M>,
     alloc: Global,
     path: &str,
     name: &str,
@@ -38,7 +37,7 @@ pub fn get_file<S: Start, W: Write>(
         GetsFile name.now ending used (W.contents writer.old) (W.contents writer.new))
         result (W.contents writer.old) (W.contents writer.new) }
     ensures files { Opens [] path.now (fault_of result.result) result.disk
-        (paths_of host.old) (paths_of host.new) }
+        (M.System.calls host.old.system) (M.System.calls host.new.system) }
 {
     match host.disk(path, start) {
         Ok(disk) => {

@@ -6,12 +6,11 @@ ghost use Rattle.mot_lines.specs.Listing.{listing_text_beside};
 ghost use Rattle.mot_outcome.specs.Outcome.{Finishes, Opens, Prints};
 ghost use Rattle.mot_commands.specs.Commands.{ListsFile};
 ghost use Rattle.mot_commands.specs.Shown.{Lists};
-ghost use Rattle.mot_endpoints.specs.Opened.{paths_of};
 
 use crate::finishing::finish;
 use disk_model::Disk;
 use disk_store::Start;
-use mot_endpoints::Host;
+use mot_endpoints::{Host, Machine};
 use mot_numbers::Refusal;
 use mot_objects::Carousel;
 use mot_outcome::{Finished, write_last};
@@ -22,8 +21,8 @@ use std::alloc::Global;
 use std::io::Write;
 
 /// Prints what the line `list` is answered on the disk of the file at the path.
-pub fn list_file<S: Start, W: Write>(
-    host: &mut Host<'_>,
+pub fn list_file<S: Start, W: Write, M: Machine<File = S::File> + Drop>(
+    host: &mut Host<M>,
     alloc: Global,
     path: &str,
     start: S,
@@ -33,7 +32,7 @@ pub fn list_file<S: Start, W: Write>(
         ListsFile ending used (W.contents writer.old) (W.contents writer.new))
         result (W.contents writer.old) (W.contents writer.new) }
     ensures files { Opens [] path.now (fault_of result.result) result.disk
-        (paths_of host.old) (paths_of host.new) }
+        (M.System.calls host.old.system) (M.System.calls host.new.system) }
 {
     match host.disk(path, start) {
         Ok(disk) => {

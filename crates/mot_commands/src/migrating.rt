@@ -6,12 +6,11 @@ ghost use Rattle.mot_outcome.specs.Outcome.{Opens};
 ghost use Rattle.mot_commands.specs.Commands.{MigratesFile};
 ghost use Rattle.mot_outcome.specs.Outcome.{Finishes};
 ghost use Rattle.mot_commands.specs.Report.{Migrates, migrated_line};
-ghost use Rattle.mot_endpoints.specs.Opened.{paths_of};
 
 use crate::finishing::finish;
 use disk_model::Disk;
 use disk_store::Start;
-use mot_endpoints::Host;
+use mot_endpoints::{Host, Machine};
 use mot_outcome::{Finished, write_last};
 use mot_repository::Repository;
 use mot_update::Ended;
@@ -20,8 +19,8 @@ use std::io::Write;
 
 /// Rewrites the disk of the file at the path into layout 2, and prints whether there was anything
 /// to do.
-pub fn migrate_file<S: Start, W: Write>(
-    host: &mut Host<'_>,
+pub fn migrate_file<S: Start, W: Write, M: Machine<File = S::File> + Drop>(
+    host: &mut Host<M>,
     alloc: Global,
     path: &str,
     start: S,
@@ -31,7 +30,7 @@ pub fn migrate_file<S: Start, W: Write>(
         MigratesFile ending used (W.contents writer.old) (W.contents writer.new))
         result (W.contents writer.old) (W.contents writer.new) }
     ensures files { Opens [] path.now (fault_of result.result) result.disk
-        (paths_of host.old) (paths_of host.new) }
+        (M.System.calls host.old.system) (M.System.calls host.new.system) }
 {
     match host.disk(path, start) {
         Ok(disk) => {

@@ -1,17 +1,18 @@
 //! What `put` does.
 ghost use Rattle.mot_playout.specs.Attempts.{fault_of};
-ghost use Rattle.std.specs.Prelude.{◌≡◌, ◌⊎◌, [], MatchResult, codes, false};
+ghost use Rattle.std.specs.Prelude.{◌≡◌, ◌⊎◌, [], List, MatchResult, false};
 ghost use Rattle.std.specs.Io.KnownBytes.{Appends};
 ghost use Rattle.std.specs.Result.{result_unwrap_or};
 ghost use Rattle.disk_model.specs.Disk.{KeepsLength};
 ghost use Rattle.mot_commands.specs.Asking.{Comes, TakesTill};
 ghost use Rattle.mot_commands.specs.Inner.Got.{refusal_of};
-ghost use Rattle.mot_commands.specs.Putting.{Puts, PutsEach, PutLooks, PutsFiles, PutsTo, PutStops, texts};
-ghost use Rattle.mot_endpoints.specs.Opened.{named, paths_of};
+ghost use Rattle.mot_commands.specs.Putting.{PutReads, Puts, PutsEach, PutsFiles, PutsSome, PutsTo, PutStops, texts};
+ghost use Rattle.mot_endpoints.specs.Opened.{Need, if_given};
 ghost use Rattle.mot_endpoints.specs.Types.{IsUntyped};
 ghost use Rattle.mot_lines.specs.Text.{refusal_line};
 ghost use Rattle.mot_numbers.specs.declared.refusal.Refusal.TheVariants.{DeviceFault, WriteFault};
-ghost use Rattle.mot_outcome.specs.Outcome.{IsUntouched, Opens};
+ghost use Rattle.mot_outcome.specs.Outcome.{OpensAnd};
+ghost use Rattle.mot_files.specs.Call.{Call};
 ghost use Rattle.mot_session.specs.Served.{WritesFront};
 
 use crate::answering::answer;
@@ -19,7 +20,7 @@ use crate::file_line::{Unput, line_of_file, refusal_of};
 use crate::finishing::finish;
 use disk_model::Disk;
 use disk_store::{OpenFault, Start};
-use mot_endpoints::{Host, file_types};
+use mot_endpoints::{Host, Machine, file_types};
 use mot_files::{Fault, System, Unread};
 use mot_lines::refusal_text;
 use mot_numbers::Refusal;
@@ -33,9 +34,8 @@ use std::io::Write;
 /// Puts these files on the disk of the file at the path, one after the other, or replaces the
 /// objects of their names; prints the replies, and why a file was not read to `errors`. Each is
 /// typed by its suffix, of the known ones and of those that a file adds. Whether each was put.
-pub fn put<Y: System, S: Start, W: Write, E: Write>(
-    host: &mut Host<'_>,
-    system: &mut Y,
+pub fn put<S: Start, W: Write, E: Write, M: Machine<File = S::File> + Drop>(
+    host: &mut Host<M>,
     alloc: Global,
     path: &str,
     files: &[&str],
@@ -45,27 +45,22 @@ pub fn put<Y: System, S: Start, W: Write, E: Write>(
     errors: &mut E,
 ) -> Finished<S, bool>
     ensures ended { Comes (λ r. IsUntyped types.entry r ⊎ (r ≡ DeviceFault))
-        (λ all ending used. PutsFiles types.entry (texts files.now) all ending used
-        (W.contents writer.old) (W.contents writer.new) (Y.calls system.old) (Y.calls system.new))
+        (λ all ending used. (before after : List Call) × PutsFiles types.entry (texts files.now) all
+        ending used (W.contents writer.old) (W.contents writer.new) before after)
         result (W.contents writer.old) (W.contents writer.new) }
-    ensures files { Opens (named (codes "types") types.entry) path.now
-        (fault_of result.result) result.disk
-        (paths_of host.old) (paths_of host.new) }
-    ensures looked { PutLooks types.entry (texts files.now) result.disk
-        (Y.calls system.old) (Y.calls system.new) }
+    ensures files { OpensAnd (if_given Need.types types.entry) path.now
+        (PutReads types.entry (texts files.now) result.disk) (fault_of result.result) result.disk
+        (M.System.calls host.old.system) (M.System.calls host.new.system) }
 {
     match file_types(host, alloc, types) {
-        Ok(types) => put_files(
-            host, system, alloc, path, files, &types, start, writer, errors,
-        ),
+        Ok(types) => put_files(host, alloc, path, files, &types, start, writer, errors),
         Err(unbegun) => Finished::unbegun(unbegun.refusal, unbegun.cause, start),
     }
 }
 
 /// The same by these suffixes.
-fn put_files<Y: System, S: Start, W: Write, E: Write>(
-    host: &mut Host<'_>,
-    system: &mut Y,
+fn put_files<S: Start, W: Write, E: Write, M: Machine<File = S::File> + Drop>(
+    host: &mut Host<M>,
     alloc: Global,
     path: &str,
     files: &[&str],
@@ -74,17 +69,17 @@ fn put_files<Y: System, S: Start, W: Write, E: Write>(
     writer: &mut W,
     errors: &mut E,
 ) -> Finished<S, bool>
-    ensures ended { Comes (λ r. r ≡ DeviceFault) (λ all ending used. PutsTo types.now
-        (texts files.now) all ending (W.contents writer.old) (W.contents writer.new)
-        (Y.calls system.old) (Y.calls system.new) used)
+    ensures ended { Comes (λ r. r ≡ DeviceFault) (λ all ending used. (before after : List Call)
+        × PutsTo types.now (texts files.now) all ending
+        (W.contents writer.old) (W.contents writer.new) before after used)
         result (W.contents writer.old) (W.contents writer.new) }
-    ensures files { Opens [] path.now (fault_of result.result) result.disk
-        (paths_of host.old) (paths_of host.new) }
-    ensures unbegun { IsUntouched result.disk → Y.calls system.new ≡ Y.calls system.old }
+    ensures files { OpensAnd [] path.now (PutsSome types.now (texts files.now) result.disk)
+        (fault_of result.result) result.disk
+        (M.System.calls host.old.system) (M.System.calls host.new.system) }
 {
     match host.disk(path, start) {
         Ok(disk) => {
-            let ended = put_on_disk(system, alloc, disk, files, types, writer, errors);
+            let ended = put_on_disk(&mut host.system, alloc, disk, files, types, writer, errors);
             finish(host, ended)
         }
         Err(unopened) => Finished::unopened(unopened),

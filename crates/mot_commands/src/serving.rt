@@ -8,12 +8,11 @@ ghost use Rattle.disk_model.specs.Disk.{KeepsLength};
 ghost use Rattle.mot_commands.specs.Commands.{IsUnmade, ServesFile, ServesMemory};
 ghost use Rattle.mot_outcome.specs.Outcome.{Finishes};
 ghost use Rattle.mot_commands.specs.Serving.{Serves};
-ghost use Rattle.mot_endpoints.specs.Opened.{paths_of};
 
 use crate::finishing::finish;
 use disk_model::Disk;
 use disk_store::{RamDisk, Start};
-use mot_endpoints::Host;
+use mot_endpoints::{Host, Machine};
 use mot_journal::format;
 use mot_numbers::{Geometry, Refusal};
 use mot_outcome::{Finished, UsedDisk};
@@ -60,8 +59,8 @@ pub fn serve_memory<S: Start, R: Read, W: Write>(
 
 /// Serves the reader's lines from the disk of the file at the path; answers what ended it before
 /// the input's end.
-pub fn serve_file<S: Start, R: Read, W: Write>(
-    host: &mut Host<'_>,
+pub fn serve_file<S: Start, R: Read, W: Write, M: Machine<File = S::File> + Drop>(
+    host: &mut Host<M>,
     alloc: Global,
     path: &str,
     start: S,
@@ -74,7 +73,7 @@ pub fn serve_file<S: Start, R: Read, W: Write>(
         (W.contents writer.old) (W.contents writer.new))
         result (W.contents writer.old) (W.contents writer.new) }
     ensures files { Opens [] path.now (fault_of result.result) result.disk
-        (paths_of host.old) (paths_of host.new) }
+        (M.System.calls host.old.system) (M.System.calls host.new.system) }
 {
     match host.disk(path, start) {
         Ok(disk) => {

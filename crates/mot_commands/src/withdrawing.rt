@@ -9,13 +9,12 @@ ghost use Rattle.mot_commands.specs.Asking.{Comes, TakesTill, Withdraws, Withdra
 ghost use Rattle.mot_commands.specs.Asking.{withdraw_line};
 ghost use Rattle.mot_commands.specs.Commands.{WithdrawsFile};
 ghost use Rattle.mot_commands.specs.Putting.{texts};
-ghost use Rattle.mot_endpoints.specs.Opened.{paths_of};
 
 use crate::answering::answer;
 use crate::finishing::finish;
 use disk_model::Disk;
 use disk_store::Start;
-use mot_endpoints::Host;
+use mot_endpoints::{Host, Machine};
 use mot_numbers::Refusal;
 use mot_outcome::Finished;
 use mot_playout::Server;
@@ -25,8 +24,8 @@ use std::io::Write;
 
 /// Withdraws the objects of these names from the disk of the file at the path, one after the other,
 /// and prints the replies; whether each was withdrawn.
-pub fn withdraw_file<S: Start, W: Write>(
-    host: &mut Host<'_>,
+pub fn withdraw_file<S: Start, W: Write, M: Machine<File = S::File> + Drop>(
+    host: &mut Host<M>,
     alloc: Global,
     path: &str,
     names: &[&str],
@@ -37,7 +36,7 @@ pub fn withdraw_file<S: Start, W: Write>(
         (texts names.now) all ending used (W.contents writer.old) (W.contents writer.new))
         result (W.contents writer.old) (W.contents writer.new) }
     ensures files { Opens [] path.now (fault_of result.result) result.disk
-        (paths_of host.old) (paths_of host.new) }
+        (M.System.calls host.old.system) (M.System.calls host.new.system) }
 {
     match host.disk(path, start) {
         Ok(disk) => {

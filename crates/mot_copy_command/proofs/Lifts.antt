@@ -1,7 +1,7 @@
 -- What is known of an open repository is told of the disk that it was opened of.
 use Rattle.std.proofs.Common.{◌≡◌, ◌++◌, ◌∷◌, [], ℕ, Bool, false, true, List, Option, None, Some, inl, inr, refl}
 use Rattle.std.proofs.Common.{subst}
-use Rattle.std.specs.Prelude.{IfSome, IsSome, codes}
+use Rattle.std.specs.Prelude.{IfSome, IsSome, Result}
 use Rattle.clap.specs.Words.{Text}
 use Rattle.disk_model.specs.Disk.{OnlyReads, OnlySyncs, State}
 use Rattle.disk_store.proofs.Laws.{second_of}
@@ -13,18 +13,17 @@ use Rattle.disk_store.specs.declared.file.SecondDisk.{SecondDisk}
 use Rattle.disk_store.specs.declared.file.start.Start.{Ghosts}
 use Rattle.mot_cli.specs.Options.{geometry_over}
 use Rattle.mot_cli.specs.declared.options.Options.{Options}
-use Rattle.mot_copy_command.specs.Command.{ComesToCopy, CopiesTo, IsRefused, LooksAtCopy, MakesCopy}
-use Rattle.mot_copy_command.specs.Command.ComesToCopy.{opened}
-use Rattle.mot_copy_command.specs.Command.MakesCopy.{made as copy_made, removed as copy_removed}
+use Rattle.mot_copy_command.specs.Command.{CopiesTo, IsRefused, MakesCopy, OpensOrMakesCopy}
+use Rattle.mot_copy_command.specs.Command.OpensOrMakesCopy.{opened}
+use Rattle.mot_copy_command.specs.Command.MakesCopy.{made as copy_made, taken_away as copy_removed}
 use Rattle.mot_copy_command.specs.Command.IsUncopied.{no_file}
 use Rattle.mot_copy_command.specs.Copying.{Copies, TellsCopy}
 use Rattle.mot_copy_command.specs.Copying.TellsCopy.{made, refused}
 use Rattle.mot_copy_command.specs.Inner.{CopiesView, OfView}
 use Rattle.mot_copying.specs.Copied.{IsNotCopied}
-use Rattle.mot_devices.specs.Looking.{OnlyLooks}
-use Rattle.mot_devices.specs.Uses.{IsFree}
 use Rattle.mot_update.specs.Opening.{OfStanding}
-use Rattle.mot_files.specs.Call.{Call}
+use Rattle.mot_files.specs.Call.{Call, made_disk, opened_disk, removed}
+use Rattle.mot_files.specs.declared.system.Fault.{Fault}
 use Rattle.mot_journal.specs.Image.{Standing}
 use Rattle.mot_numbers.specs.Geometry.{IsValid, length_of}
 use Rattle.mot_numbers.specs.declared.geometry.Geometry.{Geometry}
@@ -35,8 +34,8 @@ use Rattle.mot_repository.specs.Opening.{IsOpened}
 use Rattle.mot_repository.specs.Repository.{Agrees, RepositoryView}
 
 -- what was copied, or not, keeps the disk as long as it was
-pub syncs_of : {S : Type 0} {origin : Ghosts S} (sizes : Options) (ids : Option ℕ)
-    (ending : Option Refusal) (to : Option (SecondDisk S origin)) (old new : Option (List ℕ))
+pub syncs_of : {S F : Type 0} {origin : Ghosts S F} (sizes : Options) (ids : Option ℕ)
+    (ending : Option Refusal) (to : Option (SecondDisk S F origin)) (old new : Option (List ℕ))
     (start now : State) → CopiesTo sizes ids ending to old new start now → OnlySyncs start now
 syncs_of sizes ids ending None old new start now copies = copies.0
 syncs_of sizes ids ending (Some disk) old new start now copies = copies.0
@@ -81,8 +80,8 @@ module _ (start mid now : State) (view : RepositoryView) (opens : OnlySyncs star
       }
 
       -- so what was copied of the repository was copied of the disk
-      pub copies_to : {S : Type 0} {origin : Ghosts S} (sizes : Options)
-          (to : Option (SecondDisk S origin)) → IsValid g
+      pub copies_to : {S F : Type 0} {origin : Ghosts S F} (sizes : Options)
+          (to : Option (SecondDisk S F origin)) → IsValid g
           → geometry_over view.journal.geometry sizes ≡ Some g
           → CopiesView view g ids ending to old new mid now
           → CopiesTo sizes ids ending to old new start now
@@ -117,11 +116,11 @@ abbrev pub Known : RepositoryView → Geometry → Option ℕ → Option Refusal
 Known view g ids ending old new mid now first last = Copies (OfView view mid now) mid.failures
     now.failures g ids ending old new first last
 
-module _ {S : Type 0} {origin : Ghosts S} {T : Type 0} {other : Ghosts T} (view : RepositoryView)
+module _ {S F T : Type 0} {origin : Ghosts S F} {other : Ghosts T F} (view : RepositoryView)
     (g : Geometry) (ids : Option ℕ) (ending : Option Refusal) (old new : Option (List ℕ))
-    (mid now : State) (disk : FileDiskFrom T other) (bytes : other.bytes ≡ origin.others) where
+    (mid now : State) (disk : FileDiskFrom T F other) (bytes : other.bytes ≡ origin.others) where
   -- the disk that was copied to, as it is handed out
-  pub opened_view : (second : Option (SecondDisk S origin)) → IsSome second
+  pub opened_view : (second : Option (SecondDisk S F origin)) → IsSome second
       → IfSome second (λ s. (s.file ≡ disk.file) × (s.failures ≡ disk.failures)
       × (s.calls ≡ disk.calls))
       → SinceOpened (Known view g ids ending old new mid now) disk → CopiesView view g ids ending second old new mid now
@@ -130,7 +129,7 @@ module _ {S : Type 0} {origin : Ghosts S} {T : Type 0} {other : Ghosts T} (view 
       inl (second_of disk second bytes same.0 same.1 same.2
       (λ b calls state. IsSinceOpened b (Known view g ids ending old new mid now) calls state) since)
 
-  pub made_view : (second : Option (SecondDisk S origin)) → IsSome second
+  pub made_view : (second : Option (SecondDisk S F origin)) → IsSome second
       → IfSome second (λ s. (s.file ≡ disk.file) × (s.failures ≡ disk.failures)
       × (s.calls ≡ disk.calls))
       → SinceMade (length_of g) (Known view g ids ending old new mid now) disk → CopiesView view g ids ending second old new mid now
@@ -140,46 +139,41 @@ module _ {S : Type 0} {origin : Ghosts S} {T : Type 0} {other : Ghosts T} (view 
       (λ b calls state. IsSinceMade b (length_of g) (Known view g ids ending old new mid now) calls state) since)
 
   -- the file that was made, or was there
-  pub second_begun : (is_new : Bool) (second : SecondDisk S origin) → second.file ≡ disk.file
+  pub second_begun : (is_new : Bool) (second : SecondDisk S F origin) → second.file ≡ disk.file
       → second.failures ≡ disk.failures → second.calls ≡ disk.calls → HasFirstCalls is_new disk
       → HasSecondCalls is_new second
   second_begun is_new second file failures calls begun =
       second_of disk second bytes file failures calls
       (λ b calls state. HasBegun b is_new calls state) begun
 
-  -- the paths that were come to for it
-  pub comes_removed : (path : Text) (second : Option (SecondDisk S origin)) → IsSome second
+  -- a new file that was of no use was removed
+  pub comes_removed : (path : Text) (answer : Result (Unit {0}) Fault)
+      (second : Option (SecondDisk S F origin)) → IsSome second
       → IfSome second (λ s. (s.file ≡ disk.file) × (s.failures ≡ disk.failures)
       × (s.calls ≡ disk.calls)) → IsRefused ending → HasFirstCalls true disk
-      → (before after : List (Text × Text))
-      → after ≡ before ++ (codes "disk", path) ∷ (codes "removed", path) ∷ []
+      → (before after : List Call)
+      → after ≡ before ++ made_disk path true ∷ removed path answer ∷ []
       → MakesCopy ending path second before after
-  comes_removed path None some same refusal begun before after is = absurd (cc)
-  comes_removed path (Some second) some same refusal begun before after is =
-      copy_removed (second_begun true second same.0 same.1 same.2 begun) refusal is
+  comes_removed path answer None some same refusal begun before after is = absurd (cc)
+  comes_removed path answer (Some second) some same refusal begun before after is =
+      copy_removed answer (second_begun true second same.0 same.1 same.2 begun) refusal is
 
   -- one that was made and copied to stays
-  pub comes_copied : (path : Text) (second : Option (SecondDisk S origin)) → IsSome second
+  pub comes_copied : (path : Text) (second : Option (SecondDisk S F origin)) → IsSome second
       → IfSome second (λ s. (s.file ≡ disk.file) × (s.failures ≡ disk.failures)
       × (s.calls ≡ disk.calls)) → (IsRefused ending → ⊥) → HasFirstCalls true disk
-      → (before after : List (Text × Text)) → after ≡ before ++ (codes "disk", path) ∷ []
+      → (before after : List Call) → after ≡ before ++ made_disk path true ∷ []
       → MakesCopy ending path second before after
   comes_copied path None some same copied begun before after is = absurd (cc)
   comes_copied path (Some second) some same copied begun before after is =
       copy_made (second_begun true second same.0 same.1 same.2 begun) copied is
 
   -- one that was there stays
-  pub comes_kept : (path : Text) (second : Option (SecondDisk S origin)) → IsSome second
+  pub comes_kept : (path : Text) (second : Option (SecondDisk S F origin)) → IsSome second
       → IfSome second (λ s. (s.file ≡ disk.file) × (s.failures ≡ disk.failures)
-      × (s.calls ≡ disk.calls)) → HasFirstCalls false disk → (before after : List (Text × Text))
-      → after ≡ before ++ (codes "disk", path) ∷ [] → ComesToCopy ending path second before after
+      × (s.calls ≡ disk.calls)) → HasFirstCalls false disk → (before after : List Call)
+      → after ≡ before ++ opened_disk path true ∷ []
+      → OpensOrMakesCopy ending path second before after
   comes_kept path None some same begun before after is = absurd (cc)
   comes_kept path (Some second) some same begun before after is =
       opened (second_begun false second same.0 same.1 same.2 begun) is
-
--- what the system was asked for it
-pub looks_at : {S : Type 0} {origin : Ghosts S} (path : Text) (second : Option (SecondDisk S origin))
-    (before after : List Call) → OnlyLooks before after → IsFree path before after
-    → LooksAtCopy path second before after
-looks_at path None before after looks free = looks
-looks_at path (Some second) before after looks free = (looks, free)

@@ -1,5 +1,5 @@
 -- What the command `copy` does.
-use Rattle.std.specs.Prelude.{◌≡◌, ◌≢◌, ◌⊎◌, ℕ, true, List, [], ◌∷◌, ◌++◌, Option, Some, None, codes, false}
+use Rattle.std.specs.Prelude.{◌≡◌, ◌≢◌, ◌⊎◌, ℕ, true, List, [], ◌∷◌, ◌++◌, Option, Some, None, Result, false}
 use Rattle.std.specs.Prelude.{IsSomeAnd}
 use Rattle.std.specs.Io.KnownBytes.{Keeps}
 use Rattle.clap.specs.Words.{Text}
@@ -12,10 +12,11 @@ use Rattle.mot_cli.specs.Options.{geometry_over}
 use Rattle.mot_cli.specs.declared.options.Options.{Options}
 use Rattle.mot_copy_command.specs.Copying.{Copies}
 use Rattle.mot_devices.specs.Looking.{OnlyLooks}
-use Rattle.mot_devices.specs.Uses.{IsFree}
+use Rattle.mot_devices.specs.Uses.{IsFree, IsUsed}
+use Rattle.mot_devices.specs.declared.device_use.DeviceUse.{DeviceUse}
 use Rattle.mot_update.specs.Opening.{IsUnopened, OfStanding}
-use Rattle.mot_endpoints.specs.Opened.{in_vain}
-use Rattle.mot_files.specs.Call.{Call}
+use Rattle.mot_files.specs.Call.{Call, made_disk, opened_disk, removed}
+use Rattle.mot_files.specs.declared.system.Fault.{Fault}
 use Rattle.mot_numbers.specs.Geometry.{IsValid, length_of}
 use Rattle.mot_numbers.specs.declared.geometry.Geometry.{Geometry}
 use Rattle.mot_numbers.specs.declared.refusal.Refusal.{Refusal}
@@ -42,10 +43,10 @@ abbrev pub IsRefused : Option Refusal → Type 0
 IsRefused ending = (refusal : Refusal) × (ending ≡ Some refusal) × (refusal ≢ WriteFault)
 
 -- the disk of the copy is the second of two files
-module _ {S : Type 0} {start : Ghosts S} where
+module _ {S F : Type 0} {start : Ghosts S F} where
   -- the disk was only synced and read, and copied to this one; or there is none, for such a reason
   abbrev pub CopiesTo : Options → (ids : Option ℕ) → Option Refusal
-      → Option (SecondDisk S start) → (old new : Option (List ℕ)) → (start now : State) → Type 0
+      → Option (SecondDisk S F start) → (old new : Option (List ℕ)) → (start now : State) → Type 0
   CopiesTo sizes ids ending None old new start now =
       OnlySyncs start now × Keeps old new
       × ((refusal : Refusal) × (ending ≡ Some refusal) × IsUncopied sizes refusal start now)
@@ -57,49 +58,47 @@ module _ {S : Type 0} {start : Ghosts S} where
       ⊎ SinceSecondMade (length_of g) (Copies (λ P. OfStanding P start now) start.failures now.failures g
       ids ending old new) disk))
 
-  -- A new file is made for the copy, or that is tried in vain. It is removed again exactly if the
-  -- copying was refused.
-  pub data MakesCopy (ending : Option Refusal) (path : Text) (copy : Option (SecondDisk S start))
-      (before after : List (Text × Text)) : Type 0 where
-    unmade : copy ≡ None → ending ≡ Some DeviceFault
-        → after ≡ before ++ in_vain (codes "disk") path ∷ []
-        → MakesCopy ending path copy before after
+  -- By these calls a new file is made for the copy, or that is tried in vain. It is removed again
+  -- exactly if the copying was refused.
+  pub data MakesCopy (ending : Option Refusal) (path : Text) (copy : Option (SecondDisk S F start))
+      (old new : List Call) : Type 0 where
+    unmade : copy ≡ None → ending ≡ Some DeviceFault → new ≡ old ++ made_disk path false ∷ []
+        → MakesCopy ending path copy old new
     made : IsSomeAnd copy (HasSecondCalls true) → (IsRefused ending → ⊥)
-        → after ≡ before ++ (codes "disk", path) ∷ [] → MakesCopy ending path copy before after
-    removed : IsSomeAnd copy (HasSecondCalls true) → IsRefused ending
-        → after ≡ before ++ (codes "disk", path) ∷ (codes "removed", path) ∷ []
-        → MakesCopy ending path copy before after
+        → new ≡ old ++ made_disk path true ∷ [] → MakesCopy ending path copy old new
+    taken_away : (answer : Result (Unit {0}) Fault) → IsSomeAnd copy (HasSecondCalls true)
+        → IsRefused ending → new ≡ old ++ made_disk path true ∷ removed path answer ∷ []
+        → MakesCopy ending path copy old new
 
   -- the file of the copy is opened, and stays; or that is tried in vain, and only then it is made
-  pub data ComesToCopy (ending : Option Refusal) (path : Text)
-      (copy : Option (SecondDisk S start)) (before after : List (Text × Text)) : Type 0 where
-    unbegun : copy ≡ None → after ≡ before → ComesToCopy ending path copy before after
-    opened : IsSomeAnd copy (HasSecondCalls false) → after ≡ before ++ (codes "disk", path) ∷ []
-        → ComesToCopy ending path copy before after
-    unopened : MakesCopy ending path copy (before ++ in_vain (codes "disk") path ∷ []) after
-        → ComesToCopy ending path copy before after
+  pub data OpensOrMakesCopy (ending : Option Refusal) (path : Text)
+      (copy : Option (SecondDisk S F start)) (old new : List Call) : Type 0 where
+    opened : IsSomeAnd copy (HasSecondCalls false) → new ≡ old ++ opened_disk path true ∷ []
+        → OpensOrMakesCopy ending path copy old new
+    unopened : MakesCopy ending path copy (old ++ opened_disk path false ∷ []) new
+        → OpensOrMakesCopy ending path copy old new
 
-  -- the system was only looked at, and the path was found free if it was opened or made
-  abbrev pub LooksAtCopy : Text → Option (SecondDisk S start) → (old new : List Call) → Type 0
-  LooksAtCopy path None old new = OnlyLooks old new
-  LooksAtCopy path (Some disk) old new = OnlyLooks old new × IsFree path old new
+  -- Its path is looked at, by which nothing is changed: only if it is free, the file is opened or made.
+  pub data ComesToCopy (ending : Option Refusal) (path : Text)
+      (copy : Option (SecondDisk S F start)) (old new : List Call) : Type 0 where
+    unasked : copy ≡ None → new ≡ old → ComesToCopy ending path copy old new
+    in_use : (found : DeviceUse) → copy ≡ None → ending ≡ Some DeviceFault
+        → IsUsed path found old new → OnlyLooks old new → ComesToCopy ending path copy old new
+    free : (looked : List Call) → OnlyLooks old looked → IsFree path old looked
+        → OpensOrMakesCopy ending path copy looked new → ComesToCopy ending path copy old new
 
   -- a file was opened, and its disk copied
-  abbrev pub CopiesFile : Options → (ids : Option ℕ) → Option Refusal → UsedDisk S start
+  abbrev pub CopiesFile : Options → (ids : Option ℕ) → Option Refusal → UsedDisk S F start
       → (old new : Option (List ℕ)) → Type 0
   CopiesFile sizes ids ending (OfCopy from to) old new =
       SinceOpened (CopiesTo sizes ids ending to old new) from
   CopiesFile sizes ids ending used old new = ⊥
 
-  -- the files that it comes to, which these paths name
-  abbrev pub OpensTwo : Option Refusal → (path new : Text) → UsedDisk S start
-      → (before after : List (Text × Text)) → Type 0
-  OpensTwo ending path new (OfCopy from to) before after =
-      ComesToCopy ending new to (before ++ (codes "disk", path) ∷ []) after
-  OpensTwo ending path new (Untouched value) before after = (ending ≡ Some DeviceFault)
-      × (after ≡ before ++ in_vain (codes "disk") path ∷ [])
-  OpensTwo ending path new used before after = ⊥
-
-  abbrev pub LooksAtNew : (new : Text) → UsedDisk S start → (before after : List Call) → Type 0
-  LooksAtNew new (OfCopy from to) before after = LooksAtCopy new to before after
-  LooksAtNew new used before after = OnlyLooks before after
+  -- which calls it makes of its host: the disk is opened, and then that of the copy
+  abbrev pub OpensTwo : Option Refusal → (path copy : Text) → UsedDisk S F start
+      → (old new : List Call) → Type 0
+  OpensTwo ending path copy (OfCopy from to) old new =
+      ComesToCopy ending copy to (old ++ opened_disk path true ∷ []) new
+  OpensTwo ending path copy (Untouched value) old new = (ending ≡ Some DeviceFault)
+      × (new ≡ old ++ opened_disk path false ∷ [])
+  OpensTwo ending path copy used old new = ⊥

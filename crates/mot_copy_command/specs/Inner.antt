@@ -17,11 +17,11 @@ use Rattle.mot_repository.specs.Repository.{HasStanding, RepositoryView}
 abbrev pub OfView : RepositoryView → (start now : State) → (Standing → Type 0) → Type 0
 OfView view start now P = (s : Standing) → HasStanding view s start → now.IsHonest → P s
 
-module _ {S : Type 0} {start : Ghosts S} where
+module _ {S F : Type 0} {start : Ghosts S F} where
   -- an open repository, whose disk was in a state start and is in a state now, was copied to this
   -- disk, or to none
   abbrev pub CopiesView : RepositoryView → Geometry → (ids : Option ℕ) → Option Refusal
-      → Option (SecondDisk S start) → (old new : Option (List ℕ)) → (start now : State) → Type 0
+      → Option (SecondDisk S F start) → (old new : Option (List ℕ)) → (start now : State) → Type 0
   CopiesView view g ids ending None old new start now =
       Keeps old new × (ending ≡ Some DeviceFault)
   CopiesView view g ids ending (Some disk) old new start now =

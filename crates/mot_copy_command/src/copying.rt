@@ -6,10 +6,9 @@ ghost use Rattle.disk_store.specs.File.{file_state};
 ghost use Rattle.disk_store.specs.Second.{IsLeftOf};
 ghost use Rattle.mot_cli.specs.Options.{geometry_over};
 ghost use Rattle.mot_copy_command.specs.Command.{ComesToCopy, CopiesFile, CopiesTo, IsRefused};
-ghost use Rattle.mot_copy_command.specs.Command.{LooksAtCopy, LooksAtNew, MakesCopy, OpensTwo};
+ghost use Rattle.mot_copy_command.specs.Command.{MakesCopy, OpensOrMakesCopy, OpensTwo};
 ghost use Rattle.mot_copy_command.specs.Copying.{Copies, refusal_of};
 ghost use Rattle.mot_copy_command.specs.Inner.{CopiesView, OfView};
-ghost use Rattle.mot_endpoints.specs.Opened.{paths_of};
 ghost use Rattle.mot_numbers.specs.Geometry.{IsValid};
 ghost use Rattle.mot_numbers.specs.declared.geometry.Geometry.{Geometry as GeometryOf};
 ghost use Rattle.mot_numbers.specs.declared.refusal.Refusal.TheVariants.{DeviceFault};
@@ -23,8 +22,7 @@ use mot_cli::CopyTask;
 use mot_copying::{NotCopied, copy};
 use mot_destinations::{Cause, NewDiskFault};
 use mot_devices::use_of;
-use mot_endpoints::Host;
-use mot_files::System;
+use mot_endpoints::{Host, Machine};
 use mot_journal::Reason;
 use mot_numbers::{Geometry, Refusal, TransportId};
 use mot_outcome::{Finished, UsedDisk, clear_unfit, write_number};
@@ -44,9 +42,8 @@ type Copying<S> = (
 /// Copies the disk of a file to that of another, which is opened, or made if it can't be, and removed
 /// again if nothing was copied to it. That is not done for sizes that no disk has, or if it is a
 /// device in use or a file of another disk. Prints how many bytes the copy has.
-pub fn copy_file<Y: System, S: Start, W: Write>(
-    host: &mut Host<'_>,
-    system: &mut Y,
+pub fn copy_file<S: Start, W: Write, M: Machine<File = S::File> + Drop>(
+    host: &mut Host<M>,
     alloc: Global,
     task: &CopyTask<'_>,
     start: S,
@@ -57,16 +54,14 @@ pub fn copy_file<Y: System, S: Start, W: Write>(
         (W.contents writer.old) (W.contents writer.new))
         result (W.contents writer.old) (W.contents writer.new) }
     ensures files { OpensTwo (fault_of result.result) task.now.disk.now task.now.new.now result.disk
-        (paths_of host.old) (paths_of host.new) }
-    ensures looked { LooksAtNew task.now.new.now result.disk
-        (Y.calls system.old) (Y.calls system.new) }
+        (M.System.calls host.old.system) (M.System.calls host.new.system) }
 {
     let (start, second) = with_second(start);
     let disk = match host.disk(task.disk, start) {
         Ok(disk) => disk,
         Err(unopened) => return Finished::unopened(unopened),
     };
-    let (ended, to, cause) = copy_disk(host, system, alloc, task, disk, second, writer);
+    let (ended, to, cause) = copy_disk(host, alloc, task, disk, second, writer);
     Finished {
         result: ended.result,
         disk: UsedDisk::OfCopy(ended.disk.disk, to),
@@ -76,9 +71,8 @@ pub fn copy_file<Y: System, S: Start, W: Write>(
 }
 
 /// Copies a disk that is open.
-fn copy_disk<Y: System, S: Start, W: Write>(
-    host: &mut Host<'_>,
-    system: &mut Y,
+fn copy_disk<S: Start, W: Write, M: Machine<File = S::File> + Drop>(
+    host: &mut Host<M>,
     alloc: Global,
     task: &CopyTask<'_>,
     disk: BegunFile<S, WasThere>,
@@ -89,9 +83,7 @@ fn copy_disk<Y: System, S: Start, W: Write>(
         (W.contents writer.old) (W.contents writer.new)
         (file_state disk.disk) (file_state result.0.disk.disk) }
     ensures files { ComesToCopy (fault_of result.0.result) task.now.new.now result.1
-        (paths_of host.old) (paths_of host.new) }
-    ensures looked { LooksAtCopy task.now.new.now result.1
-        (Y.calls system.old) (Y.calls system.new) }
+        (M.System.calls host.old.system) (M.System.calls host.new.system) }
 {
     let repository = match Repository::open(alloc, disk) {
         Ok(repository) => repository,
@@ -103,7 +95,7 @@ fn copy_disk<Y: System, S: Start, W: Write>(
     let Some(geometry) = valid_sizes(task, repository.geometry()) else {
         return uncopied(repository.into_disk(), Refusal::BadGeometry, None, None);
     };
-    if let Some(found) = use_of(system, alloc, task.new) {
+    if let Some(found) = use_of(&mut host.system, alloc, task.new) {
         let cause = Cause::NewDisk(NewDiskFault::from(found));
         return uncopied(
             repository.into_disk(),
@@ -147,8 +139,8 @@ fn uncopied<S: Start>(
 }
 
 /// Copies an open disk to that of the file at the path of the task, which is opened or made.
-fn copy_open<S: Start, W: Write>(
-    host: &mut Host<'_>,
+fn copy_open<S: Start, W: Write, M: Machine<File = S::File> + Drop>(
+    host: &mut Host<M>,
     alloc: Global,
     mut repository: Repository<BegunFile<S, WasThere>>,
     geometry: &Geometry,
@@ -162,8 +154,8 @@ fn copy_open<S: Start, W: Write>(
     ensures ended { CopiesView repository.view geometry.now task.now.after
         (fault_of result.0.result) result.1 (W.contents writer.old) (W.contents writer.new)
         (file_state repository.disk.disk) (file_state result.0.disk.disk) }
-    ensures files { ComesToCopy (fault_of result.0.result) task.now.new.now result.1
-        (paths_of host.old) (paths_of host.new) }
+    ensures files { OpensOrMakesCopy (fault_of result.0.result) task.now.new.now result.1
+        (M.System.calls host.old.system) (M.System.calls host.new.system) }
 {
     match host.disk(task.new, second) {
         Ok(mut to) => {
@@ -185,8 +177,8 @@ fn copy_open<S: Start, W: Write>(
 }
 
 /// Copies an open disk to that of a new file. If nothing was copied, it is removed.
-fn copy_to_new<S: Start, W: Write>(
-    host: &mut Host<'_>,
+fn copy_to_new<S: Start, W: Write, M: Machine<File = S::File> + Drop>(
+    host: &mut Host<M>,
     alloc: Global,
     mut repository: Repository<BegunFile<S, WasThere>>,
     geometry: &Geometry,
@@ -201,7 +193,7 @@ fn copy_to_new<S: Start, W: Write>(
         (fault_of result.0.result) result.1 (W.contents writer.old) (W.contents writer.new)
         (file_state repository.disk.disk) (file_state result.0.disk.disk) }
     ensures files { MakesCopy (fault_of result.0.result) task.now.new.now result.1
-        (paths_of host.old) (paths_of host.new) }
+        (M.System.calls host.old.system) (M.System.calls host.new.system) }
 {
     let mut to = match host.make_disk(task.new, geometry.length(), unopened.start) {
         Ok(to) => to,

@@ -3,7 +3,8 @@ use Rattle.std.proofs.Common.{◌≡◌, ◌∙◌, List, [], ◌∷◌, ◌++�
 use Rattle.std.proofs.lemmas.List.Elements.{All-append, All-cons, All-nil}
 use Rattle.std.proofs.Common.{Err, IfErr, IfNone, IfOk, IfSome, IsErrAnd, None, Ok, OnOk, Option, Result}
 use Rattle.std.proofs.Common.{Some, if◌then◌else◌, is_ok}
-use Rattle.mot_devices.specs.Looking.{OnlyLooks, Within, changes_nothing}
+use Rattle.mot_devices.specs.Looking.{OnlyLooks, Within}
+use Rattle.mot_files.specs.Looking.{changes_nothing}
 use Rattle.mot_files.specs.Call.{Call}
 
 pub looks_none : (a : List Call) → OnlyLooks a a

@@ -3,34 +3,12 @@
 use Rattle.std.specs.Prelude.{◌≡◌, ◌≤◌, ℕ, Bool, true, false, List, [], ◌∷◌, ◌++◌, Ok, Err}
 use Rattle.std.specs.Prelude.{All, length}
 use Rattle.mot_files.specs.Call.{Call, closed, failed_read, opened, read_of}
+use Rattle.mot_files.specs.Looking.{changes_nothing}
 use Rattle.mot_files.specs.Reading.{joined, reads}
-use Rattle.mot_files.specs.declared.system.Event.{Event}
-use Rattle.mot_files.specs.declared.system.Event.TheVariants.{Locked}
-use Rattle.mot_files.specs.declared.system.Event.TheVariants.{Opened, Removed, Renamed}
-use Rattle.mot_files.specs.declared.system.Event.TheVariants.{Synced, Wrote}
 use Rattle.mot_files.specs.declared.system.Fault.{Fault}
 use Rattle.mot_files.specs.declared.system.Handle.{Handle}
 use Rattle.mot_files.specs.declared.system.How.{How}
-use Rattle.mot_files.specs.declared.system.How.TheVariants as how
 use Rattle.mot_devices.specs.declared.tables.TheConstants.{MOST_OF_TABLE}
-
--- what is there is opened to be read, or as a folder
-abbrev pub reads_only : How → Bool
-reads_only how.Read = true
-reads_only how.New = false
-reads_only how.Stream = false
-reads_only how.Folder = true
-reads_only how.Output = false
-
--- the call changes nothing: no file is made, written, locked, renamed or removed by it
-abbrev pub changes_nothing : Event → Bool
-changes_nothing (Opened way answer) = reads_only way
-changes_nothing (Wrote handle answer) = false
-changes_nothing (Locked handle answer) = false
-changes_nothing (Synced handle answer) = false
-changes_nothing (Renamed answer) = false
-changes_nothing (Removed answer) = false
-changes_nothing event = true
 
 -- no call changed anything
 pub record OnlyLooks (old new : List Call) : Type 0 where

@@ -7,7 +7,8 @@ ghost use Rattle.mot_devices.specs.Inner.Reading.{IsFailed, IsRefusedRead, IsUnr
 ghost use Rattle.mot_devices.specs.declared.reading.NotRead.TheVariants.{NoMemory};
 ghost use Rattle.std.specs.IoError.{error_kind};
 ghost use Rattle.std.specs.declared.io.ErrorKind.TheVariants.{OutOfMemory};
-ghost use Rattle.mot_devices.specs.Looking.{OnlyLooks, WasRead, reads_only};
+ghost use Rattle.mot_devices.specs.Looking.{OnlyLooks, WasRead};
+ghost use Rattle.mot_files.specs.Looking.{reads_only};
 
 use mot_files::{Fault, Handle, How, System};
 use std::alloc::{AllocError, Global};

@@ -5,7 +5,8 @@ ghost use Rattle.std.specs.Prelude.{◌≡◌, IfOk, OnOk, option_map, take, tru
 ghost use Rattle.mot_files.specs.Listing.{path_in};
 ghost use Rattle.mot_files.specs.declared.system.How.TheVariants as How;
 ghost use Rattle.mot_devices.specs.Inner.Uses.{TellsHolder};
-ghost use Rattle.mot_devices.specs.Looking.{IsTold, OnlyLooks, reads_only};
+ghost use Rattle.mot_devices.specs.Looking.{IsTold, OnlyLooks};
+ghost use Rattle.mot_files.specs.Looking.{reads_only};
 ghost use Rattle.mot_devices.specs.Number.{number_text};
 ghost use Rattle.mot_devices.specs.Parts.{parts_of};
 ghost use Rattle.mot_devices.specs.Tables.{AddPartitions, AddsPartition, AreSwapLines};

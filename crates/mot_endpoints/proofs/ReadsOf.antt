@@ -5,7 +5,7 @@ use Rattle.std.proofs.Math.Seq.{take-append-add}
 use lib.Seq.{length-take-le, take-append-le, take-take}
 use Rattle.std.proofs.lemmas.Slice.{take-put_mid}
 use borrow.Rule.Slice.PartMut.{put_mid}
-use Rattle.mot_endpoints.specs.Inner.Texts.{IsReadToEnd}
+use Rattle.mot_endpoints.specs.Texts.{IsReadToEnd}
 use Rattle.mot_files.specs.Call.{Call, read_of}
 use Rattle.mot_files.specs.Reading.{joined, reads}
 use Rattle.mot_files.specs.declared.system.Handle.{Handle}

@@ -3,3 +3,4 @@ pub mod LinePlaces
 pub mod Lines
 pub mod Opened
 pub mod Types
+pub mod Texts

@@ -1,34 +1,58 @@
--- What a host came to, in order: as what, and by which path; and what it tried in vain to come to.
-use Rattle.std.specs.Prelude.{ℕ, ◌≡◌, List, [], ◌∷◌, ◌++◌, Option, Some, None, Result, Ok, Err, codes}
-use Rattle.std.specs.Prelude.{Bool, true, false, bytes_eq, if◌then◌else◌}
+-- What a command asks for before its disk is opened, by the calls of its host.
+use Rattle.std.specs.Prelude.{ℕ, ◌≡◌, List, [], ◌∷◌, ◌++◌, Option, Some, None, Err}
+use Rattle.std.specs.Prelude.{Bool, true, false}
 use Rattle.std.specs.Borrow.{Bor}
-use Rattle.mot_endpoints.specs.declared.host.Host.{Host}
+use Rattle.mot_destinations.specs.Packets.{OpensPackets}
+use Rattle.mot_destinations.specs.declared.fault.Cause.{Cause}
+use Rattle.mot_destinations.specs.declared.fault.LinesFault.{LinesFault}
+use Rattle.mot_endpoints.specs.LinePlaces.{ChecksLines}
+use Rattle.mot_endpoints.specs.Texts.{AsksFirst, IsTextOf}
+use Rattle.mot_endpoints.specs.declared.lines.Others.{Others}
+use Rattle.mot_files.specs.Call.{Call, apart}
+use Rattle.mot_files.specs.declared.system.Part.TheVariants as Part
 use Rattle.mot_numbers.specs.declared.refusal.Refusal.{Refusal}
 use Rattle.mot_numbers.specs.declared.refusal.Refusal.TheVariants.{DeviceFault, ReadFault, WriteFault}
 
--- what it came to so far
-abbrev pub paths_of : Host → List (List ℕ × List ℕ)
-paths_of host = host.paths.all
+-- such calls of a system of its own were taken into the log
+abbrev pub TakesIn : (List Call → Type 0) → (old new : List Call) → Type 0
+TakesIn P old new = (calls : List Call) × P calls × (new ≡ old ++ calls)
 
--- the path that is given for such a thing, if one is
-abbrev pub named : (kind : List ℕ) → Option (Bor (List ℕ)) → List (List ℕ × List ℕ)
-named kind None = []
-named kind (Some path) = (kind, path.now) ∷ []
+-- What is asked for: the file that adds suffixes is read, and a folder of lines, one of objects, a
+-- status, or what takes packets, is given to a system of its own.
+pub data Need : Type 0 where
+  types : (path : List ℕ) → Need
+  lines : (path : List ℕ) → Others → Need
+  folder : (path : List ℕ) → Need
+  status : (path : List ℕ) → Need
+  packets : (path disk : List ℕ) → (turns : Option ℕ) → Need
 
--- that it tried in vain to come to such a thing, by this path
-abbrev pub in_vain : (kind path : List ℕ) → List ℕ × List ℕ
-in_vain kind path = (codes "no " ++ kind, path)
+-- it was there
+abbrev pub IsMet : Need → (old new : List Call) → Type 0
+IsMet (types path) old new = (text : List ℕ) × IsTextOf path text old new
+IsMet (lines path others) old new = new ≡ old ++ apart Part.Lines path ∷ []
+IsMet (folder path) old new = new ≡ old ++ apart Part.Folder path ∷ []
+IsMet (status path) old new = new ≡ old ++ apart Part.Status path ∷ []
+IsMet (packets path disk turns) old new = new ≡ old ++ apart Part.Packets path ∷ []
 
--- which of both is noted, by what was answered
-abbrev pub note_of : {A E : Type 0} → (kind path : List ℕ) → Result A E → List ℕ × List ℕ
-note_of kind path (Ok value) = (kind, path)
-note_of kind path (Err error) = in_vain kind path
+-- it was asked for in vain, by these calls, and refused so
+abbrev pub IsUnmet : Need → Refusal → (old new : List Call) → Type 0
+IsUnmet (types path) r old new = (r ≡ ReadFault) × AsksFirst path old new
+IsUnmet (lines path others) r old new = (r ≡ ReadFault) × ((fault : LinesFault)
+    × TakesIn (ChecksLines path others (Err fault) []) old new)
+IsUnmet (folder path) r old new = ⊥
+IsUnmet (status path) r old new = ⊥
+IsUnmet (packets path disk turns) r old new = (r ≡ WriteFault) × ((cause : Cause)
+    × TakesIn (OpensPackets path disk turns (Err cause) []) old new)
 
--- the refusal of a command that tried that in vain
-abbrev pub fault_for : (kind : List ℕ) → Refusal
-fault_for kind =
-    if bytes_eq kind (codes "disk") then DeviceFault
-    else (if bytes_eq kind (codes "packets") then WriteFault else ReadFault)
+-- each of these was there, one after the other
+abbrev pub AreMet : List Need → (old new : List Call) → Type 0
+AreMet [] old new = new ≡ old
+AreMet (first ∷ rest) old new = (then : List Call) × IsMet first old then × AreMet rest then new
+
+-- what is asked for by a path, if one is given
+abbrev pub if_given : (List ℕ → Need) → Option (Bor (List ℕ)) → List Need
+if_given need None = []
+if_given need (Some path) = need path.now ∷ []
 
 -- a refusal that is one of these
 abbrev pub is_fault : Refusal → Bool
@@ -37,12 +61,11 @@ is_fault ReadFault = true
 is_fault WriteFault = true
 is_fault refusal = false
 
--- Why no more of these was opened than a beginning: the next one was tried in vain, and the refusal
+-- Why no more of these was there than a beginning: the next one was asked for in vain, and the refusal
 -- says so; or it is another one.
-pub data BeginsTo (all : List (List ℕ × List ℕ)) (refusal : Refusal)
-    (before after : List (List ℕ × List ℕ)) : Type 0 where
-  vain : (first : List (List ℕ × List ℕ)) (kind path : List ℕ) (rest : List (List ℕ × List ℕ))
-      → first ++ (kind, path) ∷ rest ≡ all → refusal ≡ fault_for kind
-      → after ≡ before ++ (first ++ in_vain kind path ∷ []) → BeginsTo all refusal before after
-  unfit : (first rest : List (List ℕ × List ℕ)) → first ++ rest ≡ all → is_fault refusal ≡ false
-      → after ≡ before ++ first → BeginsTo all refusal before after
+pub data BeginsTo (all : List Need) (refusal : Refusal) (old new : List Call) : Type 0 where
+  vain : (first : List Need) (one : Need) (rest : List Need) (then : List Call)
+      → first ++ one ∷ rest ≡ all → AreMet first old then → IsUnmet one refusal then new
+      → BeginsTo all refusal old new
+  unfit : (first rest : List Need) → first ++ rest ≡ all → is_fault refusal ≡ false
+      → AreMet first old new → BeginsTo all refusal old new

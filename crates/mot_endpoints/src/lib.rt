@@ -4,9 +4,8 @@
 
 mod host;
 mod lines;
-mod pairs;
 mod types;
 
-pub use host::Host;
+pub use host::{Host, Machine};
 pub use lines::{Others, line_folder};
 pub use types::file_types;

@@ -1,18 +1,18 @@
 //! Which folder lines may come from while a disk is played.
-ghost use Rattle.std.specs.Prelude.{◌≡◌, ◌++◌, ◌↔◌, IfErr, IfOk, IfSome, IsTrue, MatchResult, Ok, codes};
+ghost use Rattle.std.specs.Prelude.{◌≡◌, ◌↔◌, IfErr, IfOk, IfSome, IsTrue, MatchResult, Ok};
 ghost use Rattle.std.specs.Prelude.{[], is_none, option_map, unwrap_or};
 ghost use Rattle.mot_endpoints.specs.LinePlaces.{ChecksLines, IsApart, IsApartFrom, IsObjects};
 ghost use Rattle.mot_endpoints.specs.LinePlaces.{IsRefused, IsUnresolved, LeadsInto, PacketsApart};
 ghost use Rattle.mot_endpoints.specs.LinePlaces.{StandsIn, TypesApart};
 ghost use Rattle.mot_endpoints.specs.Lines.{IsUnlined};
-ghost use Rattle.mot_endpoints.specs.Opened.{BeginsTo, named, paths_of};
-ghost use Rattle.mot_files.specs.Host.{calls_of};
+ghost use Rattle.mot_endpoints.specs.Opened.{AreMet, BeginsTo, if_given};
+ghost use Rattle.mot_endpoints.specs.Opened.Need.{lines as lines_at};
 ghost use Rattle.mot_files.specs.declared.system.Kind.TheVariants.{Folder};
 ghost use Rattle.mot_line_folder.specs.declared.folder.LineFolder.{LineFolder};
 
-use crate::host::Host;
+use crate::host::{Host, Machine};
 use mot_destinations::{Cause, LinesFault, OUTPUT, Unbegun, folder_of, leads_to};
-use mot_files::{Fault, HostSystem, Kind, Seen, System};
+use mot_files::{Fault, Kind, Seen, System};
 use mot_line_folder::LineFolder;
 use mot_lines::Hand;
 use std::alloc::Global;
@@ -40,13 +40,13 @@ pub struct Others<'a> {
 
 /// The folder at the path, if one is given, with room for a line. It is not that of the objects,
 /// and none of the other files stands in it.
-pub fn line_folder<'a>(
-    host: &mut Host<'a>,
+pub fn line_folder<'a, M: Machine + Drop>(
+    host: &mut Host<M>,
     alloc: Global,
     path: Option<&'a str>,
     every: Option<u32>,
     others: Others<'_>,
-) -> Result<Option<LineFolder<'a, HostSystem<'a, HostRuntime>>>, Unbegun>
+) -> Result<Option<LineFolder<'a, M::System>>, Unbegun>
     ensures given { IfOk result (λ lines. is_none lines ≡ is_none path.entry) }
     ensures folder { IfOk result
         (λ lines. option_map (λ lines. lines.place.path) lines ≡ path.entry) }
@@ -54,12 +54,13 @@ pub fn line_folder<'a>(
     ensures hand { IfOk result (λ lines. option_map (λ lines. lines.hand) lines
         ≡ option_map (λ _. []) path.entry) }
     ensures checked { IfOk result (λ lines. IfSome lines (λ l. ChecksLines l.place.path.now
-        others.entry (Ok tt) [] (calls_of l.place.system))) }
+        others.entry (Ok tt) [] (M.System.calls l.place.system))) }
     ensures refused { IfErr result (λ unbegun. IsUnlined path.entry unbegun.refusal) }
-    ensures opens { MatchResult result
-        (λ _. paths_of host.new ≡ paths_of host.old ++ named (codes "lines") path.entry)
-        (λ unbegun. BeginsTo (named (codes "lines") path.entry) unbegun.refusal
-        (paths_of host.old) (paths_of host.new)) }
+    ensures opens { let needs = if_given (λ path. lines_at path others.entry) path.entry in
+        MatchResult result
+        (λ _. AreMet needs (M.System.calls host.old.system) (M.System.calls host.new.system))
+        (λ unbegun. BeginsTo needs unbegun.refusal (M.System.calls host.old.system)
+        (M.System.calls host.new.system)) }
 {
     let Some(path) = path else {
         return Ok(None);

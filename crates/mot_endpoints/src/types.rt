@@ -1,14 +1,16 @@
 //! Which files of a folder are objects: the known suffixes, and those that a file adds.
 ghost use Rattle.std.specs.Prelude.{◌≡◌, ◌≤◌, ◌<◌, ◌+◌, ◌∷◌, ◌++◌, ℕ, List, []};
-ghost use Rattle.std.specs.Prelude.{IfErr, IfOk, MatchResult, Ok, codes, length, take};
-ghost use Rattle.mot_endpoints.specs.Opened.{BeginsTo, named, paths_of};
-ghost use Rattle.mot_endpoints.specs.Inner.Texts.{IsOpened, IsReadToEnd, IsTextOf};
+ghost use Rattle.std.specs.Prelude.{IfErr, IfOk, MatchResult, Ok, length, take};
+ghost use Rattle.mot_endpoints.specs.Opened.{AreMet, BeginsTo, if_given};
+ghost use Rattle.mot_endpoints.specs.Opened.Need.{types as types_at};
+ghost use Rattle.mot_endpoints.specs.Inner.{Extends};
+ghost use Rattle.mot_endpoints.specs.Texts.{AsksFirst, IsOpened, IsReadToEnd, IsTextOf};
 ghost use Rattle.mot_endpoints.specs.Types.{IsTyped, IsUntyped};
 ghost use Rattle.mot_files.specs.Call.{looked_at, read_of};
 ghost use Rattle.mot_files.specs.Reading.{IsSame};
 ghost use Rattle.mot_files.specs.declared.system.Seen.{Seen};
 
-use crate::host::Host;
+use crate::host::{Host, Machine};
 use mot_destinations::{Cause, TypesFault, Unbegun};
 use mot_files::{Fault, Handle, How, Seen, System, is_regular, is_same};
 use mot_numbers::Refusal;
@@ -20,17 +22,18 @@ const MOST: usize = 65_536;
 
 /// The known suffixes, and those that the file at the path adds, if one is given: `ReadFault` if it
 /// can't be read or has more than 65,536 bytes, and the refusals of its lines.
-pub fn file_types(
-    host: &mut Host<'_>,
+pub fn file_types<M: Machine + Drop>(
+    host: &mut Host<M>,
     alloc: Global,
     path: Option<&str>,
 ) -> Result<FileTypes, Unbegun>
     ensures typed { IfOk result (IsTyped path.entry) }
     ensures refused { IfErr result (λ unbegun. IsUntyped path.entry unbegun.refusal) }
     ensures opens { MatchResult result
-        (λ _. paths_of host.new ≡ paths_of host.old ++ named (codes "types") path.entry)
-        (λ unbegun. BeginsTo (named (codes "types") path.entry) unbegun.refusal
-        (paths_of host.old) (paths_of host.new)) }
+        (λ _. AreMet (if_given types_at path.entry) (M.System.calls host.old.system)
+        (M.System.calls host.new.system))
+        (λ unbegun. BeginsTo (if_given types_at path.entry) unbegun.refusal
+        (M.System.calls host.old.system) (M.System.calls host.new.system)) }
 {
     let mut types = match FileTypes::new(alloc) {
         Ok(types) => types,
@@ -39,7 +42,7 @@ pub fn file_types(
     let Some(path) = path else {
         return Ok(types);
     };
-    let text = match host.types(alloc, path) {
+    let text = match read_text(&mut host.system, alloc, path) {
         Ok(text) => text,
         Err(fault) => return Err(Unbegun::unread(Cause::Types(fault))),
     };
@@ -71,6 +74,7 @@ pub(crate) fn read_text<S: System>(
     ensures short { IfOk result (λ text. length text.items ≤ 65536) }
     ensures calls { IfOk result (λ text. IsTextOf path.now text.items (S.calls system.old)
         (S.calls system.new)) }
+    ensures asked { AsksFirst path.now (S.calls system.old) (S.calls system.new) }
 {
     let handle = match open_regular(system, path) {
         Ok(handle) => handle,
@@ -83,7 +87,8 @@ pub(crate) fn read_text<S: System>(
 
 /// Opens the regular file at the path: a pipe, whose opening would wait, is not opened.
 fn open_regular<S: System>(system: &mut S, path: &str) -> Result<Handle, TypesFault>
-    ensures { IfOk result (λ handle. IsOpened path.now handle (S.calls system.old)
+    ensures asked { AsksFirst path.now (S.calls system.old) (S.calls system.new) }
+    ensures opened { IfOk result (λ handle. IsOpened path.now handle (S.calls system.old)
         (S.calls system.new)) }
 {
     let named = match system.follow(path) {
@@ -108,7 +113,8 @@ fn open_regular<S: System>(system: &mut S, path: &str) -> Result<Handle, TypesFa
 
 /// Whether what was opened is the file that was seen at its path.
 fn check_same<S: System>(system: &mut S, handle: Handle, named: &Seen) -> Result<(), TypesFault>
-    ensures { IfOk result (λ _. (held : Seen) × IsSame held named.now × (S.calls system.new
+    ensures more { Extends (S.calls system.old) (S.calls system.new) }
+    ensures same { IfOk result (λ _. (held : Seen) × IsSame held named.now × (S.calls system.new
         ≡ S.calls system.old ++ looked_at handle (Ok held) ∷ [])) }
 {
     let held = match system.look_at(handle) {
@@ -129,6 +135,7 @@ fn read_open<S: System>(
     handle: Handle,
 ) -> Result<Vec<u8>, TypesFault>
     ensures short { IfOk result (λ text. length text.items ≤ 65536) }
+    ensures more { Extends (S.calls system.old) (S.calls system.new) }
     ensures calls { IfOk result (λ text. IsReadToEnd handle text.items (S.calls system.old)
         (S.calls system.new)) }
 {
@@ -149,6 +156,7 @@ fn read_open<S: System>(
 /// Reads until the file ends, or the room is full; how many bytes came.
 fn fill<S: System>(system: &mut S, handle: Handle, room: &mut [u8]) -> Result<usize, Fault>
     ensures fits { IfOk result (λ count. count ≤ length room.new) }
+    ensures more { Extends (S.calls system.old) (S.calls system.new) }
     ensures ended { IfOk result (λ count. count < length room.new
         → IsReadToEnd handle (take count room.new) (S.calls system.old) (S.calls system.new)) }
 {
@@ -172,6 +180,7 @@ fn read_some<S: System>(
 ) -> Result<usize, Fault>
     requires { at ≤ length room.old }
     ensures fits { IfOk result (λ count. at + count ≤ length room.new) }
+    ensures more { Extends (S.calls system.old) (S.calls system.new) }
     ensures noted { IfOk result (λ count. (chunk : List ℕ) × (length chunk ≡ count)
         × (S.calls system.new ≡ S.calls system.old ++ read_of handle chunk ∷ [])
         × (take (at + count) room.new ≡ take at room.old ++ chunk)) }

@@ -9,6 +9,8 @@ use Rattle.mot_files.specs.declared.system.Event.{Event}
 use Rattle.mot_files.specs.declared.system.Event.TheVariants.{Closed, Followed, IsTerminal, Locked, Looked}
 use Rattle.mot_files.specs.declared.system.Event.TheVariants.{LookedAt, Opened, Peeked, Read, Removed, Renamed}
 use Rattle.mot_files.specs.declared.system.Event.TheVariants.{Resolved, Synced, Told, Wrote}
+use Rattle.mot_files.specs.declared.system.Event.TheVariants.{Apart, MadeDisk, OpenedDisk}
+use Rattle.mot_files.specs.declared.system.Part.{Part}
 
 pub record Call : Type 0 where
   -- what was asked, and the answer
@@ -80,3 +82,14 @@ removed path answer = call (Removed answer) path []
 
 abbrev pub locked : Handle → Result (Unit {0}) Fault → Call
 locked handle answer = call (Locked handle answer) [] []
+
+-- a path was opened or made as a disk, or that was tried in vain
+abbrev pub opened_disk : List ℕ → (is_open : Bool) → Call
+opened_disk path is_open = call (OpenedDisk is_open) path []
+
+abbrev pub made_disk : List ℕ → (is_made : Bool) → Call
+made_disk path is_made = call (MadeDisk is_made) path []
+
+-- for a part of a command a path was given to a system of its own
+abbrev pub apart : Part → List ℕ → Call
+apart part path = call (Apart part) path []

@@ -4,5 +4,5 @@ use Rattle.mot_files.specs.Call.{Call}
 use Rattle.mot_files.specs.declared.host.HostSystem.{HostSystem}
 
 -- the calls that were made, in order
-abbrev pub calls_of : {T Folder : Type 0} → HostSystem T Folder → List Call
+abbrev pub calls_of : HostSystem → List Call
 calls_of system = system.calls.all

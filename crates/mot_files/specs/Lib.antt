@@ -4,6 +4,7 @@ pub mod Host
 pub mod Inner
 pub mod Lasting
 pub mod Listing
+pub mod Looking
 pub mod Placing
 pub mod Reading
 pub mod Stamping

@@ -32,6 +32,11 @@ impl CallLog {
         ensures { self.new.all ≡ self.old.all ++ call _what.now _bytes.now _more.now ∷ [] }
     {}
 
+    /// Those of another log too. Its proof is written by hand, as that of `note`.
+    pub fn join(&mut self, _more: &CallLog)
+        ensures { self.new.all ≡ self.old.all ++ _more.now.all }
+    {}
+
     /// This one too, which gave so many bytes of the room, for these.
     pub fn note_given(
         &mut self,

@@ -7,54 +7,49 @@ use crate::answers::{closed, locked, real_path, seen, time_of_day, told};
 use crate::call_log::CallLog;
 use crate::system::{Event, Fault, Handle, How, Seen, System, Time};
 use crate::table::Table;
-use std::alloc::Global;
 use std::fs::{File, OpenOptions, TryLockError};
 use std::io::{self, IsTerminal, Read, Write};
 use std::os::unix::fs::FileExt;
-use std::rt::{Clock, Files, Stdout};
+use std::rt::{Files, Stdout};
 use std::time::SystemTime;
 
 /// What is open.
 #[derive(Drop)]
-enum Open<D: Read + Drop> {
+enum Open {
     File(File),
-    Folder(D),
+    Folder(<HostRuntime as Files>::Dir),
     Output(Stdout),
 }
 
 /// The files of the machine.
 #[derive(Drop)]
-pub struct HostSystem<'a, T: Files<File = File> + Clock> {
-    rt: &'a T,
-    alloc: Global,
-    output: Stdout,
-    open: Table<Open<T::Dir>>,
+pub struct HostSystem<'a> {
+    rt: &'a HostRuntime,
+    open: Table<Open>,
     calls: CallLog,
 }
 
-impl<'a, T: Files<File = File> + Clock> HostSystem<'a, T> {
+impl<'a> HostSystem<'a> {
     /// The files of this runtime, and its standard output. Nothing was asked.
-    pub fn new(rt: &'a T, alloc: Global, output: Stdout) -> HostSystem<'a, T>
+    pub fn new(rt: &'a HostRuntime) -> HostSystem<'a>
         ensures { calls_of result ≡ [] }
     {
         HostSystem {
             rt,
-            alloc,
-            output,
-            open: Table::new(alloc),
+            open: Table::new(rt.alloc()),
             calls: CallLog::new(),
         }
     }
 
     /// Opens what the path names.
-    fn open_path(&self, path: &str, how: How) -> io::Result<Open<T::Dir>> {
+    fn open_path(&self, path: &str, how: How) -> io::Result<Open> {
         let mut options = OpenOptions::new();
         let options = match how {
             How::Read => options.read(true),
             How::New => options.read(true).write(true).create_new(true),
             How::Stream => options.read(true).write(true),
             How::Folder => return Ok(Open::Folder(self.rt.open_dir(path)?)),
-            How::Output => return Ok(Open::Output(self.output)),
+            How::Output => return Ok(Open::Output(self.rt.stdout())),
         };
         Ok(Open::File(options.open(self.rt, path)?))
     }
@@ -119,7 +114,7 @@ impl<'a, T: Files<File = File> + Clock> HostSystem<'a, T> {
     }
 }
 
-impl<'a, T: Files<File = File> + Clock> System for HostSystem<'a, T> {
+impl<'a> System for HostSystem<'a> {
     ghost calls = { calls_of };
 
     fn look(&mut self, path: &str) -> Result<Seen, Fault> {
@@ -137,7 +132,7 @@ impl<'a, T: Files<File = File> + Clock> System for HostSystem<'a, T> {
     }
 
     fn resolve(&mut self, path: &str, room: &mut [u8]) -> Result<usize, Fault> {
-        let answer = told(real_path(self.rt.canonicalize(self.alloc, path), room));
+        let answer = told(real_path(self.rt.canonicalize(self.rt.alloc(), path), room));
         self.calls
             .note_given(&Event::Resolved(answer), room, answer, path.as_bytes());
         answer
@@ -231,6 +226,10 @@ impl<'a, T: Files<File = File> + Clock> System for HostSystem<'a, T> {
         let answer = time_of_day(SystemTime::now(self.rt));
         self.calls.note(&Event::Told(answer), &[], &[]);
         answer
+    }
+
+    fn take_in(&mut self, more: CallLog) {
+        self.calls.join(&more);
     }
 
     fn into_calls(self) -> CallLog {

@@ -21,6 +21,6 @@ pub use lasting::{make_last, sync_path};
 pub use listing::{is_file, path_in};
 pub use reading::{Unread, is_regular, is_same, read_file};
 pub use stamping::{has_stamp, stamp};
-pub use system::{Event, Fault, Handle, How, Kind, Seen, Stamp, System, Time};
+pub use system::{Event, Fault, Handle, How, Kind, Part, Seen, Stamp, System, Time};
 pub use table::Table;
 pub use writing::write_all;

@@ -125,6 +125,19 @@ pub enum How {
     Output,
 }
 
+/// What a part of a command has a system of its own for.
+#[derive(Clone, Copy)]
+pub enum Part {
+    /// The folder of objects.
+    Folder,
+    /// The folder of lines.
+    Lines,
+    /// What takes the packets.
+    Packets,
+    /// The file of the status.
+    Status,
+}
+
 /// A call and its answer. Its bytes, and the path or the paths, stand beside it.
 #[derive(Clone, Copy)]
 pub enum Event {
@@ -158,6 +171,12 @@ pub enum Event {
     Removed(Result<(), Fault>),
     /// The time of day.
     Told(Option<Time>),
+    /// A path was opened as a disk, whose calls are in its own log; whether it was.
+    OpenedDisk(bool),
+    /// A new file was made at a path as a disk; whether it was.
+    MadeDisk(bool),
+    /// For this part a path was given to a system of its own, which has its own log.
+    Apart(Part),
 }
 
 /// A system of files. Each call is noted, with its answer.
@@ -230,6 +249,10 @@ pub trait System {
     /// The time of day, if it is known.
     fn now(&mut self) -> Option<Time>
         ensures { calls self.new ≡ calls self.old ++ told_time result ∷ [] };
+
+    /// Takes these calls into the log behind its own. They were made elsewhere, for the same command.
+    fn take_in(&mut self, more: CallLog)
+        ensures { calls self.new ≡ calls self.old ++ more.all };
 
     /// The calls so far, as a list that only clauses read. No more are made.
     fn into_calls(self) -> CallLog

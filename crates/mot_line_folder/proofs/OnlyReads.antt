@@ -8,7 +8,8 @@ use Rattle.mot_line_folder.specs.LineFiles.{IsFound, IsLookedInto, Leaves, Stamp
 use Rattle.mot_line_folder.specs.LineFiles.IsFound.{kept, left, none as no_file, unopened, unseen}
 use Rattle.mot_line_folder.specs.LineFiles.IsLookedInto.{cut, lines, no_lines, other, unheld, unread}
 use Rattle.mot_line_folder.specs.LineFiles.Stamps.{held as stamp_held, unheld as stamp_unheld}
-use Rattle.mot_line_folder.specs.Spooling.{Finds, OnlyReads, is_reading}
+use Rattle.mot_line_folder.specs.Spooling.{Finds, OnlyReads}
+use Rattle.mot_files.specs.Looking.{changes_nothing}
 use Rattle.mot_line_folder.specs.Spooling.Finds.{nothing, one}
 use Rattle.mot_line_folder.specs.Spooling.OnlyReads.{more, none}
 use Rattle.mot_line_folder.specs.declared.line_file.Found.{Found}
@@ -17,7 +18,7 @@ use Rattle.mot_line_folder.specs.declared.line_file.LineFile.{LineFile}
 use Rattle.mot_line_folder.specs.declared.said.Stamp.{Stamp}
 
 -- one call
-pub one_call : {old new : List Call} (call : Call) → IsTrue (is_reading call.what)
+pub one_call : {old new : List Call} (call : Call) → IsTrue (changes_nothing call.what)
     → new ≡ old ++ call ∷ [] → OnlyReads old new
 one_call {old} call reads here = more old call (none refl) reads here
 

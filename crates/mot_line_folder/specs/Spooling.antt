@@ -5,12 +5,8 @@ use Rattle.std.specs.Result.{result_unwrap_or}
 use Rattle.std.specs.declared.io.Error.{Error}
 use Rattle.mot_files.specs.Call.{Call, closed, read}
 use Rattle.mot_files.specs.Listing.{path_in}
-use Rattle.mot_files.specs.declared.system.Event.{Event}
-use Rattle.mot_files.specs.declared.system.Event.TheVariants.{Closed, Followed, IsTerminal, Locked, Looked}
-use Rattle.mot_files.specs.declared.system.Event.TheVariants.{LookedAt, Opened, Peeked, Read, Removed, Renamed}
-use Rattle.mot_files.specs.declared.system.Event.TheVariants.{Resolved, Synced, Told, Wrote}
+use Rattle.mot_files.specs.Looking.{changes_nothing}
 use Rattle.mot_files.specs.declared.system.Fault.{Fault}
-use Rattle.mot_files.specs.declared.system.How.{How}
 use Rattle.mot_line_folder.specs.LineFiles.{IsFound, IsOfLines, IsPlain, Leaves, TakesAway}
 use Rattle.mot_line_folder.specs.LineReads.{ReadsLines}
 use Rattle.mot_line_folder.specs.Spool.{SpoolView}
@@ -18,37 +14,11 @@ use Rattle.mot_line_folder.specs.declared.line_file.Found.TheVariants.{Lines}
 use Rattle.mot_line_folder.specs.declared.line_file.LineFile.{LineFile}
 use Rattle.mot_line_folder.specs.declared.said.Stamp.{Stamp}
 
--- what is opened to be read alone
-abbrev pub is_to_read : How → Bool
-is_to_read How.Read = true
-is_to_read How.New = false
-is_to_read How.Stream = false
-is_to_read How.Folder = true
-is_to_read How.Output = false
-
--- a call that changes no file, removes none and opens none to write it
-abbrev pub is_reading : Event → Bool
-is_reading (Looked _) = true
-is_reading (Followed _) = true
-is_reading (Resolved _) = true
-is_reading (Opened how _) = is_to_read how
-is_reading (LookedAt _ _) = true
-is_reading (Read _ _) = true
-is_reading (Peeked _ _ _) = true
-is_reading (Wrote _ _) = false
-is_reading (IsTerminal _ _) = true
-is_reading (Locked _ _) = false
-is_reading (Synced _ _) = false
-is_reading (Closed _) = true
-is_reading (Renamed _) = false
-is_reading (Removed _) = false
-is_reading (Told _) = true
-
--- only such calls came between
+-- only calls that change nothing came between
 pub data OnlyReads (old : List Call) : (new : List Call) → Type 0 where
   none : {new : List Call} → new ≡ old → OnlyReads old new
   more : {new : List Call} (mid : List Call) (call : Call) → OnlyReads old mid
-      → IsTrue (is_reading call.what) → new ≡ mid ++ call ∷ [] → OnlyReads old new
+      → IsTrue (changes_nothing call.what) → new ≡ mid ++ call ∷ [] → OnlyReads old new
 
 -- a file stands in the folder, by a plain name of lines
 pub record IsOfFolder (folder : List ℕ) (file : LineFile) : Type 0 where

@@ -238,6 +238,10 @@ impl System for MemorySystem {
         answer
     }
 
+    fn take_in(&mut self, more: CallLog) {
+        self.calls.join(&more);
+    }
+
     fn into_calls(self) -> CallLog {
         self.calls
     }

@@ -17,8 +17,8 @@ ended_so P whole (Ok done) p = p whole (λ none. refl)
 ended_so P whole (Err r) p = p false (λ none. absurd (cc (none)))
 
 -- what ended so is what the result of the task says
-pub concludes : {S : Type 0} {start : Ghosts S} (IsEarly : Refusal → Type 0)
-    (IsEnded : Bool → Option Refusal → Type 0) (used : UsedDisk S start)
+pub concludes : {S F : Type 0} {start : Ghosts S F} (IsEarly : Refusal → Type 0)
+    (IsEnded : Bool → Option Refusal → Type 0) (used : UsedDisk S F start)
     (old new : Option (List ℕ)) (all : Bool) (ended : Result Unit Refusal)
     (result : Result Bool Refusal)
     → MatchResult ended (λ _. result ≡ Ok all) (λ r. result ≡ Err r)
@@ -30,8 +30,8 @@ concludes IsEarly IsEnded used old new all (Err e) result is p =
     subst (λ (r : Result Bool Refusal). Concludes IsEarly IsEnded r used old new) (sym is) (inr p)
 
 -- the same of a result that tells both
-pub concludes_so : {S : Type 0} {start : Ghosts S} (IsEarly : Refusal → Type 0)
-    (IsEnded : Bool → Option Refusal → Type 0) (used : UsedDisk S start)
+pub concludes_so : {S F : Type 0} {start : Ghosts S F} (IsEarly : Refusal → Type 0)
+    (IsEnded : Bool → Option Refusal → Type 0) (used : UsedDisk S F start)
     (old new : Option (List ℕ)) (result : Result Bool Refusal)
     → IsEnded (result_unwrap_or result false) (fault_of result)
     → Concludes IsEarly IsEnded result used old new
@@ -39,8 +39,8 @@ concludes_so IsEarly IsEnded used old new (Ok all) p = p
 concludes_so IsEarly IsEnded used old new (Err r) p = inr p
 
 -- what the result of a part says is what that of the whole says
-pub concludes_more : {S : Type 0} {start : Ghosts S} (IsEarly IsFirst : Refusal → Type 0)
-    (IsEnded IsDone : Bool → Option Refusal → Type 0) (used : UsedDisk S start)
+pub concludes_more : {S F : Type 0} {start : Ghosts S F} (IsEarly IsFirst : Refusal → Type 0)
+    (IsEnded IsDone : Bool → Option Refusal → Type 0) (used : UsedDisk S F start)
     (old new : Option (List ℕ)) (result : Result Bool Refusal)
     → ((r : Refusal) → IsEarly r → IsFirst r)
     → ((all : Bool) (ending : Option Refusal) → IsEnded all ending → IsDone all ending)

@@ -19,12 +19,12 @@ use Rattle.mot_cli.specs.Asked.{AreWrong}
 use Rattle.mot_cli.specs.Command.{motcar_app}
 
 -- words with a fault are wrong, or ask for help; or there was no memory
-pub explained : {S : Type 0} {start : Ghosts S} {T : Type 0}
+pub explained : {S F : Type 0} {start : Ghosts S F} {T : Type 0}
     (IsTask : Text → List Row → T → Type 0) (IsWrong : List Text → Type 0) (bad : Refusal)
     (Early : T → Refusal → Type 0)
-    (Ends : T → (all : Bool) → Option Refusal → UsedDisk S start
+    (Ends : T → (all : Bool) → Option Refusal → UsedDisk S F start
     → (unread left old new : Option (List ℕ)) → Type 0)
-    (words : List Text) (exit : Exit S start) (unread old new : Option (List ℕ))
+    (words : List Text) (exit : Exit S F start) (unread old new : Option (List ℕ))
     → (AreWrong motcar_app words → IsWrong words)
     → (error : Error) → HasKind (fault_of motcar_app words) error
     → (value : S) → exit.disk ≡ Untouched value

@@ -8,6 +8,5 @@ pub use Rattle.mot_outcome.proofs.Begun.{concludes, concludes_more, concludes_so
 pub use Rattle.mot_outcome.proofs.Parts.{Prints-after, Prints-before, Prints-passed}
 -- what follows from a fact of a result
 pub use Rattle.mot_outcome.proofs.Results.{IfErr-one, IfOk-one}
--- what it came to one after the other
-pub use Rattle.mot_outcome.proofs.Comings.{begun_after, begun_first, opened_after}
-pub use Rattle.mot_outcome.proofs.Comings.{opened_whole}
+-- what a command needs, one after the other
+pub use Rattle.mot_outcome.proofs.Comings.{begun_after, begun_first, both_met, opened_after, opens_more}

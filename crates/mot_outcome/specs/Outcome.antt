@@ -1,6 +1,6 @@
 -- What a run of the program comes to, whatever its tasks are.
 use Rattle.std.specs.declared.io.Error.{Error}
-use Rattle.std.specs.Prelude.{ℕ, ◌≡◌, ◌++◌, ◌∷◌, [], Bool, true, List, Option, Some, None, codes}
+use Rattle.std.specs.Prelude.{ℕ, ◌≡◌, ◌++◌, ◌∷◌, [], Bool, true, List, Option, Some, None}
 use Rattle.std.specs.Prelude.{◌⊎◌, Err, IsErrAnd, IsSomeAnd, Ok, Result, false, option_map}
 use Rattle.std.specs.Fmt.{decimal}
 use Rattle.std.specs.Io.KnownBytes.{Appends, Keeps}
@@ -9,7 +9,8 @@ use Rattle.disk_model.specs.Disk.{State}
 use Rattle.disk_store.specs.Beginning.{SinceOpened}
 use Rattle.disk_store.specs.declared.file.start.Start.{Ghosts}
 use Rattle.disk_store.specs.declared.file.FileDiskFrom.{FileDiskFrom}
-use Rattle.mot_endpoints.specs.Opened.{BeginsTo, in_vain, is_fault}
+use Rattle.mot_endpoints.specs.Opened.{AreMet, BeginsTo, Need, is_fault}
+use Rattle.mot_files.specs.Call.{Call, opened_disk}
 use Rattle.disk_store.specs.File.{fault_on}
 use Rattle.disk_store.specs.Second.{second_fault}
 use Rattle.disk_store.specs.declared.file.fault.OpenFault.TheVariants.{System}
@@ -45,37 +46,37 @@ cause_of_two None to = option_map (λ error. NewDisk (new_fault.Disk (System err
 
 -- The disk that is handed out is of a file that held the bytes of `start` as it was opened. These
 -- are words of contracts alone: what holds for each `start` holds for what the file really held.
-module _ {S : Type 0} {start : Ghosts S} where
+module _ {S F : Type 0} {start : Ghosts S F} where
   -- no file was opened or made
-  abbrev pub IsUntouched : UsedDisk S start → Type 0
+  abbrev pub IsUntouched : UsedDisk S F start → Type 0
   IsUntouched (Untouched value) = Unit {0}
   IsUntouched used = ⊥
 
   -- why the first call on the file of the disk that failed did so; of a copy, that of the file that
   -- was copied comes first
-  abbrev pub fault_in : UsedDisk S start → Option Cause
+  abbrev pub fault_in : UsedDisk S F start → Option Cause
   fault_in (OfFile disk beside) = option_map (λ error. Disk (System error)) (fault_on disk)
   fault_in (OfCopy from None) = option_map (λ error. Disk (System error)) (fault_on from)
   fault_in (OfCopy from (Some to)) = cause_of_two (fault_on from) (second_fault to)
   fault_in used = None
 
   -- a file was opened or made: its disk, and what was done beside it, have this fact
-  abbrev pub OnFile : (FileDiskFrom S start → Beside → Type 0) → UsedDisk S start → Type 0
+  abbrev pub OnFile : (FileDiskFrom S F start → Beside → Type 0) → UsedDisk S F start → Type 0
   OnFile P (OfFile disk beside) = P disk beside
   OnFile P used = ⊥
 
   -- a file was opened, and this holds between what its disk was then and what it is
-  abbrev pub OnOpened : (State → State → Type 0) → UsedDisk S start → Type 0
+  abbrev pub OnOpened : (State → State → Type 0) → UsedDisk S F start → Type 0
   OnOpened P = OnFile (λ disk beside. SinceOpened P disk)
 
   -- no file was opened or made, and nothing was printed
-  pub record IsUntold (used : UsedDisk S start) (old new : Option (List ℕ)) : Type 0 where
+  pub record IsUntold (used : UsedDisk S F start) (old new : Option (List ℕ)) : Type 0 where
     pub untouched : IsUntouched used
     pub silent : Keeps old new
 
   -- A command was not begun, for such a refusal, and nothing was printed; or it was, and ended so.
   abbrev pub Finishes : (IsEarly : Refusal → Type 0)
-      → (IsEnded : Option Refusal → UsedDisk S start → Type 0) → Finished S Unit start
+      → (IsEnded : Option Refusal → UsedDisk S F start → Type 0) → Finished S Unit F start
       → (old new : Option (List ℕ)) → Type 0
   Finishes IsEarly IsEnded finished old new =
       IsErrAnd finished.result (λ refusal. IsEarly refusal × IsUntold finished.disk old new)
@@ -84,32 +85,35 @@ module _ {S : Type 0} {start : Ghosts S} where
   -- It came to its end, which tells whether all of it is done; or it was not begun, for such a
   -- refusal; or this refusal ended it.
   abbrev pub Concludes : (IsEarly : Refusal → Type 0) → (IsEnded : Bool → Option Refusal → Type 0)
-      → Result Bool Refusal → UsedDisk S start → (old new : Option (List ℕ)) → Type 0
+      → Result Bool Refusal → UsedDisk S F start → (old new : Option (List ℕ)) → Type 0
   Concludes IsEarly IsEnded (Ok all) used old new = IsEnded all None
   Concludes IsEarly IsEnded (Err r) used old new =
       (IsEarly r × IsUntold used old new) ⊎ IsEnded false (Some r)
 
-  -- In this a list of what a host came to has of each as what, and by which path. Where the disk of
-  -- a file is handed out, it came to these others, each once and in order, and then to the disk of
-  -- this path, once. Where none is, it stopped at one of the others, or came to all of them and tried
-  -- in vain to come to the disk.
-  abbrev pub Opens : (others : List (Text × Text)) → Text → (ending : Option Refusal)
-      → UsedDisk S start → (before after : List (Text × Text)) → Type 0
-  Opens others path ending (Untouched value) before after = IsSomeAnd ending (λ refusal.
-      BeginsTo others refusal before after ⊎ ((refusal ≡ DeviceFault)
-      × (after ≡ before ++ (others ++ in_vain (codes "disk") path ∷ []))))
-  Opens others path ending (InMemory disk value) before after = ⊥
-  Opens others path ending (OfCopy from to) before after = ⊥
-  Opens others path ending (OfFile disk beside) before after =
-      after ≡ before ++ (others ++ (codes "disk", path) ∷ [])
+  -- By these calls of a host a command had what it needs, its disk was opened at this path, and this was
+  -- done. If no disk is handed out, it stopped at one of its needs, or tried in vain to open the disk.
+  abbrev pub OpensAnd : List Need → Text → (Does : (old new : List Call) → Type 0)
+      → (ending : Option Refusal) → UsedDisk S F start → (old new : List Call) → Type 0
+  OpensAnd needs path Does ending (Untouched value) old new = IsSomeAnd ending (λ refusal.
+      BeginsTo needs refusal old new ⊎ ((refusal ≡ DeviceFault) × ((then : List Call)
+      × AreMet needs old then × (new ≡ then ++ opened_disk path false ∷ []))))
+  OpensAnd needs path Does ending (InMemory disk value) old new = ⊥
+  OpensAnd needs path Does ending (OfCopy from to) old new = ⊥
+  OpensAnd needs path Does ending (OfFile disk beside) old new = (then : List Call)
+      × AreMet needs old then × Does (then ++ opened_disk path true ∷ []) new
 
--- Which files were used in a run that ended so: none, or those of the task that the words ask for, as
+  -- the same, and nothing else was asked of the host
+  abbrev pub Opens : List Need → Text → (ending : Option Refusal) → UsedDisk S F start
+      → (old new : List Call) → Type 0
+  Opens needs path = OpensAnd needs path (λ opened now. now ≡ opened)
+
+-- Which calls a host made in a run that ended so: none, or those of the task that the words ask for, as
 -- OfTask says of it. Where none was, the refusal is that of no file, or help was asked for. Which
--- words ask for which task IsTask says; before and after is what was used so far.
-pub data UsesFiles {S : Type 0} {start : Ghosts S} {T P : Type 0}
+-- words ask for which task IsTask says; before and after are the calls so far.
+pub data UsesFiles {S F : Type 0} {start : Ghosts S F} {T : Type 0}
     (IsTask : Text → List Row → T → Type 0)
-    (OfTask : T → UsedDisk S start → (before after : P) → Type 0) (words : List Text)
-    (exit : Exit S start) (before after : P) : Type 0 where
+    (OfTask : T → UsedDisk S F start → (before after : List Call) → Type 0) (words : List Text)
+    (exit : Exit S F start) (before after : List Call) : Type 0 where
   none : (IsSomeAnd exit.refusal (λ refusal. is_fault refusal ≡ true) → AskForHelp motcar_app words)
       → IsUntouched exit.disk → after ≡ before → UsesFiles IsTask OfTask words exit before after
   asked : (task : T) → AskFor motcar_app IsTask words task → OfTask task exit.disk before after
@@ -125,11 +129,11 @@ status_of all refusal = 1
 -- refusal of a number that no task takes is bad, those before a task is begun are Early, and how a
 -- task ends that was begun Ends says. What the reader had left was unread and is left, and the
 -- writer's known bytes were old and are new.
-module _ {S : Type 0} {start : Ghosts S} {T : Type 0} (IsTask : Text → List Row → T → Type 0)
+module _ {S F : Type 0} {start : Ghosts S F} {T : Type 0} (IsTask : Text → List Row → T → Type 0)
     (IsWrong : List Text → Type 0) (bad : Refusal) (Early : T → Refusal → Type 0)
-    (Ends : T → (all : Bool) → Option Refusal → UsedDisk S start
+    (Ends : T → (all : Bool) → Option Refusal → UsedDisk S F start
     → (unread left old new : Option (List ℕ)) → Type 0)
-    (words : List Text) (exit : Exit S start) (unread left old new : Option (List ℕ)) where
+    (words : List Text) (exit : Exit S F start) (unread left old new : Option (List ℕ)) where
   -- it ends with this status and refusal, and nothing was read, printed, opened or made
   abbrev pub IsIdle : ℕ → Option Refusal → Type 0
   IsIdle status refusal = (exit.status ≡ status) × (exit.refusal ≡ refusal)

@@ -10,7 +10,7 @@ use Rattle.mot_cli.specs.Whole.{is_whole}
 use Rattle.mot_cli.specs.declared.task.Task.{Task}
 use Rattle.mot_cli.specs.declared.task.Task.TheVariants.{Memory, Format, Copy, Serve, Check}
 use Rattle.mot_cli.specs.declared.task.Task.TheVariants.{Migrate}
-use Rattle.mot_cli.specs.declared.task.Task.TheVariants.{Play, Sync, Export, Inspect, TrySync}
+use Rattle.mot_cli.specs.declared.task.Task.TheVariants.{Play, Sync, Export, Inspect}
 use Rattle.mot_cli.specs.declared.task.Task.TheVariants.{GetBody, ListObjects, PutFiles}
 use Rattle.mot_cli.specs.declared.task.Task.TheVariants.{WithdrawNames}
 use Rattle.mot_numbers.specs.declared.refusal.Refusal.{Refusal}
@@ -65,8 +65,7 @@ lacks_none name rows (Copy c) is play lack = not_play name (codes "copy") refl i
 lacks_none name rows (Serve p) is play lack = not_play name (codes "serve") refl is.0 play
 lacks_none name rows (Check p) is play lack = not_play name (codes "check") refl is.0 play
 lacks_none name rows (Migrate p) is play lack = not_play name (codes "migrate") refl is.0 play
-lacks_none name rows (Sync d f t r) is play lack = not_play name (codes "sync") refl is.0 play
-lacks_none name rows (TrySync d f t r) is play lack = not_play name (codes "sync") refl is.0 play
+lacks_none name rows (Sync sync) is play lack = not_play name (codes "sync") refl is.0 play
 lacks_none name rows (ListObjects d) is play lack = not_play name (codes "list") refl is.0 play
 lacks_none name rows (PutFiles d f t) is play lack = not_play name (codes "put") refl is.0 play
 lacks_none name rows (WithdrawNames d n) is play lack = not_play name (codes "withdraw") refl is.0 play

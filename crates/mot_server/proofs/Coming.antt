@@ -13,13 +13,13 @@ use Rattle.mot_cli.specs.Task.{IsTask}
 use Rattle.mot_cli.specs.declared.task.Task.{Task}
 use Rattle.mot_files.specs.Call.{Call}
 use Rattle.mot_numbers.specs.declared.refusal.Refusal.{Refusal}
-use Rattle.mot_outcome.specs.Outcome.{IsUntold, Opens, UsesFiles, status_of}
+use Rattle.mot_outcome.specs.Outcome.{IsUntold, Opens, status_of}
 use Rattle.mot_outcome.specs.Outcome.ComesTo.{begun, unbegun}
 use Rattle.mot_outcome.specs.declared.exit.Exit.{Exit}
 use Rattle.mot_outcome.specs.declared.used.UsedDisk.{UsedDisk}
 use Rattle.mot_playout.specs.Attempts.{fault_of}
 use Rattle.mot_server.specs.Inner.Coming.{ComesOut, whole_result}
-use Rattle.mot_server.specs.Program.{Ends, IsBeginningRefusal, IsWhole, LooksFor, RunsTo, Uses}
+use Rattle.mot_server.specs.Program.{Ends, IsBeginningRefusal, IsWhole, RunsTo, Uses}
 
 -- what is done whole ends by the same refusal
 pub fault_whole : (result : Result Unit Refusal) → fault_of (whole_result result) ≡ fault_of result
@@ -27,18 +27,18 @@ fault_whole (Ok done) = refl
 fault_whole (Err refusal) = refl
 
 -- and so it opened the same
-pub opens_whole : {S : Type 0} {start : Ghosts S} (result : Result Unit Refusal) (path : Text)
-    (used : UsedDisk S start) (before after : List (Text × Text))
+pub opens_whole : {S F : Type 0} {start : Ghosts S F} (result : Result Unit Refusal) (path : Text)
+    (used : UsedDisk S F start) (before after : List Call)
     → Opens [] path (fault_of result) used before after
     → Opens [] path (fault_of (whole_result result)) used before after
 opens_whole (Ok done) path used before after opens = opens
 opens_whole (Err refusal) path used before after opens = opens
 
-module _ {S : Type 0} {start : Ghosts S} (task : Task) (unread left old new : Option (List ℕ)) where
+module _ {S F : Type 0} {start : Ghosts S F} (task : Task) (unread left old new : Option (List ℕ)) where
   -- a command that is done whole if no refusal ends it
   pub comes_whole : (IsEarly : Refusal → Type 0)
-      (IsEnded : Option Refusal → UsedDisk S start → Type 0)
-      (result : Result Unit Refusal) (used : UsedDisk S start)
+      (IsEnded : Option Refusal → UsedDisk S F start → Type 0)
+      (result : Result Unit Refusal) (used : UsedDisk S F start)
       → ((r : Refusal) → IsEarly r → IsBeginningRefusal task r × Keeps unread left)
       → ((all : Bool) (ending : Option Refusal) → IsWhole all ending → IsEnded ending used
       → Ends task all ending used unread left old new)
@@ -54,7 +54,7 @@ module _ {S : Type 0} {start : Ghosts S} (task : Task) (unread left old new : Op
 
   -- one whose result tells whether it is
   pub comes_so : (IsEarly : Refusal → Type 0) (IsEnded : Bool → Option Refusal → Type 0)
-      (result : Result Bool Refusal) (used : UsedDisk S start)
+      (result : Result Bool Refusal) (used : UsedDisk S F start)
       → ((r : Refusal) → IsEarly r → IsBeginningRefusal task r × Keeps unread left)
       → ((all : Bool) (ending : Option Refusal) → IsEnded all ending
       → Ends task all ending used unread left old new)
@@ -67,8 +67,8 @@ module _ {S : Type 0} {start : Ghosts S} (task : Task) (unread left old new : Op
 
   -- one that tells both, and is told of the disk
   pub comes_told : (IsEarly : Refusal → Type 0)
-      (IsEnded : Bool → Option Refusal → UsedDisk S start → Type 0)
-      (result : Result Bool Refusal) (used : UsedDisk S start)
+      (IsEnded : Bool → Option Refusal → UsedDisk S F start → Type 0)
+      (result : Result Bool Refusal) (used : UsedDisk S F start)
       → ((r : Refusal) → IsEarly r → IsBeginningRefusal task r × Keeps unread left)
       → ((all : Bool) (ending : Option Refusal) → IsEnded all ending used
       → Ends task all ending used unread left old new)
@@ -83,7 +83,7 @@ module _ {S : Type 0} {start : Ghosts S} (task : Task) (unread left old new : Op
 
   -- and so the run, whose words ask for it
   pub runs : (words : List Text) → AskFor motcar_app IsTask words task
-      → (result : Result Bool Refusal) (used : UsedDisk S start)
+      → (result : Result Bool Refusal) (used : UsedDisk S F start)
       → ComesOut task result used unread left old new
       → RunsTo {S = S} {start = start} words (record {
         status = status_of (result_unwrap_or result false) (fault_of result);
@@ -95,15 +95,8 @@ module _ {S : Type 0} {start : Ghosts S} (task : Task) (unread left old new : Op
   runs words asks (Err r) used (inl p) = unbegun task asks r p.0 (refl, refl, p.1, p.2)
   runs words asks (Err r) used (inr p) = begun task asks false refl p
 
--- a run that began with nothing come to, and nothing asked of the system
-module _ {S : Type 0} {start : Ghosts S} (words : List Text) (exit : Exit S start) where
-  pub uses_from_nothing : (before after : List (Text × Text)) → before ≡ []
-      → Uses words exit before after → Uses words exit [] after
-  uses_from_nothing before after nothing uses =
-      subst (λ (first : List (Text × Text)). Uses words exit first after) nothing uses
-
-  pub looks_from_nothing : (before after : List Call) → before ≡ []
-      → UsesFiles IsTask LooksFor words exit before after
-      → UsesFiles IsTask LooksFor words exit [] after
-  looks_from_nothing before after nothing looks =
-      subst (λ (first : List Call). UsesFiles IsTask LooksFor words exit first after) nothing looks
+-- a run that began with no calls
+pub uses_from_nothing : {S F : Type 0} {start : Ghosts S F} (words : List Text) (exit : Exit S F start)
+    (before after : List Call) → before ≡ [] → Uses words exit before after → Uses words exit [] after
+uses_from_nothing words exit before after nothing uses =
+    subst (λ (first : List Call). Uses words exit first after) nothing uses

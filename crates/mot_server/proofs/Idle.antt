@@ -36,10 +36,10 @@ fine_number : (is_geometry : Bool) → is_fault (if is_geometry then BadGeometry
 fine_number true = refl
 fine_number false = refl
 
-module _ {S : Type 0} {start : Ghosts S} where
+module _ {S F : Type 0} {start : Ghosts S F} where
   -- words that the parser refuses
   pub explained_idle : (words : List Text) (error : Error) → HasKind (fault_of motcar_app words) error
-      → (old new : Option (List ℕ)) (exit : Exit S start)
+      → (old new : Option (List ℕ)) (exit : Exit S F start)
       → ((exit.status ≡ 1) × (exit.refusal ≡ Some OutOfMemory) × Keeps old new)
       ⊎ ((exit.status ≡ 2) × (exit.refusal ≡ None) × (kind_of error ≢ kind.DisplayHelp)
       × (kind_of error ≢ kind.OutOfMemory) × Keeps old new)
@@ -54,7 +54,7 @@ module _ {S : Type 0} {start : Ghosts S} where
 
   -- words that ask for no task
   pub taskless_idle : (words : List Text) (name : Text) (rows : List Row) (why : NoTask)
-      (exit : Exit S start) → IsWhy name rows why → TellsWhy why exit → IsOfFile exit.refusal
+      (exit : Exit S F start) → IsWhy name rows why → TellsWhy why exit → IsOfFile exit.refusal
       → AskForHelp motcar_app words
   taskless_idle words name rows (Lacks option) exit is tells of_file =
       absurd (unrefused exit.refusal tells.1 of_file)

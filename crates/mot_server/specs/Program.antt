@@ -1,32 +1,31 @@
 -- What the program does, whichever command its words name.
-use Rattle.std.specs.Prelude.{ℕ, ◌≡◌, ◌≢◌, ◌⊎◌, codes, Bool, true, List, [], Option, None, Some}
+use Rattle.std.specs.Prelude.{ℕ, ◌≡◌, ◌≢◌, ◌⊎◌, Bool, true, List, [], Option, None, Some}
 use Rattle.std.specs.Io.KnownBytes.{Keeps}
 use Rattle.std.specs.Option.{option_map_or}
 use Rattle.clap.specs.Words.{Text, subcommand_of}
 use Rattle.disk_store.specs.declared.file.start.Start.{Ghosts}
-use Rattle.mot_air.specs.Commands.{IsUnplayed, PlaysTask, played_with}
+use Rattle.mot_air.specs.Commands.{IsUnplayed, PlaysTask, needs_of}
 use Rattle.mot_commands.specs.Commands.{ExportsFile, InspectsFile}
 use Rattle.mot_sync_command.specs.Commands.{IsUnsynced, SyncsTask, synced_with}
-use Rattle.mot_sync_command.specs.Trying.{TriesTask}
 use Rattle.mot_cli.specs.Command.{motcar_app}
 use Rattle.mot_cli.specs.Task.{AskForNothing, IsTask, LackOption, bad_number}
 use Rattle.mot_cli.specs.declared.task.Task.{Task}
 use Rattle.mot_cli.specs.declared.task.Task.TheVariants.{Memory, Format, Copy, Serve, Check}
 use Rattle.mot_cli.specs.declared.task.Task.TheVariants.{Migrate}
-use Rattle.mot_cli.specs.declared.task.Task.TheVariants.{Play, Sync, Export, Inspect, TrySync}
+use Rattle.mot_cli.specs.declared.task.Task.TheVariants.{Play, Sync, Export, Inspect}
 use Rattle.mot_cli.specs.declared.task.Task.TheVariants.{GetBody, ListObjects, PutFiles}
 use Rattle.mot_cli.specs.declared.task.Task.TheVariants.{WithdrawNames}
 use Rattle.mot_commands.specs.Commands.{ChecksFile, FormatsFile, IsUnformatted, IsUnmade}
-use Rattle.mot_commands.specs.Commands.{LooksFirst, MigratesFile, OpensOrMakes, ServesFile}
+use Rattle.mot_commands.specs.Commands.{FormatsFree, MigratesFile, ServesFile}
 use Rattle.mot_commands.specs.Commands.{GetsFile, ListsFile, ServesMemory, WithdrawsFile}
-use Rattle.mot_commands.specs.Putting.{PutLooks, PutsFiles, texts}
-use Rattle.mot_copy_command.specs.Command.{CopiesFile, LooksAtNew, OpensTwo}
-use Rattle.mot_endpoints.specs.Opened.{named}
+use Rattle.mot_commands.specs.Putting.{PutReads, PutsFiles, texts}
+use Rattle.mot_copy_command.specs.Command.{CopiesFile, OpensTwo}
+use Rattle.mot_endpoints.specs.Opened.{Need, if_given}
 use Rattle.mot_endpoints.specs.Types.{IsUntyped}
 use Rattle.mot_files.specs.Call.{Call}
 use Rattle.mot_numbers.specs.declared.refusal.Refusal.{Refusal}
 use Rattle.mot_numbers.specs.declared.refusal.Refusal.TheVariants.{BadNumber, DeviceFault}
-use Rattle.mot_outcome.specs.Outcome.{ComesTo, Opens, UsesFiles}
+use Rattle.mot_outcome.specs.Outcome.{ComesTo, Opens, OpensAnd, UsesFiles}
 use Rattle.mot_outcome.specs.declared.exit.Exit.{Exit}
 use Rattle.mot_outcome.specs.declared.used.UsedDisk.{UsedDisk}
 
@@ -40,8 +39,7 @@ abbrev pub IsBeginningRefusal : Task → Refusal → Type 0
 IsBeginningRefusal (Memory g) r = IsUnmade g r
 IsBeginningRefusal (Format path g directory) r = IsUnformatted g r
 IsBeginningRefusal (Play p) r = IsUnplayed p r
-IsBeginningRefusal (Sync disk folder types rules) r = IsUnsynced types r
-IsBeginningRefusal (TrySync disk folder types rules) r = IsUnsynced types r
+IsBeginningRefusal (Sync sync) r = IsUnsynced sync.types r
 IsBeginningRefusal (PutFiles path files types) r = IsUntyped types r ⊎ (r ≡ DeviceFault)
 IsBeginningRefusal task r = r ≡ DeviceFault
 
@@ -49,10 +47,10 @@ IsBeginningRefusal task r = r ≡ DeviceFault
 abbrev pub IsWhole : (all : Bool) → Option Refusal → Type 0
 IsWhole all ending = ending ≡ None → all ≡ true
 
-module _ {S : Type 0} {start : Ghosts S} where
+module _ {S F : Type 0} {start : Ghosts S F} where
   -- A task was begun, and ended so. What the reader had left was unread and is left, and the
   -- writer's known bytes were old and are new. Lines are read by `memory` and `serve` alone.
-  abbrev pub Ends : Task → (all : Bool) → Option Refusal → UsedDisk S start
+  abbrev pub Ends : Task → (all : Bool) → Option Refusal → UsedDisk S F start
       → (unread left old new : Option (List ℕ)) → Type 0
   Ends (Memory g) all ending used unread left old new =
       IsWhole all ending × ServesMemory g ending used unread left old new
@@ -69,10 +67,8 @@ module _ {S : Type 0} {start : Ghosts S} where
       IsWhole all ending × Keeps unread left × MigratesFile ending used old new
   Ends (Play p) all ending used unread left old new =
       Keeps unread left × PlaysTask p all ending used old new
-  Ends (Sync disk folder types rules) all ending used unread left old new =
-      Keeps unread left × SyncsTask types rules folder.now all ending used old new
-  Ends (TrySync disk folder types rules) all ending used unread left old new =
-      Keeps unread left × TriesTask types rules folder.now all ending used old new
+  Ends (Sync sync) all ending used unread left old new =
+      Keeps unread left × SyncsTask sync all ending used old new
   Ends (ListObjects path) all ending used unread left old new =
       IsWhole all ending × Keeps unread left × ListsFile ending used old new
   Ends (PutFiles path files types) all ending used unread left old new =
@@ -87,62 +83,46 @@ module _ {S : Type 0} {start : Ghosts S} where
   Ends (Inspect disk rate) all ending used unread left old new =
       IsWhole all ending × Keeps unread left × InspectsFile rate ending used old new
 
-  -- In this a list of what a host came to has of each as what, and by which path. To these a task
-  -- came that ended so.
-  abbrev pub UsesFor : (ending : Option Refusal) → Task → UsedDisk S start
-      → (before after : List (Text × Text)) → Type 0
-  UsesFor ending (Memory g) used before after = after ≡ before
-  UsesFor ending (Format path g directory) used before after =
-      OpensOrMakes ending path.now used before after
-  UsesFor ending (Copy copy) used before after =
-      OpensTwo ending copy.disk.now copy.new.now used before after
-  UsesFor ending (Serve path) used before after = Opens [] path.now ending used before after
-  UsesFor ending (Check path) used before after = Opens [] path.now ending used before after
-  UsesFor ending (Migrate path) used before after = Opens [] path.now ending used before after
-  UsesFor ending (Play p) used before after = Opens (played_with p) p.disk.now ending used before after
-  UsesFor ending (Sync disk folder types rules) used before after =
-      Opens (synced_with types folder.now) disk.now ending used before after
-  UsesFor ending (TrySync disk folder types rules) used before after =
-      Opens (synced_with types folder.now) disk.now ending used before after
-  UsesFor ending (ListObjects path) used before after = Opens [] path.now ending used before after
-  UsesFor ending (PutFiles path files types) used before after =
-      Opens (named (codes "types") types) path.now ending used before after
-  UsesFor ending (WithdrawNames path names) used before after =
-      Opens [] path.now ending used before after
-  UsesFor ending (GetBody path name) used before after = Opens [] path.now ending used before after
-  UsesFor ending (Export path) used before after = Opens [] path.now ending used before after
-  UsesFor ending (Inspect path rate) used before after = Opens [] path.now ending used before after
-
-  -- which calls it made of the system that looks at what is to be formatted, and reads files that are
-  -- put
-  abbrev pub LooksFor : Task → UsedDisk S start → (before after : List Call) → Type 0
-  LooksFor (Format path g directory) used before after = LooksFirst path.now used before after
-  LooksFor (Copy copy) used before after = LooksAtNew copy.new.now used before after
-  LooksFor (PutFiles path files types) used before after =
-      PutLooks types (texts files.now) used before after
-  LooksFor task used before after = after ≡ before
+  -- which calls of its host a task made that ended so
+  abbrev pub UsesFor : (ending : Option Refusal) → Task → UsedDisk S F start
+      → (old new : List Call) → Type 0
+  UsesFor ending (Memory g) used old new = new ≡ old
+  UsesFor ending (Format path g directory) used old new = FormatsFree ending path.now used old new
+  UsesFor ending (Copy copy) used old new =
+      OpensTwo ending copy.disk.now copy.new.now used old new
+  UsesFor ending (Serve path) used old new = Opens [] path.now ending used old new
+  UsesFor ending (Check path) used old new = Opens [] path.now ending used old new
+  UsesFor ending (Migrate path) used old new = Opens [] path.now ending used old new
+  UsesFor ending (Play p) used old new = Opens (needs_of p) p.disk.now ending used old new
+  UsesFor ending (Sync sync) used old new =
+      Opens (synced_with sync) sync.disk.now ending used old new
+  UsesFor ending (ListObjects path) used old new = Opens [] path.now ending used old new
+  UsesFor ending (PutFiles path files types) used old new =
+      OpensAnd (if_given Need.types types) path.now (PutReads types (texts files.now) used) ending
+      used old new
+  UsesFor ending (WithdrawNames path names) used old new = Opens [] path.now ending used old new
+  UsesFor ending (GetBody path name) used old new = Opens [] path.now ending used old new
+  UsesFor ending (Export path) used old new = Opens [] path.now ending used old new
+  UsesFor ending (Inspect path rate) used old new = Opens [] path.now ending used old new
 
   -- What a run of these words came to, whatever they ask for: the task was done, or ended by a
   -- refusal, or not begun; or they ask for help, or for nothing.
-  abbrev pub RunsTo : List Text → Exit S start → (unread left old new : Option (List ℕ)) → Type 0
+  abbrev pub RunsTo : List Text → Exit S F start → (unread left old new : Option (List ℕ)) → Type 0
   RunsTo words exit unread left old new =
       ComesTo IsTask AskForNothing (refused_number words) IsBeginningRefusal Ends words exit
       unread left old new
 
-  -- which files it used: none, or just those of the task that the words ask for
-  abbrev pub Uses : List Text → Exit S start → (before after : List (Text × Text)) → Type 0
-  Uses words exit before after =
-      UsesFiles IsTask (UsesFor exit.refusal) words exit before after
+  -- which calls of its host it made: none, or just those of the task that the words ask for
+  abbrev pub Uses : List Text → Exit S F start → (old new : List Call) → Type 0
+  Uses words exit old new = UsesFiles IsTask (UsesFor exit.refusal) words exit old new
 
 -- A run of these words ended with this status. Its exit is not handed out, nor what it came to:
--- there are some by which it did what it has to do, with nothing come to before.
-pub record Ran {S : Type 0} (start : Ghosts S) (words : List Text) (status : ℕ)
+-- there are some by which it did what it has to do, with no calls before.
+pub record Ran {S F : Type 0} (start : Ghosts S F) (words : List Text) (status : ℕ)
     (unread left old new : Option (List ℕ)) : Type 0 where
-  pub exit : Exit S start
-  pub paths : List (Text × Text)
+  pub exit : Exit S F start
+  pub calls : List Call
   pub answered : status ≡ exit.status
   pub ended : RunsTo words exit unread left old new
   pub lacking : LackOption words → exit.refusal ≢ Some BadNumber
-  pub files : Uses words exit [] paths
-  pub calls : List Call
-  pub looked : UsesFiles IsTask LooksFor words exit [] calls
+  pub files : Uses words exit [] calls

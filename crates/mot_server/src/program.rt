@@ -1,17 +1,14 @@
 //! The program, of all its commands.
 ghost use Rattle.std.specs.Prelude.{◌≢◌, Some, map};
-ghost use Rattle.mot_cli.specs.Task.{IsTask, LackOption};
-ghost use Rattle.mot_endpoints.specs.Opened.{paths_of};
+ghost use Rattle.mot_cli.specs.Task.{LackOption};
 ghost use Rattle.mot_numbers.specs.declared.refusal.Refusal.TheVariants.{BadNumber};
-ghost use Rattle.mot_outcome.specs.Outcome.{UsesFiles};
-ghost use Rattle.mot_server.specs.Program.{LooksFor, Ran, RunsTo, Uses};
+ghost use Rattle.mot_server.specs.Program.{Ran, RunsTo, Uses};
 
 use crate::running::execute;
 use crate::telling::{conclude, tell_no_task};
-use disk_store::{Start, Unknown};
+use disk_store::{HostFiles, Start, Unknown};
 use mot_cli::{motcar_matches, task_of};
-use mot_endpoints::Host;
-use mot_files::{HostSystem, System};
+use mot_endpoints::{Host, Machine};
 use mot_outcome::{Exit, UsedDisk, explain};
 use std::alloc::Global;
 use std::convert::AsStr;
@@ -21,7 +18,7 @@ use std::io::{Read, Write};
 /// answers the exit status: 0 if everything was done or help was asked for, 1 after a refusal, 2 if
 /// the words are wrong. What went wrong is printed to `errors`.
 ///
-/// It is `run_program_on` with the two handles on the machine's files. What is promised is that the
+/// It is `run_program_on` on the files of this machine. What is promised is that the
 /// status, the bytes that were read and those that were printed are those of one such run: there is
 /// an exit of it. What the files hold then is promised of that call, which hands out the disk. Here
 /// no clause can speak of them, nor see a call on the runtime beside that one; nor can it say what is
@@ -38,18 +35,8 @@ pub fn run_program<R: Read, W: Write, E: Write>(
         result (R.remaining reader.old) (R.remaining reader.new)
         (W.contents writer.old) (W.contents writer.new) }
 {
-    let mut host = Host::new(rt);
-    let mut system = HostSystem::new(rt, alloc, rt.stdout());
-    let exit = run_program_on(
-        &mut host,
-        &mut system,
-        alloc,
-        words,
-        Unknown,
-        reader,
-        writer,
-        errors,
-    );
+    let mut host = Host::new(HostFiles { rt });
+    let exit = run_program_on(&mut host, alloc, words, Unknown, reader, writer, errors);
     exit.status
 }
 
@@ -62,9 +49,16 @@ pub fn run_program<R: Read, W: Write, E: Write>(
 ///
 /// `start` is for clauses alone: the content of the disk's file when it was opened. A program gives
 /// `Unknown`.
-pub fn run_program_on<'a, Y: System, S: AsStr, B: Start, R: Read, W: Write, E: Write>(
-    host: &mut Host<'a>,
-    system: &mut Y,
+pub fn run_program_on<
+    'a,
+    S: AsStr,
+    B: Start,
+    R: Read,
+    W: Write,
+    E: Write,
+    M: Machine<File = B::File> + Drop,
+>(
+    host: &mut Host<M>,
     alloc: Global,
     words: &'a [S],
     start: B,
@@ -81,13 +75,10 @@ pub fn run_program_on<'a, Y: System, S: AsStr, B: Start, R: Read, W: Write, E: W
     // An option of `play` that lacks the one of which it says more is not told as a bad number.
     ensures lacking { LackOption (map S.text words.now) → result.refusal ≢ Some BadNumber }
 
-    // Nothing was opened, made or removed but what the words name, each at most once.
-    ensures files { Uses (map S.text words.now) result (paths_of host.old) (paths_of host.new) }
-
-    // The system was only looked at. A disk was made only of what was found free: no device that is
-    // mounted or has a signature.
-    ensures looked { UsesFiles IsTask LooksFor (map S.text words.now) result
-        (Y.calls system.old) (Y.calls system.new) }
+    // Nothing was opened, made or removed but what the words name, each at most once. A disk was made
+    // only of what was found free: no device that is mounted or has a signature.
+    ensures files { Uses (map S.text words.now) result
+        (M.System.calls host.old.system) (M.System.calls host.new.system) }
 {
     let matches = match motcar_matches(alloc, words) {
         Ok(matches) => matches,
@@ -100,6 +91,6 @@ pub fn run_program_on<'a, Y: System, S: AsStr, B: Start, R: Read, W: Write, E: W
         Ok(task) => task,
         Err(why) => return tell_no_task(errors, why, rest, start),
     };
-    let finished = execute(host, system, alloc, &task, start, reader, writer, errors);
+    let finished = execute(host, alloc, &task, start, reader, writer, errors);
     conclude(errors, rest, finished)
 }

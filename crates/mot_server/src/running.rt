@@ -1,9 +1,8 @@
 //! Each command, by its task.
 ghost use Rattle.std.specs.Prelude.{◌≡◌};
-ghost use Rattle.mot_endpoints.specs.Opened.{paths_of};
 ghost use Rattle.mot_playout.specs.Attempts.{fault_of};
 ghost use Rattle.mot_server.specs.Inner.Coming.{ComesOut, whole_result};
-ghost use Rattle.mot_server.specs.Program.{LooksFor, UsesFor};
+ghost use Rattle.mot_server.specs.Program.{UsesFor};
 
 use disk_store::Start;
 use mot_air::play;
@@ -13,17 +12,15 @@ use mot_commands::{
     serve_file, serve_memory, withdraw_file,
 };
 use mot_copy_command::copy_file;
-use mot_endpoints::Host;
-use mot_files::System;
+use mot_endpoints::{Host, Machine};
 use mot_outcome::Finished;
-use mot_sync_command::{sync, try_sync};
+use mot_sync_command::sync;
 use std::alloc::Global;
 use std::io::{Read, Write};
 
 /// Does a task. Its result tells whether all of it is done, or files of a folder were refused.
-pub(crate) fn execute<'a, Y: System, B: Start, R: Read, W: Write, E: Write>(
-    host: &mut Host<'a>,
-    system: &mut Y,
+pub(crate) fn execute<'a, B: Start, R: Read, W: Write, E: Write, M: Machine<File = B::File> + Drop>(
+    host: &mut Host<M>,
     alloc: Global,
     task: &Task<'_, 'a>,
     start: B,
@@ -35,8 +32,7 @@ pub(crate) fn execute<'a, Y: System, B: Start, R: Read, W: Write, E: Write>(
         (R.remaining reader.old) (R.remaining reader.new)
         (W.contents writer.old) (W.contents writer.new) }
     ensures files { UsesFor (fault_of result.result) task.now result.disk
-        (paths_of host.old) (paths_of host.new) }
-    ensures looked { LooksFor task.now result.disk (Y.calls system.old) (Y.calls system.new) }
+        (M.System.calls host.old.system) (M.System.calls host.new.system) }
 {
     match task {
         Task::Memory(geometry) => whole(serve_memory(alloc, *geometry, start, reader, writer)),
@@ -44,29 +40,16 @@ pub(crate) fn execute<'a, Y: System, B: Start, R: Read, W: Write, E: Write>(
             path,
             geometry,
             directory,
-        } => whole(format_file(
-            host, system, alloc, path, start, *geometry, *directory, writer,
-        )),
-        Task::Copy(copied) => whole(copy_file(host, system, alloc, copied, start, writer)),
+        } => whole(format_file(host, alloc, path, start, *geometry, *directory, writer)),
+        Task::Copy(copied) => whole(copy_file(host, alloc, copied, start, writer)),
         Task::Serve(path) => whole(serve_file(host, alloc, path, start, reader, writer)),
         Task::Check(path) => whole(check_file(host, alloc, path, start, writer)),
         Task::Migrate(path) => whole(migrate_file(host, alloc, path, start, writer)),
         Task::Play(played) => play(host, alloc, *played, start, writer, errors),
-        Task::Sync {
-            disk,
-            folder,
-            types,
-            rules,
-        } => sync(host, alloc, disk, folder, *types, *rules, start, writer),
-        Task::TrySync {
-            disk,
-            folder,
-            types,
-            rules,
-        } => try_sync(host, alloc, disk, folder, *types, *rules, start, writer),
+        Task::Sync(synced) => sync(host, alloc, synced, start, writer),
         Task::ListObjects(path) => whole(list_file(host, alloc, path, start, writer)),
         Task::PutFiles { disk, files, types } => put(
-            host, system, alloc, disk, files, *types, start, writer, errors,
+            host, alloc, disk, files, *types, start, writer, errors,
         ),
         Task::WithdrawNames { disk, names } => {
             withdraw_file(host, alloc, disk, names, start, writer)

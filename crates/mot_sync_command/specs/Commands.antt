@@ -1,11 +1,12 @@
 -- What `sync` does.
-use Rattle.std.specs.Prelude.{ℕ, ◌≡◌, ◌⊎◌, ◌++◌, Bool, List, [], ◌∷◌, Option, codes}
+use Rattle.std.specs.Prelude.{ℕ, ◌≡◌, ◌⊎◌, ◌++◌, Bool, true, false, List, [], ◌∷◌, Option}
 use Rattle.std.specs.Borrow.{Bor}
 use Rattle.clap.specs.Words.{Text}
+use Rattle.disk_model.specs.Disk.{State}
 use Rattle.disk_store.specs.Beginning.{SinceOpened}
 use Rattle.disk_store.specs.declared.file.start.Start.{Ghosts}
-use Rattle.mot_cli.specs.declared.playing.LookRules.{LookRules}
-use Rattle.mot_endpoints.specs.Opened.{named}
+use Rattle.mot_cli.specs.declared.playing.SyncTask.{SyncTask}
+use Rattle.mot_endpoints.specs.Opened.{Need, if_given}
 use Rattle.mot_endpoints.specs.Types.{IsTyped, IsUntyped}
 use Rattle.mot_numbers.specs.declared.refusal.Refusal.{Refusal}
 use Rattle.mot_numbers.specs.declared.refusal.Refusal.TheVariants.{DeviceFault}
@@ -14,27 +15,34 @@ use Rattle.mot_outcome.specs.declared.used.UsedDisk.{UsedDisk}
 use Rattle.mot_shelf.specs.View.{FolderView, folder_at}
 use Rattle.mot_suffixes.specs.Types.{SuffixType}
 use Rattle.mot_sync_command.specs.Syncing.{Syncs}
+use Rattle.mot_sync_command.specs.Trying.{Tries}
 
-module _ {S : Type 0} {start : Ghosts S} where
-  -- the carousel of the disk of a file was made equal to the folder of this path, up to this
-  -- ending, by this table of suffixes and these rules
-  abbrev pub SyncsTo : List SuffixType → LookRules → Text → (all : Bool) → Option Refusal
-      → (old new : Option (List ℕ)) → UsedDisk S start → Type 0
-  SyncsTo table rules path all ending old new = OnFile (λ disk beside. (then_folder : FolderView)
+-- a dry run tries it on a copy
+abbrev pub SyncsBy : (dry_run : Bool) → List SuffixType → (allows : Bool)
+    → (folder then_folder : FolderView) → (start now : State) → (all : Bool) → Option Refusal
+    → (old new : Option (List ℕ)) → Type 0
+SyncsBy false = Syncs
+SyncsBy true = Tries
+
+module _ {S F : Type 0} {start : Ghosts S F} where
+  -- the carousel of the disk of a file was made equal to the folder of this task, up to this ending,
+  -- by this table of suffixes
+  abbrev pub SyncsTo : List SuffixType → SyncTask → (all : Bool) → Option Refusal
+      → (old new : Option (List ℕ)) → UsedDisk S F start → Type 0
+  SyncsTo table task all ending old new = OnFile (λ disk beside. (then_folder : FolderView)
       × (then_folder.calls ≡ beside.folder.all) × SinceOpened (λ opened now.
-      Syncs table rules.allow_empty (folder_at path rules.at_once []) then_folder opened now all ending
-      old new) disk)
+      SyncsBy task.dry_run table task.rules.allow_empty
+      (folder_at task.folder.now task.rules.at_once []) then_folder opened now all ending old new) disk)
 
-  -- the same of the carousel of a disk that was made equal to the folder of this path, by this file
-  -- of suffixes and these rules
-  abbrev pub SyncsTask : Option (Bor Text) → LookRules → Text → (all : Bool) → Option Refusal
-      → UsedDisk S start → (old new : Option (List ℕ)) → Type 0
-  SyncsTask types rules folder all ending used old new = (table : List SuffixType)
-      × IsTyped types table × SyncsTo table rules folder all ending old new used
+  -- the same by its file of suffixes
+  abbrev pub SyncsTask : SyncTask → (all : Bool) → Option Refusal → UsedDisk S F start
+      → (old new : Option (List ℕ)) → Type 0
+  SyncsTask task all ending used old new = (table : List SuffixType)
+      × IsTyped task.types table × SyncsTo table task all ending old new used
 
--- what comes before the disk that is made equal to a folder, in order; each as what, and by which path
-abbrev pub synced_with : (types : Option (Bor Text)) → (folder : Text) → List (Text × Text)
-synced_with types folder = named (codes "types") types ++ (codes "folder", folder) ∷ []
+-- what is needed before the disk, in order
+abbrev pub synced_with : SyncTask → List Need
+synced_with task = if_given Need.types task.types ++ Need.folder task.folder.now ∷ []
 
 -- why no disk is made equal to a folder
 abbrev pub IsUnsynced : (types : Option (Bor Text)) → Refusal → Type 0

@@ -1,24 +1,16 @@
 -- What trying a folder on a copy of a disk does.
-use Rattle.std.specs.Prelude.{◌≡◌, ◌⊎◌, ℕ, Bool, List, [], Option, IsSomeAnd, min, take}
-use Rattle.std.specs.Borrow.{Bor}
+use Rattle.std.specs.Prelude.{◌≡◌, ◌⊎◌, ℕ, Bool, List, Option, IsSomeAnd, min, take}
 use Rattle.std.specs.Io.KnownBytes.{Keeps}
-use Rattle.clap.specs.Words.{Text}
 use Rattle.disk_model.specs.Disk.{IsFirm, OnlySyncs, State}
 use Rattle.disk_model.specs.Failures.{Rises}
-use Rattle.disk_store.specs.Beginning.{SinceOpened}
 use Rattle.disk_store.specs.Ram.{ram_state}
-use Rattle.disk_store.specs.declared.file.start.Start.{Ghosts}
 use Rattle.disk_store.specs.declared.memory.ram.RamDisk.{RamDisk}
 use Rattle.mot_sync_command.specs.Syncing.{Syncs}
-use Rattle.mot_cli.specs.declared.playing.LookRules.{LookRules}
-use Rattle.mot_endpoints.specs.Types.{IsTyped}
 use Rattle.mot_update.specs.Opening.{IsUnopened, OfStanding}
 use Rattle.mot_numbers.specs.Geometry.{length_of}
 use Rattle.mot_numbers.specs.declared.refusal.Refusal.{Refusal}
 use Rattle.mot_numbers.specs.declared.refusal.Refusal.TheVariants.{DeviceFault, OutOfMemory}
-use Rattle.mot_outcome.specs.Outcome.{OnFile}
-use Rattle.mot_outcome.specs.declared.used.UsedDisk.{UsedDisk}
-use Rattle.mot_shelf.specs.View.{FolderView, folder_at}
+use Rattle.mot_shelf.specs.View.{FolderView}
 use Rattle.mot_suffixes.specs.Types.{SuffixType}
 
 -- In these a disk was in a state start and is in a state now.
@@ -56,18 +48,3 @@ module _ (types : List SuffixType) (allows : Bool) (folder then_folder : FolderV
   Tries all ending old new = OnlySyncs start now
       × ((IsSomeAnd ending (λ r. IsUncopied r start now) × Keeps old new)
       ⊎ SyncsCopy all ending old new)
-
-module _ {S : Type 0} {start : Ghosts S} where
-  -- the same of the disk of a file, by this table of suffixes and these rules
-  abbrev pub TriesTo : List SuffixType → LookRules → Text → (all : Bool) → Option Refusal
-      → (old new : Option (List ℕ)) → UsedDisk S start → Type 0
-  TriesTo table rules path all ending old new = OnFile (λ disk beside. (then_folder : FolderView)
-      × (then_folder.calls ≡ beside.folder.all) × SinceOpened (λ opened now.
-      Tries table rules.allow_empty (folder_at path rules.at_once []) then_folder opened now all ending
-      old new) disk)
-
-  -- and by this file of suffixes
-  abbrev pub TriesTask : Option (Bor Text) → LookRules → Text → (all : Bool) → Option Refusal
-      → UsedDisk S start → (old new : Option (List ℕ)) → Type 0
-  TriesTask types rules folder all ending used old new = (table : List SuffixType)
-      × IsTyped types table × TriesTo table rules folder all ending old new used

@@ -6,4 +6,3 @@ mod syncing;
 mod trying;
 
 pub use syncing::{sync, sync_disk};
-pub use trying::try_sync;

@@ -1,29 +1,30 @@
 //! What `sync` does: it makes the carousel of a disk equal to a folder.
-ghost use Rattle.std.specs.Prelude.{◌≡◌, ◌∷◌, [], IfErr, MatchResult, OnOk, codes, false, flat_map};
+ghost use Rattle.std.specs.Prelude.{◌≡◌, ◌∷◌, [], IfErr, MatchResult, OnOk, false, flat_map};
 ghost use Rattle.std.specs.Result.{result_unwrap_or};
 ghost use Rattle.std.specs.Io.KnownBytes.{Appends};
 ghost use Rattle.disk_model.specs.Disk.{KeepsLength};
-ghost use Rattle.mot_endpoints.specs.Opened.{paths_of};
 ghost use Rattle.mot_log.specs.Text.{met_line};
 ghost use Rattle.mot_feed.specs.Feeding.{IsFeedFault};
 ghost use Rattle.mot_journal.specs.Image.{Standing};
 ghost use Rattle.mot_numbers.specs.declared.refusal.Refusal.TheVariants.{DeviceFault, WriteFault};
+ghost use Rattle.mot_endpoints.specs.Opened.{Need};
 ghost use Rattle.mot_outcome.specs.Outcome.{Concludes, Opens};
 ghost use Rattle.mot_playout.specs.Attempts.{fault_of};
 ghost use Rattle.mot_repository.specs.Repository.{Holds};
 ghost use Rattle.mot_shelf.specs.Gives.{GaveSo};
 ghost use Rattle.mot_shelf.specs.Reader.{reader_path, view};
 ghost use Rattle.mot_shelf.specs.View.{FolderView};
-ghost use Rattle.mot_sync_command.specs.Commands.{IsUnsynced, SyncsTask, SyncsTo, synced_with};
+ghost use Rattle.mot_sync_command.specs.Commands.{IsUnsynced, SyncsBy, SyncsTask, SyncsTo, synced_with};
 ghost use Rattle.mot_sync_command.specs.Inner.Looked.{LooksAndTells};
 ghost use Rattle.mot_sync_command.specs.Syncing.{Syncs};
 ghost use Rattle.mot_update.specs.Faults.{StaysCalm};
 
+use crate::trying::try_shelf;
 use disk_model::Disk;
 use disk_store::Start;
-use mot_cli::LookRules;
+use mot_cli::SyncTask;
 use mot_destinations::Cause;
-use mot_endpoints::{Host, file_types};
+use mot_endpoints::{Host, Machine, file_types};
 use mot_events::LookEvent;
 use mot_files::{CallLog, System};
 use mot_folder::{FileTypes, Folder, KnownFiles, look_at_folder};
@@ -36,58 +37,48 @@ use mot_update::Ended;
 use std::alloc::Global;
 use std::io::Write;
 
-/// Makes the carousel of the disk of the file at the path equal to the files of a folder that have
-/// one of the known suffixes, or of those that a file adds.
-pub fn sync<'a, B: Start, W: Write>(
-    host: &mut Host<'a>,
+/// Makes the carousel of the disk of a file equal to the files of a folder that have one of the known
+/// suffixes, or of those that a file adds; or does that to a copy in memory, and prints the lines of
+/// it: then the disk itself is only synced and read.
+pub fn sync<'a, B: Start, W: Write, M: Machine<File = B::File> + Drop>(
+    host: &mut Host<M>,
     alloc: Global,
-    path: &str,
-    folder: &'a str,
-    types: Option<&str>,
-    rules: LookRules,
+    task: &SyncTask<'a>,
     start: B,
     log: &mut W,
 ) -> Finished<B, bool>
-    ensures ended { Concludes (IsUnsynced types.entry) (λ all ending. SyncsTask types.entry rules
-        folder.now all ending result.disk (W.contents log.old) (W.contents log.new))
+    ensures ended { Concludes (IsUnsynced task.now.types) (λ all ending. SyncsTask task.now all ending
+        result.disk (W.contents log.old) (W.contents log.new))
         result.result result.disk (W.contents log.old) (W.contents log.new) }
-    ensures opens { Opens (synced_with types.entry folder.now) path.now
-        (fault_of result.result) result.disk (paths_of host.old) (paths_of host.new) }
+    ensures opens { Opens (synced_with task.now) task.now.disk.now (fault_of result.result)
+        result.disk (M.System.calls host.old.system) (M.System.calls host.new.system) }
 {
-    match file_types(host, alloc, types) {
-        Ok(types) => sync_file(host, alloc, path, folder, &types, rules, start, log),
+    match file_types(host, alloc, task.types) {
+        Ok(types) => sync_file(host, alloc, task, &types, start, log),
         Err(unbegun) => Finished::unbegun(unbegun.refusal, unbegun.cause, start),
     }
 }
 
-/// Makes the carousel of the disk of the file at the path equal to a folder.
-fn sync_file<'a, B: Start, W: Write>(
-    host: &mut Host<'a>,
+/// The same by these suffixes.
+fn sync_file<'a, B: Start, W: Write, M: Machine<File = B::File> + Drop>(
+    host: &mut Host<M>,
     alloc: Global,
-    path: &str,
-    folder: &'a str,
+    task: &SyncTask<'a>,
     types: &FileTypes,
-    rules: LookRules,
     start: B,
     log: &mut W,
 ) -> Finished<B, bool>
-    ensures ended { Concludes (λ r. r ≡ DeviceFault) (λ all ending. SyncsTo types.now rules
-        folder.now all ending (W.contents log.old) (W.contents log.new) result.disk)
+    ensures ended { Concludes (λ r. r ≡ DeviceFault) (λ all ending. SyncsTo types.now task.now all
+        ending (W.contents log.old) (W.contents log.new) result.disk)
         result.result result.disk (W.contents log.old) (W.contents log.new) }
-    ensures opens { Opens ((codes "folder", folder.now) ∷ []) path.now (fault_of result.result)
-        result.disk (paths_of host.old) (paths_of host.new) }
+    ensures opens { Opens (Need.folder task.now.folder.now ∷ []) task.now.disk.now
+        (fault_of result.result) result.disk
+        (M.System.calls host.old.system) (M.System.calls host.new.system) }
 {
-    let shelf = host.folder(folder, rules.at_once);
-    match host.disk(path, start) {
+    let shelf = host.folder(task.folder, task.rules.at_once);
+    match host.disk(task.disk, start) {
         Ok(disk) => {
-            let (ended, cause, calls) = sync_shelf(
-                alloc,
-                disk,
-                shelf,
-                types,
-                rules.allow_empty,
-                log,
-            );
+            let (ended, cause, calls) = sync_or_try(alloc, disk, shelf, types, task, log);
             clear_after(host, &ended.result);
             Finished::of_file(ended, Beside::folder(calls), cause)
         }
@@ -95,9 +86,32 @@ fn sync_file<'a, B: Start, W: Write>(
     }
 }
 
-/// Makes the carousel of the disk equal to a folder. Why the folder was not opened, and the calls on
-/// it, are handed out. (It is a function of its own, for any system of files, since calls at the
-/// program's own take longer to prove.)
+/// Makes the carousel of the disk equal to a folder, or that of a copy. Why the folder was not opened,
+/// and the calls on it, are handed out. (It is a function of its own, for any system of files, since
+/// calls at the program's own take longer to prove.)
+fn sync_or_try<Y: System + Drop, D: Disk, W: Write>(
+    alloc: Global,
+    disk: D,
+    shelf: FolderReader<'_, Y>,
+    types: &FileTypes,
+    task: &SyncTask<'_>,
+    log: &mut W,
+) -> (Ended<D, bool>, Option<Cause>, CallLog)
+    ensures { (then_folder : FolderView) × (then_folder.calls ≡ result.2.all)
+        × SyncsBy task.now.dry_run types.now task.now.rules.allow_empty
+        (view Y.calls shelf.entry) then_folder (D.state disk)
+        (D.state result.0.disk) (result_unwrap_or result.0.result false)
+        (fault_of result.0.result) (W.contents log.old) (W.contents log.new) }
+{
+    let allows_empty = task.rules.allow_empty;
+    if task.dry_run {
+        try_shelf(alloc, disk, shelf, types, allows_empty, log)
+    } else {
+        sync_shelf(alloc, disk, shelf, types, allows_empty, log)
+    }
+}
+
+/// Makes the carousel of the disk equal to a folder.
 pub(crate) fn sync_shelf<Y: System + Drop, D: Disk, W: Write>(
     alloc: Global,
     disk: D,

@@ -3,6 +3,7 @@ ghost use Rattle.std.specs.Prelude.{◌≡◌, Bool, true, false, IfOk};
 ghost use Rattle.disk_store.specs.Beginning.{BeginWith, IsFirst, first_calls};
 ghost use Rattle.disk_store.specs.File.{calls_on, file_state};
 
+use super::files::DiskFiles;
 use super::{FileDiskFrom, Start, Unopened};
 use disk_model::{Disk, DiskFault};
 use std::marker::PhantomData;
@@ -64,8 +65,8 @@ impl<S: Start, K: Beginning> Disk for BegunFile<S, K> {
 }
 
 /// Opens the file at the path as a disk.
-pub fn open_file<S: Start>(
-    rt: &HostRuntime,
+pub fn open_file<S: Start, M: DiskFiles<File = S::File>>(
+    rt: &M,
     path: &str,
     start: S,
 ) -> Result<BegunFile<S, WasThere>, Unopened<S>>
@@ -79,8 +80,8 @@ pub fn open_file<S: Start>(
 }
 
 /// Makes a new file of so many zeros, as a disk.
-pub fn make_file<S: Start>(
-    rt: &HostRuntime,
+pub fn make_file<S: Start, M: DiskFiles<File = S::File>>(
+    rt: &M,
     path: &str,
     len: u64,
     start: S,

@@ -7,12 +7,13 @@ ghost use Rattle.disk_model.specs.Disk.{IsNew, LeavesAll};
 ghost use Rattle.disk_store.specs.File.{file_state, calls_on, fault_on, CanSync};
 ghost use Rattle.disk_store.specs.declared.file.fault.OpenFault.TheVariants.{System};
 
+use super::files::DiskFiles;
+use super::host::HostFiles;
 use super::system::{HeldFile, SideFile};
 use super::{FileDisk, FileDiskFrom, OpenFault, Start, Unknown};
 use crate::DiskFault;
 use crate::call_count::CallCount;
 use std::alloc::Global;
-use std::fs::{File, OpenOptions};
 use std::io::{self, ErrorKind};
 use std::marker::PhantomData;
 
@@ -70,7 +71,7 @@ impl FileDiskFrom<Unknown> {
         ensures order { IfOk result (λ disk.
             calls_on disk ≡ opening_calls (file_state disk).len) }
     {
-        Ok(FileDiskFrom::open_path(rt, path)?)
+        Ok(FileDiskFrom::open_path(&HostFiles { rt }, path)?)
     }
 
     /// Makes a new file of so many zeros, and opens it. It fails if the path names anything, and
@@ -86,14 +87,18 @@ impl FileDiskFrom<Unknown> {
         ensures can_sync { IfOk result CanSync }
         ensures order { IfOk result (λ disk. calls_on disk ≡ making_calls len) }
     {
-        Ok(FileDiskFrom::make_path(rt, path, len)?)
+        Ok(FileDiskFrom::make_path(&HostFiles { rt }, path, len)?)
     }
 }
 
 impl<S: Start> FileDiskFrom<S> {
     /// Opens a file that held what `S` says, as `open` does. The value of `S` is used up, so that
     /// code over any `S` opens or makes one file; it comes back if no file was opened.
-    pub fn open_from(rt: &HostRuntime, path: &str, start: S) -> Result<FileDiskFrom<S>, Unopened<S>>
+    pub fn open_from<M: DiskFiles<File = S::File>>(
+        rt: &M,
+        path: &str,
+        start: S,
+    ) -> Result<FileDiskFrom<S>, Unopened<S>>
         ensures new { IfOk result (λ disk. IsNew (file_state disk).bytes (file_state disk)) }
         ensures first_bytes { IfOk result (λ disk. (file_state disk).len ≡ length S.Start.bytes
             → (file_state disk).bytes ≡ S.Start.bytes) }
@@ -108,8 +113,8 @@ impl<S: Start> FileDiskFrom<S> {
     }
 
     /// Makes a new file as `create` does, and uses up the value of `S` as `open_from` does.
-    pub fn create_from(
-        rt: &HostRuntime,
+    pub fn create_from<M: DiskFiles<File = S::File>>(
+        rt: &M,
         path: &str,
         len: u64,
         start: S,
@@ -127,7 +132,10 @@ impl<S: Start> FileDiskFrom<S> {
     /// Opens what stands at the path. The lock comes before all else, so that no other program of
     /// ours changes the file in between. What an earlier one wrote is synced, and what the system
     /// keeps of it dropped, before anything is asked of the file.
-    fn open_path(rt: &HostRuntime, path: &str) -> Result<FileDiskFrom<S>, OpenFault>
+    fn open_path<M: DiskFiles<File = S::File>>(
+        rt: &M,
+        path: &str,
+    ) -> Result<FileDiskFrom<S>, OpenFault>
         ensures new { IfOk result (λ disk. IsNew (file_state disk).bytes (file_state disk)) }
         ensures first_bytes { IfOk result (λ disk. (file_state disk).len ≡ length S.Start.bytes
             → (file_state disk).bytes ≡ S.Start.bytes) }
@@ -142,18 +150,18 @@ impl<S: Start> FileDiskFrom<S> {
     }
 
     /// Makes a file at a path that names nothing yet, and removes it again if that fails.
-    fn make_path(rt: &HostRuntime, path: &str, len: u64) -> Result<FileDiskFrom<S>, OpenFault>
+    fn make_path<M: DiskFiles<File = S::File>>(
+        rt: &M,
+        path: &str,
+        len: u64,
+    ) -> Result<FileDiskFrom<S>, OpenFault>
         ensures new { IfOk result (λ disk. IsNew (replicate len 0) (file_state disk)) }
         ensures can_sync { IfOk result CanSync }
         ensures all { IfOk result (λ disk. LeavesAll (file_state disk)) }
         ensures order { IfOk result (λ disk. calls_on disk ≡ making_calls len) }
     {
         let beside = SideFile::of(rt, path)?;
-        let file = OpenOptions::new()
-            .read(true)
-            .write(true)
-            .create_new(true)
-            .open(rt, path)?;
+        let file = rt.make_disk(path)?;
         match FileDiskFrom::fill(file, rt, path, len) {
             Ok(disk) => Ok(disk),
             Err(fault) => {
@@ -164,9 +172,9 @@ impl<S: Start> FileDiskFrom<S> {
     }
 
     /// Fills a new file with zeros, and makes them and its name last.
-    fn fill(
-        file: File,
-        rt: &HostRuntime,
+    fn fill<M: DiskFiles<File = S::File>>(
+        file: S::File,
+        rt: &M,
         path: &str,
         len: u64,
     ) -> Result<FileDiskFrom<S>, OpenFault>
@@ -188,7 +196,7 @@ impl<S: Start> FileDiskFrom<S> {
     }
 
     /// The disk before its first call.
-    fn begin(file: HeldFile, len: u64) -> FileDiskFrom<S>
+    fn begin(file: HeldFile<S::File>, len: u64) -> FileDiskFrom<S>
         requires { HasOnlyOpened S.Start.bytes len file.history.calls }
         ensures new { IsNew (file_state result).bytes (file_state result) }
         ensures can_sync { CanSync result }
@@ -207,16 +215,20 @@ impl<S: Start> FileDiskFrom<S> {
 }
 
 /// The file at the path, if it may be a disk.
-fn lock_disk(rt: &HostRuntime, path: &str) -> Result<HeldFile, OpenFault>
+fn lock_disk<M: DiskFiles>(rt: &M, path: &str) -> Result<HeldFile<M::File>, OpenFault>
     ensures { IfOk result (λ held. held.history.calls ≡ Locked ∷ []) }
 {
-    let file = HeldFile::lock(OpenOptions::new().read(true).write(true).open(rt, path)?)?;
+    let file = HeldFile::lock(rt.open_disk(path)?)?;
     file.refuse_no_disk()?;
     Ok(file)
 }
 
 /// How long it is, once what stands there lasts and is what the device has.
-fn synced_length(file: &mut HeldFile, rt: &HostRuntime, path: &str) -> Result<u64, OpenFault>
+fn synced_length<M: DiskFiles>(
+    file: &mut HeldFile<M::File>,
+    rt: &M,
+    path: &str,
+) -> Result<u64, OpenFault>
     ensures { IfOk result (λ len. file.new.history.calls
         ≡ file.old.history.calls ++ Synced ∷ Dropped ∷ Opened len ∷ []) }
 {
@@ -228,7 +240,12 @@ fn synced_length(file: &mut HeldFile, rt: &HostRuntime, path: &str) -> Result<u6
 }
 
 /// Fills it with zeros, and makes them and its name last.
-fn make_zeros(made: &mut HeldFile, rt: &HostRuntime, path: &str, len: u64) -> Result<(), OpenFault>
+fn make_zeros<M: DiskFiles>(
+    made: &mut HeldFile<M::File>,
+    rt: &M,
+    path: &str,
+    len: u64,
+) -> Result<(), OpenFault>
     ensures { OnOk result (made.new.history.calls
         ≡ made.old.history.calls ++ Made len ∷ Synced ∷ Dropped ∷ Named ∷ []) }
 {
@@ -243,7 +260,7 @@ fn make_zeros(made: &mut HeldFile, rt: &HostRuntime, path: &str, len: u64) -> Re
 
 /// Which file this error is about: the empty one beside the disk or, if the error is that of a
 /// device and the empty file is there, the disk itself.
-fn fault_of_dropping(rt: &HostRuntime, path: &str, error: io::Error) -> OpenFault {
+fn fault_of_dropping<M: DiskFiles>(rt: &M, path: &str, error: io::Error) -> OpenFault {
     match error.kind() {
         ErrorKind::StorageFull | ErrorKind::QuotaExceeded | ErrorKind::ReadOnlyFilesystem
             if SideFile::of_target(rt, path).is_ok_and(|beside| beside.is_there()) => {

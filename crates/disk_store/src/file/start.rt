@@ -2,12 +2,17 @@
 ghost use Rattle.std.specs.Prelude.{◌≡◌, ◌<◌, ℕ, List, [], All};
 ghost use Rattle.std.proofs.lemmas.List.Elements.{All-nil};
 
+use super::files::DiskFile;
+use std::fs::File;
 use std::marker::PhantomData;
 
 /// The bytes that a file holds as it is opened. Nothing reads them then, and no value of the
 /// program is them: they are a word of contracts alone. What is proved of a function over `S:
 /// Start` is proved for all such bytes.
 pub trait Start: Drop {
+    /// The open files of the machine on which it is.
+    type File: DiskFile;
+
     ghost bytes: { List ℕ };
 
     ghost are_bytes: { All (λ b. b < 256) bytes };
@@ -25,6 +30,8 @@ pub trait Start: Drop {
 pub struct Unknown;
 
 impl Start for Unknown {
+    type File = File;
+
     ghost bytes = { [] };
 
     ghost are_bytes = { All-nil (λ b. b < 256) };
@@ -48,6 +55,8 @@ pub fn with_second<S: Start>(start: S) -> (S, Second<S>)
 }
 
 impl<S: Start> Start for Second<S> {
+    type File = S::File;
+
     ghost bytes = { S.Start.others };
 
     ghost are_bytes = { S.Start.others_are_bytes };

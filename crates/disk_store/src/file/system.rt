@@ -8,13 +8,10 @@ ghost use Rattle.disk_store.specs.File.{held_calls, held_fault};
 ghost use Rattle.disk_store.specs.Inner.FirstFault.{KeepsFirst};
 
 use super::OpenFault;
+use super::files::{DiskFile, DiskFiles};
 use crate::history::History;
-use sqlite_std_file::OpenError;
-use std::fs::{self, File, TryLockError};
-use std::io::{self, ErrorKind, Seek, SeekFrom};
-use std::os::unix::fs::{FileExt, FileTypeExt, MetadataExt};
-use std::path::Path;
-use std::rt::Files;
+use std::fs::TryLockError;
+use std::io::{self, ErrorKind};
 
 /// How many zeros are written at once.
 const PIECE: u64 = 16_384;
@@ -22,16 +19,16 @@ const PIECE: u64 = 16_384;
 /// A file that this opening has locked, and the calls on it. Nothing else makes such a value, and
 /// no other call is made on it.
 #[derive(Drop)]
-pub struct HeldFile {
-    file: File,
+pub struct HeldFile<F: DiskFile> {
+    file: F,
     history: History,
     /// Why the first read, write or sync that failed did so.
     fault: Option<io::Error>,
 }
 
-impl HeldFile {
+impl<F: DiskFile> HeldFile<F> {
     /// Fails if another open of the file has the lock, which goes with the file's last handle.
-    pub fn lock(file: File) -> Result<HeldFile, OpenFault>
+    pub fn lock(file: F) -> Result<HeldFile<F>, OpenFault>
         ensures { IfOk result (λ held. held_calls held ≡ Locked ∷ []) }
     {
         let mut history = History::new();
@@ -60,14 +57,14 @@ impl HeldFile {
 
     /// Nothing else has a length that stays.
     fn is_disk(&self) -> io::Result<bool> {
-        let kind = self.file.metadata()?.file_type();
-        Ok(kind.is_file() || kind.is_block_device())
+        let found = self.file.facts()?;
+        Ok(found.is_file || found.is_block_device)
     }
 
     /// What the system keeps of such a file is not dropped.
     fn has_other_names(&self) -> io::Result<bool> {
-        let found = self.file.metadata()?;
-        Ok(found.is_file() && found.nlink() != 1)
+        let found = self.file.facts()?;
+        Ok(found.is_file && found.names != 1)
     }
 
     /// How long it is.
@@ -75,7 +72,7 @@ impl HeldFile {
         ensures { IfOk result
             (λ len. held_calls self.new ≡ held_calls self.old ++ Opened len ∷ []) }
     {
-        self.history.opened(self.file.seek(SeekFrom::End(0)))
+        self.history.opened(self.file.length())
     }
 
     /// Writes so many zeros from its start on, so that each byte has its place on the device: in a
@@ -97,20 +94,20 @@ impl HeldFile {
 
     /// Drops what the system keeps of the file of this path in its memory. After a sync that failed
     /// it keeps what it could not write as if it had: so a read gives what the device has.
-    pub fn drop_cached(&mut self, rt: &HostRuntime, path: &str) -> io::Result<()>
+    pub fn drop_cached<M: DiskFiles<File = F>>(&mut self, rt: &M, path: &str) -> io::Result<()>
         ensures { OnOk result
             (held_calls self.new ≡ held_calls self.old ++ Dropped ∷ []) }
     {
-        let answer = drop_cached_pages(rt, &self.file, path);
+        let answer = rt.drop_cached(&self.file, path);
         self.history.dropped(answer)
     }
 
     /// Makes its name last: the folder of this path has it.
-    pub fn sync_folder<T: Files<File = File>>(&mut self, files: &T, path: &str) -> io::Result<()>
+    pub fn sync_folder<M: DiskFiles>(&mut self, files: &M, path: &str) -> io::Result<()>
         ensures { OnOk result
             (held_calls self.new ≡ held_calls self.old ++ Named ∷ []) }
     {
-        self.history.named(sync_folder_of(files, path))
+        self.history.named(files.sync_folder_of(path))
     }
 
     /// Reads the bytes from a position on.
@@ -173,7 +170,7 @@ impl HeldFile {
 }
 
 /// The last piece goes first, so that a length that the system refuses is refused at once.
-fn write_zeros(file: &File, len: u64) -> io::Result<()> {
+fn write_zeros<F: DiskFile>(file: &F, len: u64) -> io::Result<()> {
     let zeros = [0; PIECE as usize];
     let mut end = len;
     while end > 0 {
@@ -182,25 +179,6 @@ fn write_zeros(file: &File, len: u64) -> io::Result<()> {
         end -= size;
     }
     Ok(())
-}
-
-/// No call of std drops a file's cached pages. The opening of the kit's SQLite does, of the file of
-/// a path, once it has synced the file and its folder; nothing else is asked of the file that it
-/// opens. It needs an empty file beside it, and makes one if there is none. That file stays, so
-/// that a disk opens on a file system that has become full. A block device's pages are dropped with
-/// its last handle.
-fn drop_cached_pages(rt: &HostRuntime, file: &File, path: &str) -> io::Result<()> {
-    if file.metadata()?.file_type().is_block_device() {
-        return Ok(());
-    }
-    let real = fs::canonicalize(rt, path)?;
-    match sqlite_std_file::open(rt, real.as_str(), sqlite_std_file::Unknown) {
-        Ok(_) => Ok(()),
-        Err(OpenError::Io(error)) => Err(error),
-        Err(OpenError::OutOfMemory) => Err(ErrorKind::OutOfMemory.into()),
-        Err(OpenError::Busy) => Err(ErrorKind::ResourceBusy.into()),
-        Err(OpenError::HotJournal) => Err(ErrorKind::AlreadyExists.into()),
-    }
 }
 
 /// The empty file that `drop_cached_pages` wants beside a file: its path, and whether anything
@@ -213,9 +191,9 @@ pub struct SideFile {
 
 impl SideFile {
     /// Looks beside the file of this path. What can't be looked at counts as there.
-    pub fn of(rt: &HostRuntime, path: &str) -> io::Result<SideFile> {
-        let path = format!(in rt.alloc(); "{path}-wal")?;
-        let was_there = match fs::symlink_metadata(rt, path.as_str()) {
+    pub fn of<M: DiskFiles>(rt: &M, path: &str) -> io::Result<SideFile> {
+        let path = format!(in rt.heap(); "{path}-wal")?;
+        let was_there = match rt.facts_at(path.as_str()) {
             Ok(_) => true,
             Err(error) => error.kind() != ErrorKind::NotFound,
         };
@@ -223,8 +201,8 @@ impl SideFile {
     }
 
     /// Looks beside the file that this path leads to. That file is there.
-    pub fn of_target(rt: &HostRuntime, path: &str) -> io::Result<SideFile> {
-        let real = fs::canonicalize(rt, path)?;
+    pub fn of_target<M: DiskFiles>(rt: &M, path: &str) -> io::Result<SideFile> {
+        let real = rt.real_path(path)?;
         SideFile::of(rt, real.as_str())
     }
 
@@ -235,13 +213,13 @@ impl SideFile {
 
     /// Removes the file of this path that was made and is of no use, and the empty one that was
     /// made with it. It fails if that can't be done, and takes no memory.
-    pub fn take_away(&self, rt: &HostRuntime, path: &str) -> io::Result<()> {
-        fs::remove_file(rt, path)?;
+    pub fn take_away<M: DiskFiles>(&self, rt: &M, path: &str) -> io::Result<()> {
+        rt.remove_disk(path)?;
         self.clear(rt)
     }
 
     /// Removes the empty file, if nothing stood there before.
-    pub fn clear(&self, rt: &HostRuntime) -> io::Result<()> {
+    pub fn clear<M: DiskFiles>(&self, rt: &M) -> io::Result<()> {
         if self.was_there {
             return Ok(());
         }
@@ -250,17 +228,9 @@ impl SideFile {
 }
 
 /// Takes away what an opening has made beside a file, and nobody else's file.
-fn remove_empty(rt: &HostRuntime, path: &str) -> io::Result<()> {
-    match fs::symlink_metadata(rt, path) {
-        Ok(found) if found.is_file() && found.len() == 0 => fs::remove_file(rt, path),
+fn remove_empty<M: DiskFiles>(rt: &M, path: &str) -> io::Result<()> {
+    match rt.facts_at(path) {
+        Ok(found) if found.is_file && found.len == 0 => rt.remove_disk(path),
         _ => Ok(()),
     }
-}
-
-fn sync_folder_of<T: Files<File = File>>(files: &T, path: &str) -> io::Result<()> {
-    let folder = match Path::new(path).parent() {
-        Some(folder) if folder.as_str() != "" => File::open(files, folder)?,
-        _ => File::open(files, ".")?,
-    };
-    folder.sync_all()
 }

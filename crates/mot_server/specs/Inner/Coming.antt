@@ -19,10 +19,10 @@ abbrev pub whole_result : Result Unit Refusal → Result Bool Refusal
 whole_result (Ok done) = Ok true
 whole_result (Err refusal) = Err refusal
 
-module _ {S : Type 0} {start : Ghosts S} where
+module _ {S F : Type 0} {start : Ghosts S F} where
   -- It was not begun, and nothing was read or printed; or it was, and ended so. What the reader had
   -- left was unread and is left, and the writer's known bytes were old and are new.
-  abbrev pub ComesOut : Task → Result Bool Refusal → UsedDisk S start
+  abbrev pub ComesOut : Task → Result Bool Refusal → UsedDisk S F start
       → (unread left old new : Option (List ℕ)) → Type 0
   ComesOut task result used unread left old new =
       IsErrAnd result (λ refusal. IsBeginningRefusal task refusal × IsUntold used old new
@@ -30,6 +30,6 @@ module _ {S : Type 0} {start : Ghosts S} where
       ⊎ Ends task (result_unwrap_or result false) (fault_of result) used unread left old new
 
   -- how a run ends that was not begun, since its words ask for no task
-  abbrev pub TellsWhy : NoTask → Exit S start → Type 0
+  abbrev pub TellsWhy : NoTask → Exit S F start → Type 0
   TellsWhy (Lacks option) exit = (exit.status ≡ 2) × (exit.refusal ≡ None)
   TellsWhy (OutOfRange refusal) exit = (exit.status ≡ 1) × (exit.refusal ≡ Some refusal)

@@ -1,11 +1,11 @@
-use Rattle.std.proofs.Common.{◌≡◌, ◌⊎◌, ◌∙◌, ◌-◌, ℕ, List, [], ◌∷◌, ◌++◌, Option, Some, None, Result, Bool, ap, inl, inr, refl, subst}
+use Rattle.std.proofs.Common.{◌≡◌, ◌⊎◌, ◌∙◌, ◌-◌, ℕ, List, [], ◌++◌, Option, Some, None, Result, Bool, ap, inl, inr, refl, subst}
 use Rattle.std.proofs.Common.{Ok, sym}
-use Rattle.std.specs.Prelude.{IfSome, codes, option_map, unwrap_or}
+use Rattle.std.specs.Prelude.{IfSome, option_map, unwrap_or}
 use Rattle.std.specs.Borrow.{Bor}
 use Rattle.disk_store.specs.declared.file.start.Start.{Ghosts}
 use Rattle.mot_air.specs.Inner.Beside.{lines_in}
 use Rattle.mot_air.specs.Commands.{IsUnplayed, LinesAsked, LinesOf, PlaysTask, PlaysTo, folder_asked}
-use Rattle.mot_air.specs.Commands.{played_as, played_with, watch_asked}
+use Rattle.mot_air.specs.Commands.{needs_of, others_of, packets_of, played_as, watch_asked}
 use Rattle.mot_outcome.specs.Outcome.{Concludes}
 use Rattle.mot_air.specs.Telling.{lines_at, tale_with}
 use Rattle.mot_folder.specs.Looked.{Watch}
@@ -18,24 +18,33 @@ use Rattle.std.proofs.KnownBytes.{Keeps-refl}
 use Rattle.mot_outcome.proofs.Laws.{concludes_more}
 use Rattle.mot_outcome.proofs.Laws.{begun_after, begun_first, opened_after}
 use Rattle.mot_air.proofs.commands.play.Goals as goal
-use Rattle.mot_endpoints.specs.Opened.{named, paths_of}
+use Rattle.mot_endpoints.specs.Opened.{Need, if_given}
 use Rattle.mot_line_folder.specs.declared.folder.LineFolder.{LineFolder}
 use Rattle.mot_endpoints.specs.Types.{IsTyped}
 use Rattle.mot_line_folder.specs.Spool.{SpoolView}
 use Rattle.mot_endpoints.specs.LinePlaces.{ChecksLines}
 use Rattle.mot_endpoints.specs.declared.lines.Others.{Others}
 use Rattle.mot_files.specs.Call.{Call}
-use Rattle.mot_files.specs.Host.{calls_of}
 use Rattle.mot_shelf.specs.View.{FolderView}
 use Rattle.mot_suffixes.specs.Types.{SuffixType}
 use Rattle.mot_numbers.specs.declared.refusal.Refusal.TheVariants.{DeviceFault, WriteFault}
+
+-- what is needed of the words, apart from suffixes and packets
+abbrev lines_of : PlayTask → List Need
+lines_of task = if_given (λ path. Need.lines path (others_of task)) task.lines
+
+abbrev folder_of : PlayTask → List Need
+folder_of task = if_given Need.folder task.folder
+
+abbrev status_of : PlayTask → List Need
+status_of task = if_given Need.status task.status
 
 -- what is the same of each frame is the same
 by_frame : {A : Type 0} (w v : ℕ → A) → ((frame : ℕ) → w frame ≡ v frame) → w ≡ v
 by_frame w v same = λ i frame. same frame i
 
 -- the same folders and lines, told of the words
-asked : {S : Type 0} {start : Ghosts S} (task : PlayTask) (used : UsedDisk S start)
+asked : {S F : Type 0} {start : Ghosts S F} (task : PlayTask) (used : UsedDisk S F start)
     (old new : Option (List ℕ)) (w v : ℕ → Option Watch) (h k : Option (List ℕ × ℕ))
     (folder at : FolderView) (lines : SpoolView) (all : Bool) (ending : Option Refusal)
     → ((frame : ℕ) → w frame ≡ v frame) → h ≡ k → folder ≡ at
@@ -107,8 +116,8 @@ lines_asked calls (Some path) others (Some lines) same checked =
     some_of same = cc
 
 -- what was played is told of the words
-played : {S : Type 0} {start : Ghosts S} (task : PlayTask) (table : List SuffixType)
-    (used : UsedDisk S start) (old new : Option (List ℕ)) (result : Result Bool Refusal)
+played : {S F : Type 0} {start : Ghosts S F} (task : PlayTask) (table : List SuffixType)
+    (used : UsedDisk S F start) (old new : Option (List ℕ)) (result : Result Bool Refusal)
     (w : ℕ → Option Watch) (hand : Option (List ℕ × ℕ)) (folder : FolderView) (lines : SpoolView)
     → IsTyped task.types table → ((frame : ℕ) → w frame ≡ watch_asked table task frame)
     → hand ≡ option_map (λ path. ([], unwrap_or task.every 8 - 1)) task.lines
@@ -145,58 +154,57 @@ returns-clause-ended g c =
     c.args.task.lines c.in-Ok-line_folder.lines c.in-Ok-line_folder.ensures.hand
     c.in-Ok-line_folder.ensures.every)
     c.followed-folder.ensures.folder
-    (lines_asked calls_of c.args.task.lines _ c.in-Ok-line_folder.lines
+    (lines_asked g.M.System.System.calls c.args.task.lines _ c.in-Ok-line_folder.lines
     c.in-Ok-line_folder.ensures.folder c.in-Ok-line_folder.ensures.checked)
     c.play_file.ensures.ended
 
 pub returns-in-Err-clause-opens : goal.returns-in-Err-clause-opens
 returns-in-Err-clause-opens g c =
     let task = c.args.task in
-    let old = paths_of c.args.host.now in
-    let new = paths_of c.file_types.new.host in
-    subst (λ (f : _). Opens (played_with task) task.disk.now (fault_of f.result) f.disk old new)
+    let old = g.M.System.System.calls c.args.host.now.system in
+    let new = g.M.System.System.calls c.file_types.new.host.system in
+    subst (λ (f : _). Opens (needs_of task) task.disk.now (fault_of f.result) f.disk old new)
     (sym c.unbegun.ensures)
-    (inl (begun_first (named (codes "types") task.types) (named (codes "lines") task.lines
-    ++ (named (codes "folder") task.folder ++ (named (codes "status") task.status
-    ++ (codes "packets", task.packets.now) ∷ []))) old new c.in-Err.unbegun.refusal
+    (inl (begun_first (if_given Need.types task.types) (lines_of task ++ (folder_of task
+    ++ (status_of task ++ packets_of task))) old new c.in-Err.unbegun.refusal
     c.in-Err.ensures.opens))
 
 pub returns-in-Err-line_folder-clause-opens : goal.returns-in-Err-line_folder-clause-opens
 returns-in-Err-line_folder-clause-opens g c =
     let task = c.args.task in
-    let types = named (codes "types") task.types in
-    let lines = named (codes "lines") task.lines in
-    let others = named (codes "folder") task.folder ++ (named (codes "status") task.status
-    ++ (codes "packets", task.packets.now) ∷ []) in
-    let old = paths_of c.args.host.now in
-    let mid = paths_of c.file_types.new.host in
-    let new = paths_of c.line_folder.new.host in
+    let others = folder_of task ++ (status_of task ++ packets_of task) in
+    let old = g.M.System.System.calls c.args.host.now.system in
+    let mid = g.M.System.System.calls c.file_types.new.host.system in
+    let new = g.M.System.System.calls c.line_folder.new.host.system in
     let refusal = c.in-Err-line_folder.unbegun.refusal in
-    subst (λ (f : _). Opens (played_with task) task.disk.now (fault_of f.result) f.disk old new)
+    subst (λ (f : _). Opens (needs_of task) task.disk.now (fault_of f.result) f.disk old new)
     (sym c.unbegun-in-Err-line_folder.ensures)
-    (inl (begun_after types (lines ++ others) old mid new refusal c.in-Ok.ensures.opens
-    (begun_first lines others mid new refusal c.in-Err-line_folder.ensures.opens)))
+    (inl (begun_after (if_given Need.types task.types) (lines_of task ++ others) old mid new refusal
+    c.in-Ok.ensures.opens
+    (begun_first (lines_of task) others mid new refusal c.in-Err-line_folder.ensures.opens)))
 
 pub returns-clause-opens : goal.returns-clause-opens
 returns-clause-opens g c =
+    let calls = g.M.System.System.calls in
     let task = c.args.task in
-    let types = named (codes "types") task.types in
-    let lines = named (codes "lines") task.lines in
-    let folder = named (codes "folder") task.folder in
-    let status = named (codes "status") task.status in
-    let packets = (codes "packets", task.packets.now) ∷ [] in
+    let disk = task.disk.now in
+    let lines = lines_of task in
+    let folder = folder_of task in
+    let status = status_of task in
+    let packets = packets_of task in
     let used = c.play_file.result.disk in
     let ending = fault_of c.play_file.result.result in
-    let first = paths_of c.file_types.new.host in
-    let second = paths_of c.line_folder.new.host in
-    let third = paths_of c.followed-folder.new.host in
-    let fourth = paths_of c.status_file-status.new.host in
-    let last = paths_of c.play_file.new.host in
-    opened_after types (lines ++ (folder ++ (status ++ packets))) task.disk.now ending used
-    (paths_of c.args.host.now) first last c.in-Ok.ensures.opens
-    (opened_after lines (folder ++ (status ++ packets)) task.disk.now ending used first second last
+    let first = calls c.file_types.new.host.system in
+    let second = calls c.line_folder.new.host.system in
+    let third = calls c.followed-folder.new.host.system in
+    let fourth = calls c.status_file-status.new.host.system in
+    let last = calls c.play_file.new.host.system in
+    let Does : (opened now : List Call) → Type 0 = λ opened now. now ≡ opened in
+    opened_after (if_given Need.types task.types) (lines ++ (folder ++ (status ++ packets))) disk Does
+    ending used (calls c.args.host.now.system) first last c.in-Ok.ensures.opens
+    (opened_after lines (folder ++ (status ++ packets)) disk Does ending used first second last
     c.in-Ok-line_folder.ensures.opens
-    (opened_after folder (status ++ packets) task.disk.now ending used second third last
+    (opened_after folder (status ++ packets) disk Does ending used second third last
     c.followed-folder.ensures.opens
-    (opened_after status packets task.disk.now ending used third fourth last
+    (opened_after status packets disk Does ending used third fourth last
     c.status_file-status.ensures.opens c.play_file.ensures.opens)))

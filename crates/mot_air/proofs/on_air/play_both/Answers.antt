@@ -30,7 +30,7 @@ use Rattle.mot_shelf.specs.Reader.{reader_path}
 use Rattle.mot_shelf.specs.View.{FolderView}
 
 -- the disk that is handed out is that of playing
-handed : (g : given.Over) (c : goal.After-of_file g) (P : FileDiskFrom _ _ → Beside → Type 0)
+handed : (g : given.Over) (c : goal.After-of_file g) (P : FileDiskFrom _ _ _ → Beside → Type 0)
     → P c.play_into-end.result.ended.disk.disk c.play_into-end.result.beside
     → OnFile P (OfFile c.answered.result.disk.disk c.play_into-end.result.beside)
 handed g c P is =
@@ -136,6 +136,6 @@ returns-clause-ended g c = λ target opens is_first.
     target opens is_first c.play_into-end.ensures.played
 
 pub returns-clause-opens : goal.returns-clause-opens
-returns-clause-opens g c = λ path others before after came.
-    subst (λ (f : _). Opens others path (fault_of f.result) f.disk before after)
-    (sym c.of_file.ensures) came
+returns-clause-opens g c = λ path needs old then new are came.
+    subst (λ (f : _). Opens needs path (fault_of f.result) f.disk old new)
+    (sym c.of_file.ensures) (then, are, came)

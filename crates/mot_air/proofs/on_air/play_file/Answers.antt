@@ -1,4 +1,4 @@
-use Rattle.std.proofs.Common.{ℕ, [], ◌∷◌, ◌∙◌, ◌-◌, Bool, List, Option, Result, inl, subst, sym}
+use Rattle.std.proofs.Common.{ℕ, ◌∙◌, ◌-◌, Bool, ap, List, Option, Result, inl, subst, sym}
 use Rattle.std.proofs.KnownBytes.{Keeps-refl}
 use Rattle.disk_store.specs.declared.file.start.Start.{Ghosts}
 use Rattle.mot_air.specs.Inner.Beside.{lines_in}
@@ -6,18 +6,17 @@ use Rattle.mot_air.specs.Inner.Unbegun.{IsUnbegun}
 use Rattle.mot_numbers.specs.declared.refusal.Refusal.{Refusal}
 use Rattle.mot_outcome.specs.Outcome.{Concludes}
 use Rattle.mot_outcome.specs.declared.used.UsedDisk.{UsedDisk}
-use Rattle.std.specs.Prelude.{codes, option_map}
-use Rattle.mot_air.specs.Commands.{PlaysTo, played_as}
+use Rattle.std.specs.Prelude.{option_map}
+use Rattle.mot_air.specs.Commands.{PlaysTo, packets_of, played_as}
 use Rattle.mot_air.specs.Telling.{folder_in, tale_with, watch_in, watched}
 use Rattle.mot_line_folder.specs.declared.folder.LineFolder.{LineFolder}
 use Rattle.mot_air.proofs.on_air.play_file.Goals as goal
-use Rattle.mot_endpoints.specs.Opened.{paths_of}
 use Rattle.mot_shelf.specs.Reader.{reader_path}
 
 -- what was not begun
-unbegun_so : {S : Type 0} {start : Ghosts S} (IsEarly : Refusal → Type 0)
+unbegun_so : {S F : Type 0} {start : Ghosts S F} (IsEarly : Refusal → Type 0)
     (IsEnded : Bool → Option Refusal → Type 0) (result : Result Bool Refusal)
-    (used : UsedDisk S start) (log : Option (List ℕ)) → IsUnbegun IsEarly result used
+    (used : UsedDisk S F start) (log : Option (List ℕ)) → IsUnbegun IsEarly result used
     → Concludes IsEarly IsEnded result used log log
 unbegun_so IsEarly IsEnded result used log is =
     subst (λ (r : Result Bool Refusal). Concludes IsEarly IsEnded r used log log) (sym is.refused)
@@ -29,9 +28,11 @@ returns-in-Ok-clause-ended g c =
 
 pub returns-in-Ok-clause-opens : goal.returns-in-Ok-clause-opens
 returns-in-Ok-clause-opens g c =
-    c.play_both-finished.ensures.opens c.args.airing.task.disk.now
-    ((codes "packets", c.args.airing.task.packets.now) ∷ []) (paths_of c.args.host.now)
-    (paths_of c.clear_after.new.host) (c.clear_after.ensures ∙ c.in-Ok.ensures.opens)
+    let calls = g.M.System.System.calls in
+    let both = c.in-Ok.ensures.opens in
+    c.play_both-finished.ensures.opens c.args.airing.task.disk.now (packets_of c.args.airing.task)
+    (calls c.args.host.now.system) both.0 (calls c.clear_after.new.host.system) both.1
+    (ap calls c.clear_after.ensures ∙ both.2)
 
 pub returns-in-Err-clause-ended : goal.returns-in-Err-clause-ended
 returns-in-Err-clause-ended g c =

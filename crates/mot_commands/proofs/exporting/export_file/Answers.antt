@@ -1,9 +1,8 @@
-use Rattle.std.proofs.Common.{[], ◌≡◌, ◌∙◌, inl, inr, refl, subst, sym}
+use Rattle.std.proofs.Common.{[], ap, inl, inr, refl, subst, sym, ◌∙◌, ◌≡◌}
 use Rattle.std.proofs.KnownBytes.{Keeps-refl}
 use Rattle.disk_store.proofs.Laws.{since_opened}
 use Rattle.mot_commands.proofs.exporting.export_file.Goals as goal
 use Rattle.mot_commands.specs.Commands.{ExportsFile}
-use Rattle.mot_endpoints.specs.Opened.{paths_of}
 use Rattle.mot_numbers.specs.declared.refusal.Refusal.TheVariants.{DeviceFault}
 use Rattle.mot_outcome.specs.Outcome.{Finishes, Opens}
 use Rattle.mot_export.specs.Exporting.{Exports}
@@ -29,11 +28,11 @@ returns-in-Err-clause-ended g c =
 
 pub returns-in-Ok-clause-files : goal.returns-in-Ok-clause-files
 returns-in-Ok-clause-files g c =
-    subst (λ (f : _). Opens [] c.args.path.now (fault_of f.result) f.disk (paths_of c.args.host.now)
-    (paths_of c.finish.new.host)) (sym c.finish.ensures.ended.1)
-    (c.finish.ensures.paths ∙ c.in-Ok.ensures.paths)
+    subst (λ (f : _). Opens [] c.args.path.now (fault_of f.result) f.disk (g.M.System.System.calls c.args.host.now.system)
+    (g.M.System.System.calls c.finish.new.host.system)) (sym c.finish.ensures.ended.1)
+    (g.M.System.System.calls c.args.host.now.system, refl, ap g.M.System.System.calls c.finish.ensures.calls ∙ c.in-Ok.ensures.calls)
 
 pub returns-in-Err-clause-files : goal.returns-in-Err-clause-files
 returns-in-Err-clause-files g c =
-    subst (λ (f : _). Opens [] c.args.path.now (fault_of f.result) f.disk (paths_of c.args.host.now)
-    (paths_of c.disk.new.self)) (sym c.unopened.ensures) (inr (refl, c.in-Err.ensures.paths))
+    subst (λ (f : _). Opens [] c.args.path.now (fault_of f.result) f.disk (g.M.System.System.calls c.args.host.now.system)
+    (g.M.System.System.calls c.disk.new.self.system)) (sym c.unopened.ensures) (inr (refl, (g.M.System.System.calls c.args.host.now.system, refl, c.in-Err.ensures.calls)))

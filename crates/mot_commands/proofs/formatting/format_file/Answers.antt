@@ -1,12 +1,10 @@
-use Rattle.std.proofs.Common.{[], append-nil, inl, inr, refl, subst, sym}
+use Rattle.std.proofs.Common.{inl, inr, refl, subst, sym}
 use Rattle.std.proofs.KnownBytes.{Keeps-refl}
-use Rattle.std.proofs.lemmas.List.Elements.{All-nil}
 use Rattle.mot_playout.specs.Attempts.{fault_of}
-use Rattle.mot_commands.specs.Commands.{FormatsFile, IsUnformatted, LooksFirst, OpensOrMakes}
-use Rattle.mot_commands.specs.Commands.OpensOrMakes.{unbegun}
+use Rattle.mot_commands.specs.Commands.{FormatsFile, FormatsFree, IsUnformatted}
+use Rattle.mot_commands.specs.Commands.FormatsFree.{free, in_use, unasked}
 use Rattle.mot_outcome.specs.Outcome.{Finishes}
 use Rattle.mot_commands.proofs.formatting.format_file.Goals as goal
-use Rattle.mot_endpoints.specs.Opened.{paths_of}
 
 pub returns-then-not-is_valid-clause-ended : goal.returns-then-not-is_valid-clause-ended
 returns-then-not-is_valid-clause-ended g c =
@@ -17,13 +15,6 @@ returns-then-not-is_valid-clause-ended g c =
       record { untouched = tt; silent = Keeps-refl _ },
     ))
 
-pub returns-then-not-is_valid-clause-looked : goal.returns-then-not-is_valid-clause-looked
-returns-then-not-is_valid-clause-looked g c =
-    let calls = g.Y.System.calls c.args.system.now in
-    subst (λ (f : _). LooksFirst c.args.path.now f.disk calls calls)
-    (sym c.unbegun.ensures)
-    (record { more = []; calls = sym (append-nil calls); still = All-nil _ }, inl tt)
-
 pub returns-in-Some-clause-ended : goal.returns-in-Some-clause-ended
 returns-in-Some-clause-ended g c =
     let old = g.W.Write.contents c.args.writer.now in
@@ -31,29 +22,23 @@ returns-in-Some-clause-ended g c =
     f old old) (sym c.unbegun-in-Some.ensures)
     (inl (inl refl, record { untouched = tt; silent = Keeps-refl _ }))
 
-pub returns-in-Some-clause-looked : goal.returns-in-Some-clause-looked
-returns-in-Some-clause-looked g c =
-    subst (λ (f : _). LooksFirst c.args.path.now f.disk
-    (g.Y.System.calls c.args.system.now) (g.Y.System.calls c.use_of.new.system))
-    (sym c.unbegun-in-Some.ensures) (c.in-Some.ensures.looks, inl tt)
-
-pub returns-in-None-clause-looked : goal.returns-in-None-clause-looked
-returns-in-None-clause-looked g c = (c.in-None.ensures.looks, inr c.in-None.ensures.free)
-
-pub returns-then-not-is_valid-clause-files : goal.returns-then-not-is_valid-clause-files
-returns-then-not-is_valid-clause-files g c =
-    let paths = paths_of c.args.host.now in
-    subst (λ (f : _). OpensOrMakes (fault_of f.result) c.args.path.now f.disk paths paths)
-    (sym c.unbegun.ensures) (unbegun tt refl)
-
-pub returns-in-Some-clause-files : goal.returns-in-Some-clause-files
-returns-in-Some-clause-files g c =
-    let paths = paths_of c.args.host.now in
-    subst (λ (f : _). OpensOrMakes (fault_of f.result) c.args.path.now f.disk paths paths)
-    (sym c.unbegun-in-Some.ensures) (unbegun tt refl)
-
 pub returns-in-None-clause-ended : goal.returns-in-None-clause-ended
 returns-in-None-clause-ended g c = c.format_free.ensures.ended
 
+pub returns-then-not-is_valid-clause-files : goal.returns-then-not-is_valid-clause-files
+returns-then-not-is_valid-clause-files g c =
+    let calls = g.M.System.System.calls c.args.host.now.system in
+    subst (λ (f : _). FormatsFree (fault_of f.result) c.args.path.now f.disk calls calls)
+    (sym c.unbegun.ensures) (unasked tt refl refl)
+
+pub returns-in-Some-clause-files : goal.returns-in-Some-clause-files
+returns-in-Some-clause-files g c =
+    subst (λ (f : _). FormatsFree (fault_of f.result) c.args.path.now f.disk
+    (g.M.System.System.calls c.args.host.now.system) (g.M.System.System.calls c.use_of.new.system))
+    (sym c.unbegun-in-Some.ensures)
+    (in_use c.in-Some.found tt refl c.in-Some.ensures.used c.in-Some.ensures.looks)
+
 pub returns-in-None-clause-files : goal.returns-in-None-clause-files
-returns-in-None-clause-files g c = c.format_free.ensures.files
+returns-in-None-clause-files g c =
+    free (g.M.System.System.calls c.use_of.new.system) c.in-None.ensures.looks c.in-None.ensures.free
+    c.format_free.ensures.files

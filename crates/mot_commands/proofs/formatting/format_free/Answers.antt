@@ -1,5 +1,5 @@
 use Rattle.mot_playout.specs.Attempts.{fault_of}
-use Rattle.std.proofs.Common.{◌∙◌, inl, inr, subst, sym}
+use Rattle.std.proofs.Common.{◌∙◌, ap, inl, inr, subst, sym}
 use Rattle.mot_commands.specs.Commands.{FormatsFile, IsUnformatted, MakesFile, OpensOrMakes}
 use Rattle.mot_commands.specs.Commands.OpensOrMakes.{opened, unopened}
 use Rattle.mot_outcome.specs.Outcome.{Finishes}
@@ -7,7 +7,6 @@ use Rattle.mot_commands.specs.Report.{Formats}
 use Rattle.disk_store.proofs.Laws.{since_opened}
 use Rattle.mot_commands.proofs.Ends.{Formats-keeps}
 use Rattle.mot_commands.proofs.formatting.format_free.Goals as goal
-use Rattle.mot_endpoints.specs.Opened.{paths_of}
 
 pub returns-in-Ok-clause-ended : goal.returns-in-Ok-clause-ended
 returns-in-Ok-clause-ended g c =
@@ -40,11 +39,13 @@ returns-in-Ok-clause-files g c =
     c.in-Ok.ensures.first last.begins (Formats-keeps geometry directory ending old new _ _ formats)
     formats in
     subst (λ (f : _). OpensOrMakes (fault_of f.result) c.args.path.now f.disk
-    (paths_of c.args.host.now) (paths_of c.finish.new.host)) (sym c.finish.ensures.ended.1)
-    (opened since.begun (c.finish.ensures.paths ∙ c.in-Ok.ensures.paths))
+    (g.M.System.System.calls c.args.host.now.system) (g.M.System.System.calls c.finish.new.host.system))
+    (sym c.finish.ensures.ended.1)
+    (opened since.begun (ap g.M.System.System.calls c.finish.ensures.calls ∙ c.in-Ok.ensures.calls))
 
 pub returns-in-Err-clause-files : goal.returns-in-Err-clause-files
 returns-in-Err-clause-files g c =
     let done = c.format_new_file.result in
     unopened (subst (λ before. MakesFile (fault_of done.result) c.args.path.now done.disk before
-    (paths_of c.format_new_file.new.host)) c.in-Err.ensures.paths c.format_new_file.ensures.files)
+    (g.M.System.System.calls c.format_new_file.new.host.system)) c.in-Err.ensures.calls
+    c.format_new_file.ensures.files)

@@ -1,9 +1,9 @@
 use Rattle.mot_playout.specs.Attempts.{fault_of}
-use Rattle.std.proofs.Common.{ℕ, List, [], ◌∷◌, ◌++◌, ◌∙◌, ap, append_assoc, inl, inr, refl, subst, sym}
-use Rattle.std.specs.Prelude.{codes}
+use Rattle.std.proofs.Common.{List, [], ◌∷◌, ◌++◌, ◌∙◌, ap, append_assoc, inl, inr, refl, subst, sym}
 use Rattle.std.proofs.KnownBytes.{Keeps-refl}
 use Rattle.mot_commands.specs.Commands.{FormatsFile, IsUnformatted, MakesFile}
-use Rattle.mot_commands.specs.Commands.MakesFile.{made, removed, unmade}
+use Rattle.mot_commands.specs.Commands.MakesFile.{made, taken_away, unmade}
+use Rattle.mot_files.specs.Call.{Call, removed}
 use Rattle.mot_outcome.specs.Outcome.{Finishes}
 use Rattle.mot_commands.specs.Report.{Formats}
 use Rattle.mot_numbers.specs.Geometry.{length_of}
@@ -11,7 +11,6 @@ use Rattle.disk_store.proofs.Laws.{since_made}
 use Rattle.mot_commands.proofs.Ends.{Formats-keeps}
 use Rattle.mot_commands.proofs.formatting.format_new_file.Goals as goal
 use Rattle.mot_commands.proofs.formatting.format_new_file.Goals.{then-is_unformatted, else-is_unformatted}
-use Rattle.mot_endpoints.specs.Opened.{paths_of}
 
 pub returns-clause-ended : goal.returns-clause-ended
 returns-clause-ended g c =
@@ -50,21 +49,24 @@ returns-clause-files g c =
     let since = since_made c.in-Ok.disk.disk last.disk (Formats geometry directory ending old new)
     (length_of geometry) c.in-Ok.ensures.first (c.in-Ok.ensures.len ∙ c.length.ensures)
     last.begins (Formats-keeps geometry directory ending old new _ _ formats) formats in
+    let calls = g.M.System.System.calls in
     subst (λ (f : _). MakesFile (fault_of f.result) c.args.path.now f.disk
-    (paths_of c.args.host.now) (paths_of c.if-is_unformatted.host)) (sym c.of_file.ensures)
+    (calls c.args.host.now.system) (calls c.if-is_unformatted.host.system)) (sym c.of_file.ensures)
     (elim c.if-is_unformatted.branch [
       | then-is_unformatted w ↦
-          let gone : List (List ℕ × List ℕ) = (codes "removed", c.args.path.now) ∷ [] in
-          removed since.begun (c.is_unformatted.ensures.failed w.if-is_unformatted.true)
-          (ap paths_of w.host-is ∙ w.take_away.ensures ∙ ap (λ l. l ++ gone) c.in-Ok.ensures.paths
-          ∙ append_assoc (paths_of c.args.host.now) _ gone)
+          let gone : List Call = removed c.args.path.now w.take_away.ensures.0 ∷ [] in
+          taken_away w.take_away.ensures.0 since.begun
+          (c.is_unformatted.ensures.failed w.if-is_unformatted.true)
+          (ap (λ h. calls h.system) w.host-is ∙ w.take_away.ensures.1
+          ∙ ap (λ l. l ++ gone) c.in-Ok.ensures.calls
+          ∙ append_assoc (calls c.args.host.now.system) _ gone)
       | else-is_unformatted w ↦
           made since.begun (c.is_unformatted.ensures.done w.if-is_unformatted.false)
-          (ap paths_of w.host-is ∙ c.in-Ok.ensures.paths)
+          (ap (λ h. calls h.system) w.host-is ∙ c.in-Ok.ensures.calls)
     ])
 
 pub returns-in-Err-clause-files : goal.returns-in-Err-clause-files
 returns-in-Err-clause-files g c =
     subst (λ (f : _). MakesFile (fault_of f.result) c.args.path.now f.disk
-    (paths_of c.args.host.now) (paths_of c.make_disk.new.self)) (sym c.unopened.ensures)
-    (unmade tt refl c.in-Err.ensures.paths)
+    (g.M.System.System.calls c.args.host.now.system) (g.M.System.System.calls c.make_disk.new.self.system))
+    (sym c.unopened.ensures) (unmade tt refl c.in-Err.ensures.calls)

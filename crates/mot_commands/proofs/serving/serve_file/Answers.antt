@@ -1,5 +1,5 @@
 use Rattle.mot_playout.specs.Attempts.{fault_of}
-use Rattle.std.proofs.Common.{[], ◌≡◌, ◌∙◌, inl, inr, refl, subst, sym}
+use Rattle.std.proofs.Common.{[], ap, inl, inr, refl, subst, sym, ◌∙◌, ◌≡◌}
 use Rattle.std.proofs.KnownBytes.{Keeps-refl}
 use Rattle.std.specs.Io.KnownBytes.{Keeps}
 use Rattle.disk_store.specs.File.{file_state}
@@ -11,7 +11,6 @@ use Rattle.mot_outcome.specs.Outcome.{Opens}
 use Rattle.mot_commands.specs.Serving.{Serves}
 use Rattle.mot_commands.proofs.Served.{serves-on}
 use Rattle.mot_commands.proofs.serving.serve_file.Goals as goal
-use Rattle.mot_endpoints.specs.Opened.{paths_of}
 
 pub returns-in-Ok-clause-ended : goal.returns-in-Ok-clause-ended
 returns-in-Ok-clause-ended g c =
@@ -38,11 +37,11 @@ returns-in-Err-clause-ended g c =
 
 pub returns-in-Ok-clause-files : goal.returns-in-Ok-clause-files
 returns-in-Ok-clause-files g c =
-    subst (λ (f : _). Opens [] c.args.path.now (fault_of f.result) f.disk (paths_of c.args.host.now)
-    (paths_of c.finish.new.host)) (sym c.finish.ensures.ended.1)
-    (c.finish.ensures.paths ∙ c.in-Ok.ensures.paths)
+    subst (λ (f : _). Opens [] c.args.path.now (fault_of f.result) f.disk (g.M.System.System.calls c.args.host.now.system)
+    (g.M.System.System.calls c.finish.new.host.system)) (sym c.finish.ensures.ended.1)
+    (g.M.System.System.calls c.args.host.now.system, refl, ap g.M.System.System.calls c.finish.ensures.calls ∙ c.in-Ok.ensures.calls)
 
 pub returns-in-Err-clause-files : goal.returns-in-Err-clause-files
 returns-in-Err-clause-files g c =
-    subst (λ (f : _). Opens [] c.args.path.now (fault_of f.result) f.disk (paths_of c.args.host.now)
-    (paths_of c.disk.new.self)) (sym c.unopened.ensures) (inr (refl, c.in-Err.ensures.paths))
+    subst (λ (f : _). Opens [] c.args.path.now (fault_of f.result) f.disk (g.M.System.System.calls c.args.host.now.system)
+    (g.M.System.System.calls c.disk.new.self.system)) (sym c.unopened.ensures) (inr (refl, (g.M.System.System.calls c.args.host.now.system, refl, c.in-Err.ensures.calls)))

@@ -1,5 +1,5 @@
 use Rattle.mot_playout.specs.Attempts.{fault_of}
-use Rattle.std.proofs.Common.{◌≡◌, Some, refl, subst, sym}
+use Rattle.std.proofs.Common.{◌≡◌, Some, ap, refl, subst, sym}
 use Rattle.std.specs.Io.KnownBytes.{Keeps}
 use Rattle.std.proofs.KnownBytes.{Keeps-refl}
 use Rattle.disk_model.proofs.Laws.{reads_none}
@@ -7,14 +7,13 @@ use Rattle.disk_model.specs.Disk.{OnlySyncs}
 use Rattle.disk_store.specs.File.{file_state}
 use Rattle.mot_cli.specs.Options.{geometry_over}
 use Rattle.mot_copy_command.specs.Command.{ComesToCopy, CopiesTo, IsUncopied}
-use Rattle.mot_copy_command.specs.Command.ComesToCopy.{unbegun}
+use Rattle.mot_copy_command.specs.Command.ComesToCopy.{free, in_use, unasked}
 use Rattle.mot_copy_command.specs.Command.IsUncopied.{bad_sizes, no_file, unopened}
-use Rattle.mot_copy_command.proofs.Lifts.{copies_to, looks_at, of_sizes}
+use Rattle.mot_copy_command.proofs.Lifts.{copies_to, of_sizes}
 use Rattle.mot_numbers.specs.Geometry.{IsValid}
 use Rattle.mot_numbers.specs.declared.geometry.Geometry.{Geometry}
 use Rattle.mot_numbers.specs.declared.refusal.Refusal.{Refusal}
 use Rattle.mot_numbers.specs.declared.refusal.Refusal.TheVariants.{BadGeometry, DeviceFault}
-use Rattle.mot_endpoints.specs.Opened.{paths_of}
 use Rattle.mot_copy_command.proofs.copying.copy_disk.Goals as goal
 
 pub returns-in-Err-clause-ended : goal.returns-in-Err-clause-ended
@@ -91,24 +90,26 @@ returns-in-Some-use_of-clause-ended g c =
     × IsUncopied sizes refusal start (file_state d.disk))) (sym c.into_disk-in-Some-use_of.ensures)
     (opens.only_syncs, Keeps-refl _, (DeviceFault, refl, no_file refl)))
 
-pub returns-clause-looked : goal.returns-clause-looked
-returns-clause-looked g c =
-    let calls = g.Y.System.calls c.args.system.now in
-    let after = g.Y.System.calls c.use_of.new.system in
-    looks_at c.args.task.now.new.now c.copy_open.result.1 calls after c.use_of.ensures.looks
-    c.in_default-use_of.ensures.free
-
 pub returns-in-Err-clause-files : goal.returns-in-Err-clause-files
 returns-in-Err-clause-files g c =
     subst (λ (e : _). ComesToCopy (fault_of e.0.result) c.args.task.now.new.now e.1
-    (paths_of c.args.host.now) (paths_of c.clear_unfit.new.host)) (sym c.uncopied.ensures) (unbegun refl c.clear_unfit.ensures)
+    (g.M.System.System.calls c.args.host.now.system) (g.M.System.System.calls c.clear_unfit.new.host.system))
+    (sym c.uncopied.ensures) (unasked refl (ap g.M.System.System.calls c.clear_unfit.ensures))
 
 pub returns-in_default-clause-files : goal.returns-in_default-clause-files
 returns-in_default-clause-files g c =
-    subst (λ (e : _). ComesToCopy (fault_of e.0.result) c.args.task.now.new.now e.1
-    (paths_of c.args.host.now) (paths_of c.args.host.now)) (sym c.uncopied-in_default.ensures) (unbegun refl refl)
+    let calls = g.M.System.System.calls c.args.host.now.system in
+    subst (λ (e : _). ComesToCopy (fault_of e.0.result) c.args.task.now.new.now e.1 calls calls)
+    (sym c.uncopied-in_default.ensures) (unasked refl refl)
 
 pub returns-in-Some-use_of-clause-files : goal.returns-in-Some-use_of-clause-files
 returns-in-Some-use_of-clause-files g c =
     subst (λ (e : _). ComesToCopy (fault_of e.0.result) c.args.task.now.new.now e.1
-    (paths_of c.args.host.now) (paths_of c.args.host.now)) (sym c.uncopied-in-Some-use_of.ensures) (unbegun refl refl)
+    (g.M.System.System.calls c.args.host.now.system) (g.M.System.System.calls c.use_of.new.system))
+    (sym c.uncopied-in-Some-use_of.ensures)
+    (in_use c.in-Some-use_of.found refl refl c.in-Some-use_of.ensures.used c.use_of.ensures.looks)
+
+pub returns-clause-files : goal.returns-clause-files
+returns-clause-files g c =
+    free (g.M.System.System.calls c.use_of.new.system) c.use_of.ensures.looks
+    c.in_default-use_of.ensures.free c.copy_open.ensures.files

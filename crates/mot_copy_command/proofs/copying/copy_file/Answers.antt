@@ -1,14 +1,12 @@
 use Rattle.mot_playout.specs.Attempts.{fault_of}
-use Rattle.std.proofs.Common.{[], ◌≡◌, append-nil, inl, inr, refl, subst, sym}
+use Rattle.std.proofs.Common.{◌≡◌, inl, inr, refl, subst, sym}
 use Rattle.std.proofs.KnownBytes.{Keeps-refl}
-use Rattle.std.proofs.lemmas.List.Elements.{All-nil}
 use Rattle.disk_store.proofs.Laws.{since_opened}
-use Rattle.mot_copy_command.specs.Command.{ComesToCopy, CopiesFile, CopiesTo, LooksAtNew, OpensTwo}
+use Rattle.mot_copy_command.specs.Command.{ComesToCopy, CopiesFile, CopiesTo, OpensTwo}
 use Rattle.mot_copy_command.proofs.Lifts.{syncs_of}
 use Rattle.mot_numbers.specs.declared.refusal.Refusal.TheVariants.{DeviceFault}
 use Rattle.mot_outcome.specs.Outcome.{Finishes}
 use Rattle.mot_copy_command.proofs.copying.copy_file.Goals as goal
-use Rattle.mot_endpoints.specs.Opened.{paths_of}
 
 pub returns-clause-ended : goal.returns-clause-ended
 returns-clause-ended g c =
@@ -33,16 +31,10 @@ pub returns-clause-files : goal.returns-clause-files
 returns-clause-files g c =
     let end = c.copy_disk-ended.result in
     subst (λ before. ComesToCopy (fault_of end.0.result) c.args.task.now.new.now end.1 before
-    (paths_of c.copy_disk-ended.new.host)) c.in-Ok.ensures.paths c.copy_disk-ended.ensures.files
+    (g.M.System.System.calls c.copy_disk-ended.new.host.system)) c.in-Ok.ensures.calls c.copy_disk-ended.ensures.files
 
 pub returns-in-Err-clause-files : goal.returns-in-Err-clause-files
 returns-in-Err-clause-files g c =
     subst (λ (f : _). OpensTwo (fault_of f.result) c.args.task.now.disk.now c.args.task.now.new.now
-    f.disk (paths_of c.args.host.now) (paths_of c.disk.new.self)) (sym c.unopened.ensures)
-    (refl, c.in-Err.ensures.paths)
-
-pub returns-in-Err-clause-looked : goal.returns-in-Err-clause-looked
-returns-in-Err-clause-looked g c =
-    let calls = g.Y.System.calls c.args.system.now in
-    subst (λ (f : _). LooksAtNew c.args.task.now.new.now f.disk calls calls) (sym c.unopened.ensures)
-    (record { more = []; calls = sym (append-nil calls); still = All-nil _ })
+    f.disk (g.M.System.System.calls c.args.host.now.system) (g.M.System.System.calls c.disk.new.self.system)) (sym c.unopened.ensures)
+    (refl, c.in-Err.ensures.calls)

@@ -1,16 +1,15 @@
 use Rattle.mot_playout.specs.Attempts.{fault_of}
-use Rattle.std.proofs.Common.{◌≡◌, ◌∙◌, ◌++◌, ◌∷◌, [], ap, refl, subst, sym}
-use Rattle.std.specs.Prelude.{codes}
+use Rattle.std.proofs.Common.{◌≡◌, ◌∙◌, ◌++◌, ◌∷◌, [], ap, refl, subst, sym, true}
 use Rattle.disk_model.specs.Disk.{OnlyReads}
 use Rattle.disk_store.proofs.Laws.{since_opened}
 use Rattle.disk_store.specs.File.{file_state}
-use Rattle.mot_copy_command.specs.Command.{ComesToCopy, MakesCopy}
-use Rattle.mot_copy_command.specs.Command.ComesToCopy.{unopened}
+use Rattle.mot_copy_command.specs.Command.{MakesCopy, OpensOrMakesCopy}
+use Rattle.mot_copy_command.specs.Command.OpensOrMakesCopy.{unopened}
 use Rattle.mot_copy_command.specs.Inner.{CopiesView}
 use Rattle.mot_copy_command.proofs.Lifts.{Known, comes_kept, opened_view}
 use Rattle.mot_copy_command.proofs.copying.copy_open.Goals as goal
 use Rattle.mot_copy_command.proofs.copying.copy_open.Goals.{then-is_refused, else-is_refused}
-use Rattle.mot_endpoints.specs.Opened.{paths_of}
+use Rattle.mot_files.specs.Call.{opened_disk}
 
 pub returns-after-is_refused-clause-reads : goal.returns-after-is_refused-clause-reads
 returns-after-is_refused-clause-reads g c =
@@ -57,15 +56,16 @@ returns-after-is_refused-clause-files g c =
     copies in
     let end = c.end_of.result in
     let path = c.args.task.now.new.now in
-    let before = paths_of c.args.host.now in
-    let come : paths_of c.if-is_refused.host ≡ before ++ (codes "disk", path) ∷ [] =
+    let calls = g.M.System.System.calls in
+    let before = calls c.args.host.now.system in
+    let come : calls c.if-is_refused.host.system ≡ before ++ opened_disk path true ∷ [] =
     elim c.if-is_refused.branch [
-      | then-is_refused w ↦ ap paths_of w.host-is ∙ w.clear_side.ensures
-          ∙ c.in-Ok.ensures.paths
-      | else-is_refused w ↦ ap paths_of w.host-is ∙ c.in-Ok.ensures.paths
+      | then-is_refused w ↦ ap (λ h. calls h.system) w.host-is ∙ ap calls w.clear_side.ensures
+          ∙ c.in-Ok.ensures.calls
+      | else-is_refused w ↦ ap (λ h. calls h.system) w.host-is ∙ c.in-Ok.ensures.calls
     ] in
-    subst (λ (r : _). ComesToCopy (fault_of r) path end.1 before (paths_of c.if-is_refused.host))
-    (sym c.end_of.ensures.made)
+    subst (λ (r : _). OpensOrMakesCopy (fault_of r) path end.1 before
+    (calls c.if-is_refused.host.system)) (sym c.end_of.ensures.made)
     (comes_kept view geometry ids ending old new mid now last.disk refl path end.1
     c.end_of.ensures.some c.end_of.ensures.to since.begun before _ come)
 
@@ -73,4 +73,5 @@ pub returns-in-Err-clause-files : goal.returns-in-Err-clause-files
 returns-in-Err-clause-files g c =
     let done = c.copy_to_new.result in
     unopened (subst (λ before. MakesCopy (fault_of done.0.result) c.args.task.now.new.now done.1
-    before (paths_of c.copy_to_new.new.host)) c.in-Err.ensures.paths c.copy_to_new.ensures.files)
+    before (g.M.System.System.calls c.copy_to_new.new.host.system)) c.in-Err.ensures.calls
+    c.copy_to_new.ensures.files)

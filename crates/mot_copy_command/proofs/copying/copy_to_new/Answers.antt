@@ -1,6 +1,5 @@
 use Rattle.mot_playout.specs.Attempts.{fault_of}
-use Rattle.std.proofs.Common.{◌∙◌, ◌++◌, ◌∷◌, [], List, ℕ, ap, append_assoc, refl, subst, sym}
-use Rattle.std.specs.Prelude.{codes}
+use Rattle.std.proofs.Common.{◌∙◌, ◌++◌, ◌∷◌, [], List, ap, append_assoc, refl, subst, sym}
 use Rattle.disk_model.specs.Disk.{OnlyReads}
 use Rattle.disk_store.proofs.Laws.{since_made}
 use Rattle.disk_store.specs.File.{file_state}
@@ -10,7 +9,7 @@ use Rattle.mot_copy_command.specs.Inner.{CopiesView}
 use Rattle.mot_copy_command.proofs.Lifts.{Known, comes_copied, comes_removed, made_view}
 use Rattle.mot_copy_command.proofs.copying.copy_to_new.Goals as goal
 use Rattle.mot_copy_command.proofs.copying.copy_to_new.Goals.{then-is_refused, else-is_refused}
-use Rattle.mot_endpoints.specs.Opened.{paths_of}
+use Rattle.mot_files.specs.Call.{Call, removed}
 use Rattle.mot_numbers.specs.Geometry.{length_of}
 
 pub returns-clause-reads : goal.returns-clause-reads
@@ -58,25 +57,26 @@ returns-clause-files g c =
     c.in-Ok.ensures.first (c.in-Ok.ensures.len ∙ c.length.ensures) last.begins copies.keeps copies in
     let end = c.end_of.result in
     let path = c.args.task.now.new.now in
-    let before = paths_of c.args.host.now in
-    subst (λ (r : _). MakesCopy (fault_of r) path end.1 before (paths_of c.if-is_refused.host))
+    let calls = g.M.System.System.calls in
+    let before = calls c.args.host.now.system in
+    subst (λ (r : _). MakesCopy (fault_of r) path end.1 before (calls c.if-is_refused.host.system))
     (sym c.end_of.ensures.made) (elim c.if-is_refused.branch [
       | then-is_refused w ↦
-          let removed : List (List ℕ × List ℕ) = (codes "removed", path) ∷ [] in
-          comes_removed view geometry ids ending old new mid now last.disk refl path end.1
-          c.end_of.ensures.some c.end_of.ensures.to (c.is_refused.ensures.refused w.if-is_refused.true)
-          since.begun before _
-          (ap paths_of w.host-is ∙ w.take_away.ensures
-          ∙ ap (λ l. l ++ removed) c.in-Ok.ensures.paths ∙ append_assoc before _ removed)
+          let gone : List Call = removed path w.take_away.ensures.0 ∷ [] in
+          comes_removed view geometry ids ending old new mid now last.disk refl path
+          w.take_away.ensures.0 end.1 c.end_of.ensures.some c.end_of.ensures.to
+          (c.is_refused.ensures.refused w.if-is_refused.true) since.begun before _
+          (ap (λ h. calls h.system) w.host-is ∙ w.take_away.ensures.1
+          ∙ ap (λ l. l ++ gone) c.in-Ok.ensures.calls ∙ append_assoc before _ gone)
       | else-is_refused w ↦
           comes_copied view geometry ids ending old new mid now last.disk refl path end.1
           c.end_of.ensures.some c.end_of.ensures.to
           (c.is_refused.ensures.copied w.if-is_refused.false) since.begun before _
-          (ap paths_of w.host-is ∙ c.in-Ok.ensures.paths)
+          (ap (λ h. calls h.system) w.host-is ∙ c.in-Ok.ensures.calls)
     ])
 
 pub returns-in-Err-clause-files : goal.returns-in-Err-clause-files
 returns-in-Err-clause-files g c =
     subst (λ (e : _). MakesCopy (fault_of e.0.result) c.args.task.now.new.now e.1
-    (paths_of c.args.host.now) (paths_of c.make_disk.new.self)) (sym c.uncopied.ensures)
-    (unmade refl refl c.in-Err.ensures.paths)
+    (g.M.System.System.calls c.args.host.now.system) (g.M.System.System.calls c.make_disk.new.self.system))
+    (sym c.uncopied.ensures) (unmade refl refl c.in-Err.ensures.calls)

@@ -12,9 +12,8 @@ use Rattle.mot_cli.specs.declared.task.Task.{Task}
 use Rattle.mot_numbers.specs.declared.refusal.Refusal.{Refusal}
 use Rattle.mot_numbers.specs.declared.refusal.Refusal.TheVariants.{BadNumber, WriteFault}
 use Rattle.disk_store.specs.declared.file.start.Start.{Ghosts}
-use Rattle.mot_endpoints.specs.Opened.{paths_of}
 use Rattle.mot_outcome.proofs.Laws.{explained}
-use Rattle.mot_outcome.specs.Outcome.{IsUntouched, Prints, UsesFiles}
+use Rattle.mot_outcome.specs.Outcome.{IsUntouched, Prints}
 use Rattle.mot_outcome.specs.Outcome.ComesTo.{no_task, wrong}
 use Rattle.mot_outcome.specs.Outcome.UsesFiles.{asked, none}
 use Rattle.mot_outcome.specs.declared.exit.Exit.{Exit}
@@ -24,7 +23,7 @@ use Rattle.mot_server.proofs.Coming.{runs}
 use Rattle.mot_server.proofs.Idle.{explained_idle, taskless_idle}
 use Rattle.mot_server.proofs.program.run_program_on.Goals as goal
 use Rattle.mot_server.specs.Inner.Coming.{TellsWhy}
-use Rattle.mot_server.specs.Program.{Ends, IsBeginningRefusal, LooksFor, RunsTo, Uses}
+use Rattle.mot_server.specs.Program.{Ends, IsBeginningRefusal, RunsTo, Uses}
 use Rattle.mot_server.specs.Program.{refused_number}
 
 -- ---- words that are wrong, or ask for help
@@ -79,29 +78,15 @@ returns-in-Err-clause-files g c =
 pub returns-in_default-clause-files : goal.returns-in_default-clause-files
 returns-in_default-clause-files g c =
     let words = map g.S.AsStr.text c.args.words.now in
-    let paths = paths_of c.args.host.now in
-    subst (λ (e : _). Uses words e paths paths) (sym c.unrefused.ensures)
-    (none (λ of_file. absurd of_file) tt refl)
-
-pub returns-in-Err-clause-looked : goal.returns-in-Err-clause-looked
-returns-in-Err-clause-looked g c =
-    none (explained_idle (map g.S.AsStr.text c.args.words.now) c.in-Err.error c.in-Err.ensures.kinds
-    (g.W.Write.contents c.args.writer.now) (g.W.Write.contents c.explain.new.writer)
-    c.explain.result c.explain.ensures.told)
-    (subst (λ (d : _). IsUntouched d) (sym c.explain.ensures.untouched) tt) refl
-
-pub returns-in_default-clause-looked : goal.returns-in_default-clause-looked
-returns-in_default-clause-looked g c =
-    let words = map g.S.AsStr.text c.args.words.now in
-    let calls = g.Y.System.calls c.args.system.now in
-    subst (λ (e : _). UsesFiles IsTask LooksFor words e calls calls) (sym c.unrefused.ensures)
+    let calls = g.M.System.System.calls c.args.host.now.system in
+    subst (λ (e : _). Uses words e calls calls) (sym c.unrefused.ensures)
     (none (λ of_file. absurd of_file) tt refl)
 
 -- ---- words that ask for no task
 
 -- it is told of them why
-told_so : {S : Type 0} {start : Ghosts S} (words : List Text) (name : Text) (rows : List Row)
-    (exit : Exit S start) (unread old : Option (List ℕ)) (why : NoTask)
+told_so : {S F : Type 0} {start : Ghosts S F} (words : List Text) (name : Text) (rows : List Row)
+    (exit : Exit S F start) (unread old : Option (List ℕ)) (why : NoTask)
     → subcommand_of motcar_app words ≡ Some (name, rows) → AskBy motcar_app IsTask name rows words
     → ((task : Task) → IsTask name rows task → ⊥) → IsWhy name rows why → IsUntouched exit.disk
     → TellsWhy why exit → RunsTo words exit unread unread old old
@@ -116,8 +101,8 @@ told_so words name rows exit unread old (OutOfRange r) named asks untaken is unt
       Keeps-refl _,
     )
 
-told_lacking : {S : Type 0} {start : Ghosts S} (words : List Text) (name : Text) (rows : List Row)
-    (exit : Exit S start) (why : NoTask) → subcommand_of motcar_app words ≡ Some (name, rows)
+told_lacking : {S F : Type 0} {start : Ghosts S F} (words : List Text) (name : Text) (rows : List Row)
+    (exit : Exit S F start) (why : NoTask) → subcommand_of motcar_app words ≡ Some (name, rows)
     → IsWhy name rows why → TellsWhy why exit → LackOption words
     → exit.refusal ≡ Some BadNumber → ⊥
 told_lacking words name rows exit (Lacks option) named is tells lack =
@@ -162,13 +147,6 @@ returns-in-Err-task_of-clause-files g c =
     c.in-Err-task_of.ensures.why c.tell_no_task.ensures.told)
     (subst (λ (d : _). IsUntouched d) (sym c.tell_no_task.ensures.untouched) tt) refl
 
-pub returns-in-Err-task_of-clause-looked : goal.returns-in-Err-task_of-clause-looked
-returns-in-Err-task_of-clause-looked g c =
-    none (taskless_idle (map g.S.AsStr.text c.args.words.now) c.in-Some.name.now
-    (rows_of (found_of c.in-Some.rest.now)) c.in-Err-task_of.why c.tell_no_task.result
-    c.in-Err-task_of.ensures.why c.tell_no_task.ensures.told)
-    (subst (λ (d : _). IsUntouched d) (sym c.tell_no_task.ensures.untouched) tt) refl
-
 -- ---- a task
 
 pub returns-clause-ended : goal.returns-clause-ended
@@ -205,20 +183,8 @@ returns-clause-files g c =
     let name = c.in-Some.name.now in
     let rows = rows_of (found_of c.in-Some.rest.now) in
     let task = c.in-Ok-task_of.task in
-    subst (λ (e : _). Uses words e (paths_of c.args.host.now) (paths_of c.execute-finished.new.host))
+    subst (λ (e : _). Uses words e (g.M.System.System.calls c.args.host.now.system) (g.M.System.System.calls c.execute-finished.new.host.system))
     (sym c.conclude.ensures)
     (asked task ((AskBy-matched motcar_app words IsTask motcar_simple c.in-Ok.matches name rows
     c.in-Ok.ensures.matches c.in-Some.ensures.name c.in-Some.ensures.rows task).1
     c.in-Ok-task_of.ensures.some) c.execute-finished.ensures.files)
-
-pub returns-clause-looked : goal.returns-clause-looked
-returns-clause-looked g c =
-    let words = map g.S.AsStr.text c.args.words.now in
-    let name = c.in-Some.name.now in
-    let rows = rows_of (found_of c.in-Some.rest.now) in
-    let task = c.in-Ok-task_of.task in
-    subst (λ (e : _). UsesFiles IsTask LooksFor words e (g.Y.System.calls c.args.system.now)
-    (g.Y.System.calls c.execute-finished.new.system)) (sym c.conclude.ensures)
-    (asked task ((AskBy-matched motcar_app words IsTask motcar_simple c.in-Ok.matches name rows
-    c.in-Ok.ensures.matches c.in-Some.ensures.name c.in-Some.ensures.rows task).1
-    c.in-Ok-task_of.ensures.some) c.execute-finished.ensures.looked)

@@ -1,29 +1,28 @@
-use Rattle.std.proofs.Common.{[], ◌≡◌, ◌⊎◌, Option, refl, subst, sym}
+use Rattle.std.proofs.Common.{List, [], ◌≡◌, ◌⊎◌, Option, refl, subst, sym}
 use Rattle.std.proofs.KnownBytes.{Keeps-refl}
 use Rattle.std.specs.Io.KnownBytes.{Keeps}
 use Rattle.mot_air.specs.Commands.{IsUnplayed, PlaysTask}
 use Rattle.mot_commands.specs.Commands.{ExportsFile, InspectsFile}
 use Rattle.mot_sync_command.specs.Commands.{IsUnsynced, SyncsTask}
-use Rattle.mot_sync_command.specs.Trying.{TriesTask}
 use Rattle.mot_cli.specs.declared.task.Task.{Task}
 use Rattle.mot_cli.specs.declared.task.Task.TheVariants.{Memory, Format, Copy, Serve, Check}
 use Rattle.mot_cli.specs.declared.task.Task.TheVariants.{Migrate}
-use Rattle.mot_cli.specs.declared.task.Task.TheVariants.{Play, Sync, Export, Inspect, TrySync}
+use Rattle.mot_cli.specs.declared.task.Task.TheVariants.{Play, Sync, Export, Inspect}
 use Rattle.mot_cli.specs.declared.task.Task.TheVariants.{GetBody, ListObjects, PutFiles}
 use Rattle.mot_cli.specs.declared.task.Task.TheVariants.{WithdrawNames}
 use Rattle.mot_commands.specs.Commands.{ChecksFile, FormatsFile, IsUnformatted, IsUnmade}
-use Rattle.mot_commands.specs.Commands.{LooksFirst, MigratesFile, OpensOrMakes, ServesFile}
+use Rattle.mot_commands.specs.Commands.{FormatsFree, MigratesFile, ServesFile}
 use Rattle.mot_commands.specs.Commands.{GetsFile, ListsFile, ServesMemory, WithdrawsFile}
 use Rattle.mot_commands.specs.Putting.{PutsFiles, texts}
-use Rattle.mot_copy_command.specs.Command.{CopiesFile, LooksAtNew, OpensTwo}
-use Rattle.mot_endpoints.specs.Opened.{paths_of}
+use Rattle.mot_copy_command.specs.Command.{CopiesFile, OpensTwo}
 use Rattle.mot_endpoints.specs.Types.{IsUntyped}
+use Rattle.mot_files.specs.Call.{Call}
 use Rattle.mot_numbers.specs.declared.refusal.Refusal.{Refusal}
 use Rattle.mot_numbers.specs.declared.refusal.Refusal.TheVariants.{DeviceFault}
 use Rattle.mot_outcome.specs.Outcome.{Opens}
 use Rattle.mot_playout.specs.Attempts.{fault_of}
 use Rattle.mot_server.specs.Inner.Coming.{ComesOut}
-use Rattle.mot_server.specs.Program.{LooksFor, UsesFor}
+use Rattle.mot_server.specs.Program.{UsesFor}
 use Rattle.mot_server.proofs.Coming.{comes_so, comes_told, comes_whole, fault_whole, opens_whole}
 use Rattle.mot_server.proofs.running.execute.Goals as goal
 
@@ -57,14 +56,6 @@ returns-in-Format-clause-ended g c =
     (comes_whole task unread unread old new (IsUnformatted c.in-Format.geometry)
     (λ ending used. FormatsFile c.in-Format.geometry c.in-Format.directory ending used old new) result used (λ r early. (early, Keeps-refl _))
     (λ all ending whole is. (whole, Keeps-refl _, is)) c.format_file.ensures.ended))
-
-pub returns-in-Format-clause-looked : goal.returns-in-Format-clause-looked
-returns-in-Format-clause-looked g c =
-    let old = g.Y.System.calls c.args.system.now in
-    let new = g.Y.System.calls c.format_file.new.system in
-    subst (λ (t : Task). LooksFor t c.whole-in-Format.result.disk old new) (sym c.in-Format.is)
-    (subst (λ (w : _). LooksFirst c.in-Format.path.now w.disk old new)
-    (sym c.whole-in-Format.ensures) c.format_file.ensures.looked)
 
 pub returns-in-Serve-clause-ended : goal.returns-in-Serve-clause-ended
 returns-in-Serve-clause-ended g c =
@@ -130,12 +121,12 @@ returns-in-Sync-clause-ended g c =
     let unread = g.R.Read.remaining c.args.reader.now in
     let old = g.W.Write.contents c.args.writer.now in
     let new = g.W.Write.contents c.sync.new.log in
-    let task : Task = Sync c.in-Sync.disk c.in-Sync.folder c.in-Sync.types c.in-Sync.rules in
+    let task : Task = Sync c.in-Sync.synced in
     let result = c.sync.result.result in
     let used = c.sync.result.disk in
     subst (λ (t : Task). ComesOut t result used unread unread old new) (sym c.in-Sync.is)
-    (comes_so task unread unread old new (IsUnsynced c.in-Sync.types)
-    (λ all ending. SyncsTask c.in-Sync.types c.in-Sync.rules c.in-Sync.folder.now all ending used old new) result used (λ r early. (early, Keeps-refl _))
+    (comes_so task unread unread old new (IsUnsynced c.in-Sync.synced.types)
+    (λ all ending. SyncsTask c.in-Sync.synced all ending used old new) result used (λ r early. (early, Keeps-refl _))
     (λ all ending is. (Keeps-refl _, is)) c.sync.ensures.ended)
 
 pub returns-in-Export-clause-ended : goal.returns-in-Export-clause-ended
@@ -170,8 +161,8 @@ returns-in-Inspect-clause-ended g c =
 
 pub returns-in-Serve-clause-files : goal.returns-in-Serve-clause-files
 returns-in-Serve-clause-files g c =
-    let old = paths_of c.args.host.now in
-    let new = paths_of c.serve_file.new.host in
+    let old = g.M.System.System.calls c.args.host.now.system in
+    let new = g.M.System.System.calls c.serve_file.new.host.system in
     let done = c.whole-in-Serve.result in
     subst (λ (t : Task). UsesFor (fault_of done.result) t done.disk old new) (sym c.in-Serve.is)
     (subst (λ (w : _). Opens [] c.in-Serve.path.now (fault_of w.result) w.disk old new)
@@ -180,8 +171,8 @@ returns-in-Serve-clause-files g c =
 
 pub returns-in-Check-clause-files : goal.returns-in-Check-clause-files
 returns-in-Check-clause-files g c =
-    let old = paths_of c.args.host.now in
-    let new = paths_of c.check_file.new.host in
+    let old = g.M.System.System.calls c.args.host.now.system in
+    let new = g.M.System.System.calls c.check_file.new.host.system in
     let done = c.whole-in-Check.result in
     subst (λ (t : Task). UsesFor (fault_of done.result) t done.disk old new) (sym c.in-Check.is)
     (subst (λ (w : _). Opens [] c.in-Check.path.now (fault_of w.result) w.disk old new)
@@ -190,8 +181,8 @@ returns-in-Check-clause-files g c =
 
 pub returns-in-Migrate-clause-files : goal.returns-in-Migrate-clause-files
 returns-in-Migrate-clause-files g c =
-    let old = paths_of c.args.host.now in
-    let new = paths_of c.migrate_file.new.host in
+    let old = g.M.System.System.calls c.args.host.now.system in
+    let new = g.M.System.System.calls c.migrate_file.new.host.system in
     let done = c.whole-in-Migrate.result in
     subst (λ (t : Task). UsesFor (fault_of done.result) t done.disk old new) (sym c.in-Migrate.is)
     (subst (λ (w : _). Opens [] c.in-Migrate.path.now (fault_of w.result) w.disk old new)
@@ -200,8 +191,8 @@ returns-in-Migrate-clause-files g c =
 
 pub returns-in-Export-clause-files : goal.returns-in-Export-clause-files
 returns-in-Export-clause-files g c =
-    let old = paths_of c.args.host.now in
-    let new = paths_of c.export_file.new.host in
+    let old = g.M.System.System.calls c.args.host.now.system in
+    let new = g.M.System.System.calls c.export_file.new.host.system in
     let done = c.whole-in-Export.result in
     subst (λ (t : Task). UsesFor (fault_of done.result) t done.disk old new) (sym c.in-Export.is)
     (subst (λ (w : _). Opens [] c.in-Export.path.now (fault_of w.result) w.disk old new)
@@ -210,8 +201,8 @@ returns-in-Export-clause-files g c =
 
 pub returns-in-Inspect-clause-files : goal.returns-in-Inspect-clause-files
 returns-in-Inspect-clause-files g c =
-    let old = paths_of c.args.host.now in
-    let new = paths_of c.inspect_file.new.host in
+    let old = g.M.System.System.calls c.args.host.now.system in
+    let new = g.M.System.System.calls c.inspect_file.new.host.system in
     let done = c.whole-in-Inspect.result in
     subst (λ (t : Task). UsesFor (fault_of done.result) t done.disk old new) (sym c.in-Inspect.is)
     (subst (λ (w : _). Opens [] c.in-Inspect.disk.now (fault_of w.result) w.disk old new)
@@ -220,70 +211,30 @@ returns-in-Inspect-clause-files g c =
 
 pub returns-in-Memory-clause-files : goal.returns-in-Memory-clause-files
 returns-in-Memory-clause-files g c =
-    let old = paths_of c.args.host.now in
+    let old = g.M.System.System.calls c.args.host.now.system in
     subst (λ (t : Task). UsesFor (fault_of c.whole.result.result) t c.whole.result.disk old old)
     (sym c.in-Memory.is) refl
 
 pub returns-in-Format-clause-files : goal.returns-in-Format-clause-files
 returns-in-Format-clause-files g c =
-    let old = paths_of c.args.host.now in
-    let new = paths_of c.format_file.new.host in
+    let old = g.M.System.System.calls c.args.host.now.system in
+    let new = g.M.System.System.calls c.format_file.new.host.system in
     let done = c.whole-in-Format.result in
     subst (λ (t : Task). UsesFor (fault_of done.result) t done.disk old new) (sym c.in-Format.is)
-    (subst (λ (w : _). OpensOrMakes (fault_of w.result) c.in-Format.path.now w.disk old new)
+    (subst (λ (w : _). FormatsFree (fault_of w.result) c.in-Format.path.now w.disk old new)
     (sym c.whole-in-Format.ensures)
-    (subst (λ (e : Option Refusal). OpensOrMakes e c.in-Format.path.now c.format_file.result.disk old
+    (subst (λ (e : Option Refusal). FormatsFree e c.in-Format.path.now c.format_file.result.disk old
     new) (sym (fault_whole c.format_file.result.result)) c.format_file.ensures.files))
 
 pub returns-in-Play-clause-files : goal.returns-in-Play-clause-files
 returns-in-Play-clause-files g c =
     subst (λ (t : Task). UsesFor (fault_of c.play.result.result) t c.play.result.disk
-    (paths_of c.args.host.now) (paths_of c.play.new.host)) (sym c.in-Play.is) c.play.ensures.opens
+    (g.M.System.System.calls c.args.host.now.system) (g.M.System.System.calls c.play.new.host.system)) (sym c.in-Play.is) c.play.ensures.opens
 
 pub returns-in-Sync-clause-files : goal.returns-in-Sync-clause-files
 returns-in-Sync-clause-files g c =
     subst (λ (t : Task). UsesFor (fault_of c.sync.result.result) t c.sync.result.disk
-    (paths_of c.args.host.now) (paths_of c.sync.new.host)) (sym c.in-Sync.is) c.sync.ensures.opens
-
-pub returns-in-Memory-clause-looked : goal.returns-in-Memory-clause-looked
-returns-in-Memory-clause-looked g c =
-    let calls = g.Y.System.calls c.args.system.now in
-    subst (λ (t : Task). LooksFor t c.whole.result.disk calls calls) (sym c.in-Memory.is) refl
-
-pub returns-in-Serve-clause-looked : goal.returns-in-Serve-clause-looked
-returns-in-Serve-clause-looked g c =
-    let calls = g.Y.System.calls c.args.system.now in
-    subst (λ (t : Task). LooksFor t c.whole-in-Serve.result.disk calls calls) (sym c.in-Serve.is) refl
-
-pub returns-in-Check-clause-looked : goal.returns-in-Check-clause-looked
-returns-in-Check-clause-looked g c =
-    let calls = g.Y.System.calls c.args.system.now in
-    subst (λ (t : Task). LooksFor t c.whole-in-Check.result.disk calls calls) (sym c.in-Check.is) refl
-
-pub returns-in-Migrate-clause-looked : goal.returns-in-Migrate-clause-looked
-returns-in-Migrate-clause-looked g c =
-    let calls = g.Y.System.calls c.args.system.now in
-    subst (λ (t : Task). LooksFor t c.whole-in-Migrate.result.disk calls calls) (sym c.in-Migrate.is) refl
-
-pub returns-in-Play-clause-looked : goal.returns-in-Play-clause-looked
-returns-in-Play-clause-looked g c =
-    let calls = g.Y.System.calls c.args.system.now in
-    subst (λ (t : Task). LooksFor t c.play.result.disk calls calls) (sym c.in-Play.is) refl
-
-pub returns-in-Sync-clause-looked : goal.returns-in-Sync-clause-looked
-returns-in-Sync-clause-looked g c =
-    let calls = g.Y.System.calls c.args.system.now in
-    subst (λ (t : Task). LooksFor t c.sync.result.disk calls calls) (sym c.in-Sync.is) refl
-
-pub returns-in-Export-clause-looked : goal.returns-in-Export-clause-looked
-returns-in-Export-clause-looked g c =
-    let calls = g.Y.System.calls c.args.system.now in
-    subst (λ (t : Task). LooksFor t c.whole-in-Export.result.disk calls calls) (sym c.in-Export.is) refl
-
-pub returns-in-Inspect-clause-looked : goal.returns-in-Inspect-clause-looked
-returns-in-Inspect-clause-looked g c =
-    let calls = g.Y.System.calls c.args.system.now in
-    subst (λ (t : Task). LooksFor t c.whole-in-Inspect.result.disk calls calls) (sym c.in-Inspect.is) refl
+    (g.M.System.System.calls c.args.host.now.system) (g.M.System.System.calls c.sync.new.host.system)) (sym c.in-Sync.is) c.sync.ensures.opens
 
 pub returns-in-ListObjects-clause-ended : goal.returns-in-ListObjects-clause-ended
 returns-in-ListObjects-clause-ended g c =
@@ -315,19 +266,6 @@ returns-in-GetBody-clause-ended g c =
     (λ ending used. GetsFile c.in-GetBody.name.now ending used old new) result used (λ r early. (early, Keeps-refl _))
     (λ all ending whole is. (whole, Keeps-refl _, is)) c.get_file.ensures.ended))
 
-pub returns-in-TrySync-clause-ended : goal.returns-in-TrySync-clause-ended
-returns-in-TrySync-clause-ended g c =
-    let unread = g.R.Read.remaining c.args.reader.now in
-    let old = g.W.Write.contents c.args.writer.now in
-    let new = g.W.Write.contents c.try_sync.new.log in
-    let task : Task = TrySync c.in-TrySync.disk c.in-TrySync.folder c.in-TrySync.types c.in-TrySync.rules in
-    let result = c.try_sync.result.result in
-    let used = c.try_sync.result.disk in
-    subst (λ (t : Task). ComesOut t result used unread unread old new) (sym c.in-TrySync.is)
-    (comes_so task unread unread old new (IsUnsynced c.in-TrySync.types)
-    (λ all ending. TriesTask c.in-TrySync.types c.in-TrySync.rules c.in-TrySync.folder.now all ending used old new) result used (λ r early. (early, Keeps-refl _))
-    (λ all ending is. (Keeps-refl _, is)) c.try_sync.ensures.ended)
-
 pub returns-in-WithdrawNames-clause-ended : goal.returns-in-WithdrawNames-clause-ended
 returns-in-WithdrawNames-clause-ended g c =
     let unread = g.R.Read.remaining c.args.reader.now in
@@ -348,8 +286,6 @@ returns-in-PutFiles-clause-ended g c =
     let unread = g.R.Read.remaining c.args.reader.now in
     let old = g.W.Write.contents c.args.writer.now in
     let new = g.W.Write.contents c.put.new.writer in
-    let before = g.Y.System.calls c.args.system.now in
-    let after = g.Y.System.calls c.put.new.system in
     let files = c.in-PutFiles.files in
     let types = c.in-PutFiles.types in
     let task : Task = PutFiles c.in-PutFiles.disk files types in
@@ -357,36 +293,26 @@ returns-in-PutFiles-clause-ended g c =
     let used = c.put.result.disk in
     subst (λ (t : Task). ComesOut t result used unread unread old new) (sym c.in-PutFiles.is)
     (comes_told task unread unread old new (λ r. IsUntyped types r ⊎ (r ≡ DeviceFault))
-    (λ all ending used. PutsFiles types (texts files.now) all ending used old new before after)
+    (λ all ending used. (before after : List Call)
+    × PutsFiles types (texts files.now) all ending used old new before after)
     result used (λ r early. (early, Keeps-refl _))
-    (λ all ending is. (Keeps-refl _, (before, after, is))) c.put.ensures.ended)
-
-pub returns-in-PutFiles-clause-looked : goal.returns-in-PutFiles-clause-looked
-returns-in-PutFiles-clause-looked g c =
-    subst (λ (t : Task). LooksFor t c.put.result.disk (g.Y.System.calls c.args.system.now)
-    (g.Y.System.calls c.put.new.system)) (sym c.in-PutFiles.is) c.put.ensures.looked
+    (λ all ending is. (Keeps-refl _, is)) c.put.ensures.ended)
 
 pub returns-in-PutFiles-clause-files : goal.returns-in-PutFiles-clause-files
 returns-in-PutFiles-clause-files g c =
     subst (λ (t : Task). UsesFor (fault_of c.put.result.result) t c.put.result.disk
-    (paths_of c.args.host.now) (paths_of c.put.new.host)) (sym c.in-PutFiles.is) c.put.ensures.files
+    (g.M.System.System.calls c.args.host.now.system) (g.M.System.System.calls c.put.new.host.system)) (sym c.in-PutFiles.is) c.put.ensures.files
 
 pub returns-in-WithdrawNames-clause-files : goal.returns-in-WithdrawNames-clause-files
 returns-in-WithdrawNames-clause-files g c =
     subst (λ (t : Task). UsesFor (fault_of c.withdraw_file.result.result) t
-    c.withdraw_file.result.disk (paths_of c.args.host.now) (paths_of c.withdraw_file.new.host))
+    c.withdraw_file.result.disk (g.M.System.System.calls c.args.host.now.system) (g.M.System.System.calls c.withdraw_file.new.host.system))
     (sym c.in-WithdrawNames.is) c.withdraw_file.ensures.files
-
-pub returns-in-WithdrawNames-clause-looked : goal.returns-in-WithdrawNames-clause-looked
-returns-in-WithdrawNames-clause-looked g c =
-    let calls = g.Y.System.calls c.args.system.now in
-    subst (λ (t : Task). LooksFor t c.withdraw_file.result.disk calls calls)
-    (sym c.in-WithdrawNames.is) refl
 
 pub returns-in-ListObjects-clause-files : goal.returns-in-ListObjects-clause-files
 returns-in-ListObjects-clause-files g c =
-    let old = paths_of c.args.host.now in
-    let new = paths_of c.list_file.new.host in
+    let old = g.M.System.System.calls c.args.host.now.system in
+    let new = g.M.System.System.calls c.list_file.new.host.system in
     let done = c.whole-in-ListObjects.result in
     subst (λ (t : Task). UsesFor (fault_of done.result) t done.disk old new) (sym c.in-ListObjects.is)
     (subst (λ (w : _). Opens [] c.in-ListObjects.path.now (fault_of w.result) w.disk old new)
@@ -395,33 +321,13 @@ returns-in-ListObjects-clause-files g c =
 
 pub returns-in-GetBody-clause-files : goal.returns-in-GetBody-clause-files
 returns-in-GetBody-clause-files g c =
-    let old = paths_of c.args.host.now in
-    let new = paths_of c.get_file.new.host in
+    let old = g.M.System.System.calls c.args.host.now.system in
+    let new = g.M.System.System.calls c.get_file.new.host.system in
     let done = c.whole-in-GetBody.result in
     subst (λ (t : Task). UsesFor (fault_of done.result) t done.disk old new) (sym c.in-GetBody.is)
     (subst (λ (w : _). Opens [] c.in-GetBody.disk.now (fault_of w.result) w.disk old new)
     (sym c.whole-in-GetBody.ensures)
     (opens_whole c.get_file.result.result c.in-GetBody.disk.now c.get_file.result.disk old new c.get_file.ensures.files))
-
-pub returns-in-TrySync-clause-files : goal.returns-in-TrySync-clause-files
-returns-in-TrySync-clause-files g c =
-    subst (λ (t : Task). UsesFor (fault_of c.try_sync.result.result) t c.try_sync.result.disk
-    (paths_of c.args.host.now) (paths_of c.try_sync.new.host)) (sym c.in-TrySync.is) c.try_sync.ensures.opens
-
-pub returns-in-TrySync-clause-looked : goal.returns-in-TrySync-clause-looked
-returns-in-TrySync-clause-looked g c =
-    let calls = g.Y.System.calls c.args.system.now in
-    subst (λ (t : Task). LooksFor t c.try_sync.result.disk calls calls) (sym c.in-TrySync.is) refl
-
-pub returns-in-ListObjects-clause-looked : goal.returns-in-ListObjects-clause-looked
-returns-in-ListObjects-clause-looked g c =
-    let calls = g.Y.System.calls c.args.system.now in
-    subst (λ (t : Task). LooksFor t c.whole-in-ListObjects.result.disk calls calls) (sym c.in-ListObjects.is) refl
-
-pub returns-in-GetBody-clause-looked : goal.returns-in-GetBody-clause-looked
-returns-in-GetBody-clause-looked g c =
-    let calls = g.Y.System.calls c.args.system.now in
-    subst (λ (t : Task). LooksFor t c.whole-in-GetBody.result.disk calls calls) (sym c.in-GetBody.is) refl
 
 pub returns-in-Copy-clause-ended : goal.returns-in-Copy-clause-ended
 returns-in-Copy-clause-ended g c =
@@ -441,8 +347,8 @@ returns-in-Copy-clause-ended g c =
 
 pub returns-in-Copy-clause-files : goal.returns-in-Copy-clause-files
 returns-in-Copy-clause-files g c =
-    let old = paths_of c.args.host.now in
-    let new = paths_of c.copy_file.new.host in
+    let old = g.M.System.System.calls c.args.host.now.system in
+    let new = g.M.System.System.calls c.copy_file.new.host.system in
     let done = c.whole-in-Copy.result in
     let copied = c.in-Copy.copied in
     subst (λ (t : Task). UsesFor (fault_of done.result) t done.disk old new) (sym c.in-Copy.is)
@@ -450,11 +356,3 @@ returns-in-Copy-clause-files g c =
     (sym c.whole-in-Copy.ensures)
     (subst (λ (e : Option Refusal). OpensTwo e copied.disk.now copied.new.now c.copy_file.result.disk
     old new) (sym (fault_whole c.copy_file.result.result)) c.copy_file.ensures.files))
-
-pub returns-in-Copy-clause-looked : goal.returns-in-Copy-clause-looked
-returns-in-Copy-clause-looked g c =
-    let old = g.Y.System.calls c.args.system.now in
-    let new = g.Y.System.calls c.copy_file.new.system in
-    subst (λ (t : Task). LooksFor t c.whole-in-Copy.result.disk old new) (sym c.in-Copy.is)
-    (subst (λ (w : _). LooksAtNew c.in-Copy.copied.new.now w.disk old new)
-    (sym c.whole-in-Copy.ensures) c.copy_file.ensures.looked)

@@ -27,92 +27,72 @@ use denote.Triple.Spec.{Meets, triple_of}
 use denote.Triple.Table.{entered}
 use denote.Triple.Walked.{says, Stays, stay_ref, walk_of, AllGo, Goes-ref, Walks, ends_at, walked}
 use denote.Triple.Walked.{walk_Meets}
-use Rattle.mot_endpoints.specs.declared.pairs.Pairs.{Pairs}
-use Rattle.mot_endpoints.specs.contracts.pairs.Pairs as T
-use Rattle.mot_endpoints.specs.contracts.pairs.Pairs.note.Key.{name as #it}
-use Rattle.mot_endpoints.specs.contracts.pairs.Pairs.note as it
-use Rattle.mot_endpoints.proofs.pairs.Pairs.note.Statement as stated
-use Rattle.mot_endpoints.proofs.pairs.Pairs.note.Code as code
-use denote.Ref.{Bor}
-use denote.Builtin.{u8}
+use Rattle.mot_files.specs.declared.call_log.CallLog.{CallLog}
+use Rattle.mot_files.specs.contracts.call_log.CallLog as T
+use Rattle.mot_files.specs.contracts.call_log.CallLog.join.Key.{name as #it}
+use Rattle.mot_files.specs.contracts.call_log.CallLog.join as it
+use Rattle.mot_files.proofs.call_log.CallLog.join.Statement as stated
+use Rattle.mot_files.proofs.call_log.CallLog.join.Code as code
+use denote.Ref.{Bor, ShrRef, shr_vals, shr_Tells}
+use denote.Triple.Walked.{stay_none_ref, Goes-none_ref}
 use denote.Exit.{yes}
-use denote.Slice.{ShrSlice, slice_val, shr_slice_vals, shr_slice_Tells}
-use denote.Triple.Walked.{stay_none_slice, Goes-none_slice}
-use Rattle.std.proofs.Common.{◌<◌, ◌^◌, length}
 
 abbrev Arg : Type 0
-Arg = MutBor Pairs × (Bor (List ℕ) × (Bor (List ℕ) × Unit {0}))
+Arg = MutBor CallLog × (Bor CallLog × Unit {0})
 
 abbrev stayed : Stays (it.ended).signature.params (it.ended).kept
 stayed = (
   stay_ref (0 ∷ []) tt (plain (λ _. T.the_row)),
-  (
-    stay_none_slice (1 ∷ []) tt (plain (λ _. u8)) yes,
-    (stay_none_slice (2 ∷ []) tt (plain (λ _. u8)) yes, tt),
-  ),
+  (stay_none_ref (1 ∷ []) tt (plain (λ _. T.the_row)) yes, tt),
 )
 
 module _ {M : Type 1} {𝓤 : Ura M} (𝓛 : Logic 𝓤) (at_mem : Memory → SProp 𝓤) (run : Routine → Fun 𝓤)
-    (κ κ' κ'' : Lft) (q q' q'' : Share) (b o : ℕ) (γ : GName) (h : Pairs)
-    (k s : Bor (List ℕ)) where
+    (κ κe : Lft) (q qe : Share) (b o : ℕ) (γ : GName) (h : CallLog)
+    (rb ro : ℕ) (n : CallLog) where
   open 𝓛 use {H, A}
 
+  abbrev e : Bor CallLog
+  e = record { ref_ptr = (rb, ro); now = n }
+
   abbrev x : Arg
-  x = (record { ref_ptr = (b, o); ghost_name = γ; now = h }, (k, (s, tt)))
+  x = (record { ref_ptr = (b, o); ghost_name = γ; now = h }, (e, tt))
 
-  abbrev h' : Pairs
-  h' = record { marker = h.marker; all = h.all ++ (k.now, s.now) ∷ [] }
+  abbrev h' : CallLog
+  h' = record { marker = h.marker; all = h.all ++ n.all }
 
-  abbrev at : List Val × (List Val × (List Val × Unit {0}))
-  at = (
-    vptr b o ∷ [],
-    (
-      slice_val k.ref_ptr (length k.now) ∷ [],
-      (slice_val s.ref_ptr (length s.now) ∷ [], tt),
-    ),
-  )
+  abbrev at : List Val × (List Val × Unit {0})
+  at = (vptr b o ∷ [], (vptr rb ro ∷ [], tt))
 
   abbrev rest : base.Fml.Fml
-  rest = owns (ShrSlice (named 1) κ' u8 ∷ ShrSlice (named 2) κ'' u8 ∷ []) x.1 at.1
+  rest = owns (ShrRef (named 1) κe T.the_row ∷ []) x.1 at.1
 
   abbrev Post : Val → SProp 𝓤
   Post = (walk_of 𝓛 it.ended stayed (it.clauses 𝓛 at_mem run)).post
-      (((κ, (κ', (κ'', tt))), (q, (q', (q'', tt))), tt, x, at), tt)
+      (((κ, (κe, tt)), (q, (qe, tt)), tt, x, at), tt)
 
   exits : ent 𝓤 (sep 𝓤 (A.obs γ ((T.the_row).coded.code h'))
       (sep 𝓤 (A.bor κ (Body (mem T.the_row) b o γ))
       (sep 𝓤 (A.lft κ q) (sep 𝓤 (types.Logic.sem 𝓛 rest)
-      (sep 𝓤 (A.lft κ' q') (sep 𝓤 (A.lft κ'' q'') (emp 𝓤))))))) (Post vunit)
+      (sep 𝓤 (A.lft κe qe) (emp 𝓤)))))) (Post vunit)
   exits =
       qed 𝓛 (‵ (fobs γ ((T.the_row).coded.code h')) ∷ ‵ (fbor κ (Body (mem T.the_row) b o γ))
-      ∷ ‵ (flft κ q) ∷ ‵ rest ∷ (‵ (flft κ' q') ⊛ (‵ (flft κ'' q'') ⊛ ‵ ftrue)) ∷ []) ∵
+      ∷ ‵ (flft κ q) ∷ ‵ rest ∷ (‵ (flft κe qe) ⊛ ‵ ftrue) ∷ []) ∵
       suffices ! _ (ends_at 𝓛 it.ended stayed (it.clauses 𝓛 at_mem run)
-      (((κ, (κ', (κ'', tt))), (q, (q', (q'', tt))), tt, x, at), tt) vunit tt
-      (h', (tt, (tt, tt))) (tt, (tt, (tt, tt)))) $ says ! refl $ move ! (2 ∷ 4 ∷ []) $ join ! $
+      (((κ, (κe, tt)), (q, (qe, tt)), tt, x, at), tt) vunit tt
+      (h', (tt, tt)) (tt, (tt, tt))) $ says ! refl $ move ! (2 ∷ 4 ∷ []) $ join ! $
       frame ! $ feq_i ! (List Val) (vptr b o ∷ []) (vptr b o ∷ []) refl $ fjoin3 ! $ fjoin ! $
       feq_i ! (List Val) (vunit ∷ []) (vunit ∷ []) refl $ move ! (1 ∷ 0 ∷ []) $ done !
 
   module _ (C : Calls 𝓤 H) (Λ : Loops 𝓤 H) where
-    walk : length k.now < 2 ^ 64 → length s.now < 2 ^ 64
-        → ent 𝓤 (on_entry 𝓛 it.signature (κ, (κ', (κ'', tt))) (q, (q', (q'', tt))) x at)
-        (WpFn 𝓤 H C Λ code.function
-        (vptr b o ∷ slice_val k.ref_ptr (length k.now) ∷ slice_val s.ref_ptr (length s.now) ∷ [])
-        Post)
-    walk fk fs =
-        qed 𝓛 ((‵ (flft κ q) ⊛ (‵ (flft κ' q') ⊛ (‵ (flft κ'' q'') ⊛ ‵ ftrue)))
-        ∷ ‵ (owns (MutRef (named 0) κ T.the_row ∷ ShrSlice (named 1) κ' u8
-        ∷ ShrSlice (named 2) κ'' u8 ∷ []) x at) ∷ []) ∵ split ! $ move ! (2 ∷ []) $ fsplit ! $
+    walk : ent 𝓤 (on_entry 𝓛 it.signature (κ, (κe, tt)) (q, (qe, tt)) x at)
+        (WpFn 𝓤 H C Λ code.function (vptr b o ∷ vptr rb ro ∷ []) Post)
+    walk =
+        qed 𝓛 ((‵ (flft κ q) ⊛ (‵ (flft κe qe) ⊛ ‵ ftrue))
+        ∷ ‵ (owns (MutRef (named 0) κ T.the_row ∷ ShrRef (named 1) κe T.the_row ∷ []) x at)
+        ∷ []) ∵ split ! $ move ! (2 ∷ []) $ fsplit ! $
         fsplit3 ! $ drop ! $ move ! (0 ∷ 1 ∷ 3 ∷ []) $
-        enter ! C Λ code.function
-        (vptr b o ∷ slice_val k.ref_ptr (length k.now) ∷ slice_val s.ref_ptr (length s.now)
-        ∷ []) _ $
-        alloc_all ! (λ l. pass_all ! refl (
-          (tt, tt),
-          (
-            (tt, (tt, (record { fits = fk }, tt))),
-            ((tt, (tt, (record { fits = fs }, tt))), tt),
-          ),
-        ) $
+        enter ! C Λ code.function (vptr b o ∷ vptr rb ro ∷ []) _ $
+        alloc_all ! (λ l. pass_all ! refl ((tt, tt), ((tt, tt), tt)) $
         move ! (0 ∷ 1 ∷ 2 ∷ []) $ opens ! tt T.the_row {h = h} b o (λ vs.
         sets ! (of_opd ! (unit_lit !)) refl (tt, tt) $
         move ! (1 ∷ []) $ use1 𝓛 (‵ ((T.the_row).own_val h' vs)) (id⊢ 𝓤 _) $ move ! (1 ∷ 0 ∷ []) $
@@ -127,23 +107,18 @@ module _ {M : Type 1} {𝓤 : Ura M} (𝓛 : Logic 𝓤) (at_mem : Memory → SP
   walks : (C : Calls 𝓤 H) (Λ : Loops 𝓤 H)
       → Walks 𝓛 it.ended stayed (WpFn 𝓤 H C Λ code.function) (it.clauses 𝓛 at_mem run)
   walks C Λ = walked 𝓛 it.ended stayed (it.clauses 𝓛 at_mem run) (WpFn 𝓤 H C Λ code.function)
-      (λ κs. (mut_vals, (shr_slice_vals, (shr_slice_vals, tt))))
-      (λ κs. (
-        mut_Tells (named 0) κs.0 T.the_row,
-        (shr_slice_Tells (named 1) κs.1.0 u8, (shr_slice_Tells (named 2) κs.1.1.0 u8, tt)),
-      ))
+      (λ κs. (mut_vals, (shr_vals, tt)))
+      (λ κs. (mut_Tells (named 0) κs.0 T.the_row, (shr_Tells (named 1) κs.1.0 T.the_row, tt)))
       (λ κs qs bounds a _ are.
       via 𝓤 _ (fst∗ 𝓤 _ (emp 𝓤))
-      (walk 𝓛 at_mem run κs.0 κs.1.0 κs.1.1.0 qs.0 qs.1.0 qs.1.1.0 a.0.ref_ptr.0 a.0.ref_ptr.1
-      a.0.ghost_name a.0.now a.1.0 a.1.1.0 C Λ are.1.0.0.1.0 are.1.1.0.0.1.0))
+      (walk 𝓛 at_mem run κs.0 κs.1.0 qs.0 qs.1.0
+      a.0.ref_ptr.0 a.0.ref_ptr.1 a.0.ghost_name a.0.now a.1.0.ref_ptr.0 a.1.0.ref_ptr.1 a.1.0.now
+      C Λ))
 
-  goes : AllGo 𝓛 3 (it.signature).params (it.ended).kept stayed
+  goes : AllGo 𝓛 2 (it.signature).params (it.ended).kept stayed
   goes = (
-    Goes-ref 𝓛 3 0 tt (plain (λ _. T.the_row)),
-    (
-      Goes-none_slice 𝓛 3 (1 ∷ []) tt (plain (λ _. u8)) yes,
-      (Goes-none_slice 𝓛 3 (2 ∷ []) tt (plain (λ _. u8)) yes, tt),
-    ),
+    Goes-ref 𝓛 2 0 tt (plain (λ _. T.the_row)),
+    (Goes-none_ref 𝓛 2 (1 ∷ []) tt (plain (λ _. T.the_row)) yes, tt),
   )
 
 meets : {M : Type 1} {𝓤 : Ura M} (𝓛 : Logic 𝓤)
@@ -154,9 +129,9 @@ meets {𝓤 = 𝓤} 𝓛 at_mem run 𝓣 =
     (WpFn 𝓤 𝓛.H 𝓣.C 𝓣.Λ code.function) (WpFn-mono 𝓤 𝓛.H 𝓛.laws 𝓣 code.function)
     (walks 𝓛 at_mem run 𝓣.C 𝓣.Λ)
 
-pub note_spec : {M : Type 1} → stated.statement M
+pub join_spec : {M : Type 1} → stated.statement M
 unfolding tables_of
-note_spec 𝓤 𝓛 𝓜 𝓡 wired =
+join_spec 𝓤 𝓛 𝓜 𝓡 wired =
     entered 𝓤 𝓛.H (triple_of 𝓛 it.signature (it.spec 𝓛 𝓜.mem 𝓡.returns))
     (tables 𝓤 𝓛.H 𝓜 𝓡 𝓡.env).C (tables 𝓤 𝓛.H 𝓜 𝓡 𝓡.env).Λ #it code.function
     (code.unfolded 𝓤 𝓛.H 𝓜 𝓡 wired)

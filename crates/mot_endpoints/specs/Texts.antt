@@ -1,8 +1,9 @@
 -- Reading the text of a file. Each relation goes from the calls that were made before to those that
 -- were made then.
-use Rattle.std.specs.Prelude.{◌≡◌, ℕ, List, [], ◌∷◌, ◌++◌, Ok}
+use Rattle.std.specs.Prelude.{◌≡◌, ℕ, List, [], ◌∷◌, ◌++◌, Ok, Result}
 use Rattle.mot_files.specs.Call.{Call, closed, followed, looked_at, opened, read_of}
 use Rattle.mot_files.specs.Reading.{IsSame, joined, reads}
+use Rattle.mot_files.specs.declared.system.Fault.{Fault}
 use Rattle.mot_files.specs.declared.system.Handle.{Handle}
 use Rattle.mot_files.specs.declared.system.How.TheVariants as How
 use Rattle.mot_files.specs.declared.system.Kind.TheVariants.{File}
@@ -31,3 +32,9 @@ pub record IsTextOf (path text : List ℕ) (old new : List Call) : Type 0 where
   pub opened : IsOpened path handle old opening
   pub read : IsReadToEnd handle text opening inner
   pub calls : new ≡ inner ++ closed handle ∷ []
+
+-- calls were made, the first of which asked what the path leads to
+pub record AsksFirst (path : List ℕ) (old new : List Call) : Type 0 where
+  pub answer : Result Seen Fault
+  pub rest : List Call
+  pub calls : new ≡ old ++ followed path answer ∷ rest
