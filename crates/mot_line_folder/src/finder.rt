@@ -172,7 +172,10 @@ impl<'a, S: System + Drop> Finder<'a, S> {
                 self.leave(bytes, stamp_of(named), refusal, why)?;
                 Ok(None)
             }
-            Found::Gone => Ok(None),
+            Found::Gone => {
+                self.said.meet(bytes);
+                Ok(None)
+            }
         }
     }
 
@@ -292,10 +295,10 @@ impl<'a, S: System + Drop> Finder<'a, S> {
     pub(crate) fn leave_unread(&mut self, lines: &LineFile) -> bool
         ensures leaves { (stamp : Option Stamp) × Leaves lines.now.handle stamp
             (S.calls self.old.system) (S.calls self.new.system) × (IsTrue result
-            → Remembers self.new.said.names.items (string_bytes lines.now.name) stamp true) }
+            → Remembers self.new.said.names.items (string_bytes lines.now.name) stamp) }
         ensures folder { self.new.folder ≡ self.old.folder }
         ensures known { IsTrue result → (stamp : Option Stamp)
-            × Remembers self.new.said.names.items (string_bytes lines.now.name) stamp true }
+            × Remembers self.new.said.names.items (string_bytes lines.now.name) stamp }
     {
         let stamp = lines.stamp(&mut self.system);
         self.system.close(lines.handle);

@@ -1,8 +1,8 @@
 //! Names in a folder about which the log has a line, so that it has one once.
 ghost use Rattle.std.specs.Prelude.{◌≡◌, ◌≢◌, ◌<◌, ◌≤◌, ◌↔◌, ◌⊎◌, [], All, HoldsAt, IfNone, IfOk, IfSome, IsTrue, MatchOption};
-ghost use Rattle.std.specs.Prelude.{false, length, true};
+ghost use Rattle.std.specs.Prelude.{IsSome, false, length, true};
 ghost use Rattle.mot_line_folder.specs.LineFiles.{IsStampOf};
-ghost use Rattle.mot_line_folder.specs.Inner.Said.{IsDue, IsNew, IsUnread, IsUntold, Remembers};
+ghost use Rattle.mot_line_folder.specs.Inner.Said.{HasMet, IsDue, IsNew, IsUnread, IsUntold, Remembers};
 
 use mot_files::{Seen, Time};
 use std::alloc::{AllocError, Global};
@@ -35,12 +35,12 @@ impl Stamp {
 #[derive(Drop)]
 pub(crate) struct Told {
     name: Vec<u8>,
-    /// The file that it named, if one was seen.
+    /// The file that the line is about, if one was seen.
     stamp: Option<Stamp>,
     /// Whether it was met since names were forgotten last.
     is_met: bool,
-    /// Whether a read of the file failed once its lines were answered.
-    is_unread: bool,
+    /// The file of which a read failed once lines of it were answered, if one did.
+    unread: Option<Stamp>,
 }
 
 /// The names about which the log has a line.
@@ -66,7 +66,7 @@ impl Said {
     pub(crate) fn is_new(&mut self, name: &[u8], stamp: Option<Stamp>) -> Result<bool, AllocError>
         ensures due { IfOk result (λ is. IsNew self.old.names.items name.now stamp is) }
     {
-        match self.keep(name, stamp, false) {
+        match self.keep(name, stamp, None) {
             Ok(Some(is_new)) => Ok(is_new),
             Ok(None) => Ok(false),
             Err(error) => Err(error),
@@ -75,35 +75,36 @@ impl Said {
 
     /// Notes that a read of this file failed; whether it will be known again.
     pub(crate) fn keep_unread(&mut self, name: &[u8], stamp: Option<Stamp>) -> bool
-        ensures { IsTrue result → Remembers self.new.names.items name.now stamp true }
+        ensures { IsTrue result → Remembers self.new.names.items name.now stamp }
     {
         if stamp.is_none() {
             return false;
         }
-        match self.keep(name, stamp, true) {
+        match self.keep(name, stamp, stamp) {
             Ok(Some(_)) => true,
             _ => false,
         }
     }
 
-    /// Remembers this file, if there is room; whether the log has no line about it yet.
+    /// Remembers this file, and that a read of it failed if one did, if there is room; whether the log
+    /// has no line about it yet. Of which file a read failed before, is not forgotten.
     fn keep(
         &mut self,
         name: &[u8],
         stamp: Option<Stamp>,
-        is_unread: bool,
+        unread: Option<Stamp>,
     ) -> Result<Option<bool>, AllocError>
         ensures due { IfOk result (λ kept. MatchOption kept
             (IsUntold self.old.names.items name.now × (100 ≤ length self.old.names.items))
             (λ is. IsDue self.old.names.items name.now stamp is
-            × Remembers self.new.names.items name.now stamp is_unread)) }
+            × (IsSome unread → Remembers self.new.names.items name.now unread))) }
     {
         if let Some(at) = self.place_of(name) {
             let told = &mut self.names[at];
             let is_new = !is_one(&told.stamp, &stamp);
             told.stamp = stamp;
             told.is_met = true;
-            told.is_unread = is_unread;
+            told.unread = unread.or(told.unread);
             return Ok(Some(is_new));
         }
         if self.names.len() >= MOST {
@@ -113,7 +114,7 @@ impl Said {
             name: Vec::from_slice(self.alloc, name)?,
             stamp,
             is_met: true,
-            is_unread,
+            unread,
         })?;
         Ok(Some(true))
     }
@@ -121,17 +122,30 @@ impl Said {
     /// Whether a read of this file failed, and it is as it was then.
     pub(crate) fn is_unread(&mut self, name: &[u8], stamp: Option<Stamp>) -> bool
         ensures known { IsUnread self.old.names.items name.now stamp result }
-        ensures met { IsTrue result → Remembers self.new.names.items name.now stamp true }
+        ensures met { IsTrue result → Remembers self.new.names.items name.now stamp }
     {
+        if stamp.is_none() {
+            return false;
+        }
         let Some(at) = self.place_of(name) else {
             return false;
         };
         let told = &mut self.names[at];
-        if !told.is_unread || !is_one(&told.stamp, &stamp) {
+        if !is_one(&told.unread, &stamp) {
             return false;
         }
         told.is_met = true;
         true
+    }
+
+    /// Notes that this name was met, if it is remembered.
+    pub(crate) fn meet(&mut self, name: &[u8])
+        ensures { IsUntold self.old.names.items name.now ⊎ HasMet self.new.names.items name.now }
+    {
+        if let Some(at) = self.place_of(name) {
+            let told = &mut self.names[at];
+            told.is_met = true;
+        }
     }
 
     /// Where the name stands, if it is remembered.

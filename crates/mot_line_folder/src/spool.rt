@@ -135,7 +135,7 @@ impl<'a, S: System + Drop> Spool<'a, S> {
         ensures torn { self.new.is_torn ≡ lines.now.is_cut }
         ensures open { self.new.«open» ≡ self.old.«open» }
         ensures known { self.new.is_stopped ≡ false → (stamp : Option Stamp) × Remembers
-            self.new.finder.said.names.items (string_bytes lines.now.name) stamp true }
+            self.new.finder.said.names.items (string_bytes lines.now.name) stamp }
     {
         self.is_torn = lines.is_cut;
         let is_known = self.finder.leave_unread(lines);

@@ -1,5 +1,5 @@
 -- The names of a folder about which the log has a line.
-use Rattle.std.specs.Prelude.{◌≡◌, ◌≢◌, ◌≤◌, ◌<◌, ◌↔◌, ℕ, Bool, true, false, IsTrue, List, All, Contains, Option, length}
+use Rattle.std.specs.Prelude.{◌≡◌, ◌≢◌, ◌≤◌, ◌<◌, ◌↔◌, ℕ, Bool, true, false, IsTrue, List, All, Contains, Option, None, length}
 use Rattle.mot_line_folder.specs.declared.said.Stamp.{Stamp}
 use Rattle.mot_line_folder.specs.declared.said.Told.{Told}
 
@@ -19,15 +19,21 @@ pub data IsNew (tolds : List Told) (name : List ℕ) (stamp : Option Stamp) (is 
   full : IsUntold tolds name → 100 ≤ length tolds → is ≡ false → IsNew tolds name stamp is
   due : IsDue tolds name stamp is → IsNew tolds name stamp is
 
--- an entry is about this file, as it is, and was met
-pub data Remembers (tolds : List Told) (name : List ℕ) (stamp : Option Stamp) (unread : Bool) :
-    Type 0 where
-  by : (told : Told) → Contains tolds told → told.name.items ≡ name → told.stamp ≡ stamp
-      → told.is_met ≡ true → told.is_unread ≡ unread → Remembers tolds name stamp unread
+-- an entry about the name was met
+pub data HasMet (tolds : List Told) (name : List ℕ) : Type 0 where
+  met : (told : Told) → Contains tolds told → told.name.items ≡ name → told.is_met ≡ true
+      → HasMet tolds name
 
--- whether an entry about a file says that a read of it failed, and that it was then as it is
+-- an entry says that a read of this file failed, as it is, and was met
+pub data Remembers (tolds : List Told) (name : List ℕ) (stamp : Option Stamp) : Type 0 where
+  by : (told : Told) → Contains tolds told → told.name.items ≡ name → told.is_met ≡ true
+      → told.unread ≡ stamp → Remembers tolds name stamp
+
+-- whether an entry about a file says that a read of it failed, and that it was then as it is; what
+-- was not seen is not known
 pub data IsUnread (tolds : List Told) (name : List ℕ) (stamp : Option Stamp) (is : Bool) :
     Type 0 where
+  unseen : stamp ≡ None → is ≡ false → IsUnread tolds name stamp is
   untold : IsUntold tolds name → is ≡ false → IsUnread tolds name stamp is
   told : (told : Told) → Contains tolds told → told.name.items ≡ name
-      → (IsTrue is ↔ (told.is_unread ≡ true) × (told.stamp ≡ stamp)) → IsUnread tolds name stamp is
+      → (IsTrue is ↔ told.unread ≡ stamp) → IsUnread tolds name stamp is

@@ -1,4 +1,4 @@
-use Rattle.std.proofs.Common.{ℕ, List, subst, true}
+use Rattle.std.proofs.Common.{ℕ, List, subst}
 use Rattle.mot_line_folder.specs.Inner.Said.{Remembers}
 use Rattle.mot_line_folder.proofs.finder.Finder.leave_unread.Goals as goal
 
@@ -6,7 +6,7 @@ pub returns-clause-leaves : goal.returns-clause-leaves
 returns-clause-leaves g c = (
   c.stamp-stamp.result,
   record { inner = g.S.System.calls c.stamp-stamp.new.system; seen = c.stamp-stamp.ensures; calls = c.close.ensures },
-  λ is. subst (λ (n : List ℕ). Remembers c.keep_unread.new.self.names.items n c.stamp-stamp.result true)
+  λ is. subst (λ (n : List ℕ). Remembers c.keep_unread.new.self.names.items n c.stamp-stamp.result)
       c.as_bytes.ensures.value (c.keep_unread.ensures is),
 )
 
@@ -14,6 +14,6 @@ pub returns-clause-known : goal.returns-clause-known
 returns-clause-known g c =
     λ is. (
       c.stamp-stamp.result,
-      subst (λ (n : List ℕ). Remembers c.keep_unread.new.self.names.items n c.stamp-stamp.result true)
+      subst (λ (n : List ℕ). Remembers c.keep_unread.new.self.names.items n c.stamp-stamp.result)
           c.as_bytes.ensures.value (c.keep_unread.ensures is),
     )

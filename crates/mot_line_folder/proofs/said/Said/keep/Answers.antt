@@ -1,9 +1,9 @@
-use Rattle.std.proofs.Common.{◌≡◌, refl, sym, subst, arith}
+use Rattle.std.proofs.Common.{◌≡◌, ◌∙◌, refl, sym, subst, arith}
 use Rattle.mot_line_folder.specs.Inner.Said.{Remembers}
 use Rattle.mot_line_folder.specs.Inner.Said.IsDue.{known, new}
 use Rattle.mot_line_folder.specs.Inner.Said.Remembers.{by}
 use Rattle.mot_line_folder.specs.declared.said.Told.{Told}
-use Rattle.mot_line_folder.proofs.Told.{added_contains, not_iff, set_contains}
+use Rattle.mot_line_folder.proofs.Told.{added_contains, not_iff, or_first, set_contains}
 use Rattle.mot_line_folder.proofs.said.Said.keep.Goals as goal
 
 pub returns-in-Some : goal.returns-in-Some
@@ -15,7 +15,8 @@ returns-in-Some c =
         known c.index_mut-told.result.now
             (c.in-Some.at, c.in-Some.ensures.fits, sym c.index_mut-told.ensures.value) named
             (not_iff c.is_one-is_new.result c.is_one-is_new.ensures),
-        by _ (set_contains _ c.in-Some.at _ c.in-Some.ensures.fits) named refl refl refl,
+        λ some. by _ (set_contains _ c.in-Some.at _ c.in-Some.ensures.fits) named refl
+            (c.or-told.ensures ∙ or_first c.args.unread _ some),
       );
     }
 
@@ -23,8 +24,8 @@ pub returns : goal.returns
 returns c = record {
   due = (
     new c.in_default.ensures.none (omega (arith, c.if-len-ge-MOST.false, c.len.ensures)) refl,
-    subst (λ (l : _). Remembers l c.args.name.now c.args.stamp c.args.is_unread)
+    λ some. subst (λ (l : _). Remembers l c.args.name.now c.args.unread)
         (sym c.in_ok-push.ensures.items)
-        (by _ (added_contains c.args.self.now.names.items _) c.in_ok-from_slice.ensures.items refl refl refl),
+        (by _ (added_contains c.args.self.now.names.items _) c.in_ok-from_slice.ensures.items refl refl),
   );
 }

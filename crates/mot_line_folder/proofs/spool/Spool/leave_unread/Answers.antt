@@ -11,5 +11,5 @@ is_known false goes = let h = goes in cc
 pub returns-clause-known : goal.returns-clause-known
 returns-clause-known g c =
     λ goes. subst (λ (s : Said). (stamp : Option Stamp) × Remembers s.names.items
-    (string_bytes c.args.lines.now.name) stamp true) (sym c.tell_fault.ensures.said)
+    (string_bytes c.args.lines.now.name) stamp) (sym c.tell_fault.ensures.said)
     (c.leave_unread-is_known.ensures.known (is_known c.leave_unread-is_known.result goes))
