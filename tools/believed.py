@@ -1,14 +1,14 @@
 #!/usr/bin/env python3
-"""Counts what has to be believed of the promises, and prints the tables of docs/BELIEVE.md.
+"""Counts what has to be believed of the promises, and makes the tables of docs/believed.md.
 
 A promise is carried by clauses of named functions. From them this goes down, by name, through every definition that they
 cite and those that these cite; the clauses of the traits that a function is told of are among them, and the ghost values
 and views of the types that it takes and gives. (What a type always holds, its invariant, is proved where a value is made.)
 Each definition counts with its own lines, without blank ones and comments, under the first promise that reaches it.
 
-    tools/believed.py            prints the tables
+    tools/believed.py            writes docs/believed.md
     tools/believed.py --names    prints each definition with its lines
-    tools/believed.py --check    prints nothing, and fails where docs/BELIEVE.md has other tables
+    tools/believed.py --check    prints nothing, and fails if docs/believed.md is not what it would write
 
 It fails, too, where a word is named below as only handed on and is not: some clause has to give it and some clause has to
 ask for it; and of a value that is handed on with it no clause looks at more than its disk and what a public call answers.
@@ -23,7 +23,20 @@ import re
 import sys
 
 TOP = pathlib.Path(__file__).resolve().parent.parent
-PAGE = TOP / "docs" / "BELIEVE.md"
+PAGE = TOP / "docs" / "believed.md"
+HEAD = """\
+# Definitions, counted
+
+`tools/believed.py` writes this page, and `.ci/run` compares. [BELIEVE.md](BELIEVE.md) says what to read here, and for what.
+
+A line is a line of a definition, without blank lines and comments. Each promise lists only what is new: definitions that a promise above it needs are
+not repeated. Read with them:
+
+- the clauses themselves, which the first table counts;
+- the clauses of the trait `Disk`, which say what a call does to a disk of the model, and of other traits;
+- the declarations of the types that are named below each table;
+- the meaning of the library's words.
+"""
 
 # The promises in reading order: a title, and the functions whose clauses carry it, each with the names of these clauses
 # (all of them where none is named).
@@ -441,15 +454,15 @@ def names_of(promise, kinds):
 
 
 def page_of(sources, promises):
-    """The tables, in the order of the promises."""
-    rows = ["| Promise | Its own lines | With those above | Clauses | Carried by |", "|---|---|---|---|---|"]
+    """The page, with the tables in the order of the promises."""
+    rows = [HEAD, "| Promise | Its own lines | With those above | Clauses | Carried by |", "|---|---|---|---|---|"]
     total = 0
     for it in promises:
         total += it.lines(it.new)
         carried = ", ".join(it.functions) or "each public contract of each crate"
         rows.append(f"| {it.title} | {it.lines(it.new)} | {total} | {it.clauses or ''} | {carried} |")
     for it in promises:
-        rows += ["", f"### {it.title}", "", *table_of(sources, it)]
+        rows += ["", f"## {it.title}", "", *table_of(sources, it)]
         words = sorted({name.replace("◌", " ").strip() for word in it.new if isinstance(word, tuple) for name in word[1:]})
         for what, names in (("Types of the program", names_of(it, ("struct", "enum", "type"))),
                             ("Traits, with their clauses", names_of(it, ("trait",))),
@@ -458,7 +471,7 @@ def page_of(sources, promises):
                             ("Words of the library", ", ".join(f"`{word}`" for word in words))):
             if names:
                 rows += ["", f"{what}: {names}."]
-    return "\n".join(rows + exceptions())
+    return "\n".join(rows + exceptions()) + "\n"
 
 
 def total_by(promises, last):
@@ -480,7 +493,7 @@ def exceptions():
     for title, named in (("Public, and cited by no public contract", CITED_BY_NONE),
                          ("Private, and cited by a public contract", CITED_THOUGH_INNER)):
         if named:
-            rows += ["", f"### {title}", "", "| Definitions | Names | Why |", "|---|---|---|"]
+            rows += ["", f"## {title}", "", "| Definitions | Names | Why |", "|---|---|---|"]
             rows += [f"| `{path_of(file)}` | {', '.join(f'`{it}`' for it in names.split())} | {why} |" for file, names, why in named]
     return rows
 
@@ -588,15 +601,15 @@ def main():
     for promise in filter(lambda it: it.handed_on, promises):
         wrong += [*handed_on_faults(sources, promise), *looks_inside(sources, promise)]
     if "--check" in sys.argv:
-        if page not in PAGE.read_text():
-            wrong.append(f"{PAGE.relative_to(TOP)} has other tables")
+        if not PAGE.exists() or PAGE.read_text() != page:
+            wrong.append(f"{PAGE.relative_to(TOP)} has other tables: tools/believed.py writes them")
     elif "--names" in sys.argv:
         for promise in promises:
             print(f"{promise.title}: {promise.lines(promise.new)}")
             for file, found in by_file(filter(is_definition, promise.new)).items():
                 print(f"    {path_of(file)}: {', '.join(f'{it.name} {it.lines}' for it in found)}")
     else:
-        print(page)
+        PAGE.write_text(page)
     for it in wrong:
         print(f"tools/believed.py: {it}", file=sys.stderr)
     return 1 if wrong else 0
