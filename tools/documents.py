@@ -104,7 +104,9 @@ def promises():
         if len(cells) != 2 or "::" not in cells[1]:
             continue
         for named, labels in row(cells[1]):
-            clauses, _, cited = labels.partition(":")
+            # labels, and after a colon the definitions that they cite; then, after a semicolon, other labels
+            parts = [it.partition(":") for it in labels.split(";")]
+            clauses, cited = (" ".join(it[at] for it in parts) for at in (0, 2))
             for name in named:
                 crate, _, function = name.partition("::")
                 known = functions(crate)
