@@ -1,7 +1,8 @@
 #!/usr/bin/env python3
 """Looks whether the documents name what is there: README's length and its clauses, links and their headings, the
 paths of the repository, and in docs/PROMISES.md each function, each label of a clause and each definition; whether
-their prose keeps the rules of tools/prose.py; and whether each name in crates.txt is used by the crate that names it.
+their prose keeps the rules of tools/prose.py; and whether each name in crates.txt is used by the crate that names it,
+and docs/ARCHITECTURE.md has a row for each crate, in that order.
 
     tools/documents.py
 """
@@ -141,6 +142,16 @@ def names_of_crates():
     wrong.extend(f"crates.txt: {it}: nothing of the second is used" for it in unused())
 
 
+def rows_of_crates():
+    """The crates of docs/ARCHITECTURE.md are those of crates.txt, in their order."""
+    table = (top / "docs/ARCHITECTURE.md").read_text().partition("## The crates")[2].partition("\nThese types")[0]
+    rows = re.findall(r"^\| \w* ?\| (`.*?`) \|", table, re.M)
+    shown, known = [name for it in rows for name in re.findall(r"`(\w+)`", it)], [crate for crate, _ in crates()]
+    wrong.extend(f"ARCHITECTURE.md: crates.txt has {it[1]} in the place of {it[0]}" for it in zip(shown, known) if it[0] != it[1])
+    if len(shown) != len(known):
+        wrong.append(f"ARCHITECTURE.md has {len(shown)} of {len(known)} crates")
+
+
 def clauses():
     """The clauses on README's page stand in the code."""
     said = re.findall(r"```rust\n(    // .*?)```", (top / "README.md").read_text(), re.S)
@@ -160,6 +171,7 @@ for it in PAGES:
     wrong.extend(prose.faults(it.relative_to(top), it.read_text()))
 promises()
 names_of_crates()
+rows_of_crates()
 for it in wrong:
     print(f"tools/documents.py: {it}")
 print(f"tools/documents.py: {len(PAGES)} pages, {len(wrong)} faults")
