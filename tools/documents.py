@@ -6,6 +6,7 @@ and docs/ARCHITECTURE.md has a row for each crate, in that order.
 
     tools/documents.py
 """
+import itertools
 import pathlib
 import re
 import sys
@@ -15,6 +16,8 @@ import prose
 
 top = pathlib.Path(__file__).resolve().parent.parent
 README_LINES = 100
+# The crates that are no part of the product.
+TESTS = ("mot_memory_files", "mot_tests", "simulate", "public_names")
 FOLDERS = ("docs", "tools", "tests", "campaigns", "bench", "packaging", "examples")
 PAGES = [*sorted(top.glob("*.md")), *(page for folder in FOLDERS for page in sorted(top.glob(f"{folder}/**/*.md")))]
 wrong = []
@@ -143,11 +146,14 @@ def names_of_crates():
 
 
 def rows_of_crates():
-    """The crates of docs/ARCHITECTURE.md are those of crates.txt, in their order."""
+    """The crates of docs/ARCHITECTURE.md are those of crates.txt, in their order, each with how many of the product name it."""
     table = (top / "docs/ARCHITECTURE.md").read_text().partition("## The crates")[2].partition("\nThese types")[0]
-    rows = re.findall(r"^\| \w* ?\| (`.*?`) \|", table, re.M)
-    shown, known = [name for it in rows for name in re.findall(r"`(\w+)`", it)], [crate for crate, _ in crates()]
-    wrong.extend(f"ARCHITECTURE.md: crates.txt has {it[1]} in the place of {it[0]}" for it in zip(shown, known) if it[0] != it[1])
+    shown = []
+    for names, counts in re.findall(r"^\| \w* ?\| (`.*?`) \|.*\|([\d, ]*)\|$", table, re.M):
+        shown += itertools.zip_longest(re.findall(r"`(\w+)`", names), counts.replace(",", " ").split(), fillvalue="")
+    users = {crate: str(sum(crate in below for it, below in crates() if it not in TESTS)) for crate, _ in crates()}
+    known = [(crate, "" if crate in TESTS else count) for crate, count in users.items()]
+    wrong.extend(f"ARCHITECTURE.md: {it[0]}: crates.txt has {it[1]}" for it in zip(shown, known) if it[0] != it[1])
     if len(shown) != len(known):
         wrong.append(f"ARCHITECTURE.md has {len(shown)} of {len(known)} crates")
 
