@@ -1,11 +1,12 @@
 #!/usr/bin/env python3
 """Looks whether the documents name what is there: README's length and its clauses, links and their headings, the
 paths of the repository, and in docs/PROMISES.md each function, each label of a clause and each definition; whether
-their prose keeps the rules of tools/prose.py; and whether each name in crates.txt is used by the crate that names it,
-and docs/ARCHITECTURE.md has a row for each crate, in that order.
+their prose keeps the rules of tools/prose.py, and no sentence stands on two pages; whether each name in crates.txt is
+used by the crate that names it, and docs/ARCHITECTURE.md has a row for each crate, in that order.
 
     tools/documents.py
 """
+import functools
 import itertools
 import pathlib
 import re
@@ -16,6 +17,10 @@ import prose
 
 top = pathlib.Path(__file__).resolve().parent.parent
 README_LINES = 100
+# Pages on which a sentence may stand again: the list of changes, and tables that a tool makes.
+REPEATING = ("CHANGELOG.md", "docs/believed.md")
+# Pages that still share one.
+SHARING = [{"README.md", "docs/OPERATING.md"}, {"docs/FORMATS.md", "docs/OPERATING.md"}, {"bench/README.md", "campaigns/README.md"}]
 # The crates that are no part of the product.
 TESTS = ("mot_memory_files", "mot_tests", "simulate", "public_names")
 FOLDERS = ("docs", "tools", "tests", "campaigns", "bench", "packaging", "examples")
@@ -78,6 +83,20 @@ def definitions():
     """The definitions of all crates."""
     text = "".join(it.read_text() for it in top.glob("crates/*/specs/**/*.antt"))
     return set(re.findall(r"\bpub (?:record |data )?(\w+)", text))
+
+
+def names_of_code(page):
+    """What a page names as a crate's own, `crate::name`, stands in its code."""
+    for code in re.findall(r"`((?:mot|disk)_\w+::[^`]*)`", page.read_text()):
+        for name in spread(code):
+            crate, *parts = re.findall(r"\w+", name)
+            if not all(re.search(rf"\b{it}\b", code_of(crate)) for it in parts):
+                wrong.append(f"{page.name}: no {name}")
+
+
+@functools.cache
+def code_of(crate):
+    return "".join(it.read_text() for it in sorted((top / "crates" / crate / "src").rglob("*.rt")))
 
 
 def spread(name):
@@ -158,6 +177,18 @@ def rows_of_crates():
         wrong.append(f"ARCHITECTURE.md has {len(shown)} of {len(known)} crates")
 
 
+def repeats():
+    """Where twelve words in a row stand on two pages."""
+    seen, found = {}, {}
+    for page in (it for it in PAGES if str(it.relative_to(top)) not in REPEATING):
+        name = str(page.relative_to(top))
+        for number, run in prose.runs(page.read_text()):
+            other, at = seen.setdefault(run, (name, number))
+            if other != name and {other, name} not in SHARING:
+                found.setdefault((name, number, other, at), run.replace("\x00", "`..`"))
+    wrong.extend(f"{name}:{number}: stands in {other}:{at}, too: {run}.." for (name, number, other, at), run in found.items())
+
+
 def clauses():
     """The clauses on README's page stand in the code."""
     said = re.findall(r"```rust\n(    // .*?)```", (top / "README.md").read_text(), re.S)
@@ -174,10 +205,12 @@ if lines > README_LINES:
 for it in PAGES:
     links(it)
     paths(it)
+    names_of_code(it)
     wrong.extend(prose.faults(it.relative_to(top), it.read_text()))
 promises()
 names_of_crates()
 rows_of_crates()
+repeats()
 for it in wrong:
     print(f"tools/documents.py: {it}")
 print(f"tools/documents.py: {len(PAGES)} pages, {len(wrong)} faults")

@@ -8,6 +8,7 @@ WORDS_OF_A_SENTENCE = 35
 LINES_OF_A_PARAGRAPH = 8
 WORDS_OF_A_CELL = 60
 WORDS_OF_A_TITLE = 4
+WORDS_OF_A_REPEAT = 12
 # How many longer cells a page has that nobody has shortened yet.
 LONG_CELLS = {"docs/FORMATS.md": 1, "campaigns/device/README.md": 2}
 
@@ -79,6 +80,18 @@ def long_cells(name, text):
     cells = [(number, plain(lines[0])) for number, lines, is_cell in units(text) if is_cell]
     found = [(number, words_in(it)) for number, it in cells if words_in(it) > WORDS_OF_A_CELL and not is_list_of_code(it)]
     return found if len(found) != LONG_CELLS.get(str(name), 0) else []
+
+
+def runs(text):
+    """Each run of so many words within a sentence as would be a repeat on another page, with its line."""
+    for number, lines, _ in units(text):
+        for sentence in sentences(plain("\n".join(lines))):
+            words = [it for it in (re.sub(r"[^\w\x00]", "", it).lower() for it in sentence.split()) if it]
+            for at in range(len(words) - WORDS_OF_A_REPEAT + 1):
+                run = words[at:at + WORDS_OF_A_REPEAT]
+                # (names of functions one after the other are no sentence)
+                if not is_list_of_code(" ".join(run)):
+                    yield number, " ".join(run)
 
 
 def faults(name, text):
