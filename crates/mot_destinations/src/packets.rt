@@ -397,6 +397,7 @@ impl<S: System + Drop> Outlet for PacketWriter<S> {
     ghost writes = { λ outlet.
         Some (writes_to (writer_handle outlet) (S.calls (writer_system outlet))) };
 
+    #[inline(always)]
     fn write_once(&mut self, bytes: &[u8]) -> io::Result<usize>
         ensures bound { IfOk result (λ count. count ≤ length bytes.now) }
         ensures one { MatchResult result
@@ -418,27 +419,29 @@ impl<S: System + Drop> Outlet for PacketWriter<S> {
             × IsAnswer answer result }
     {
         let answer = self.system.write(self.handle, bytes);
-        self.fault = fault_after(self.fault, bytes.len(), answer);
+        note_fault(&mut self.fault, bytes.len(), &answer);
         told(answer)
     }
 }
 
-/// Why a packet of this length was not taken whole, or what was known before.
-fn fault_after(
-    before: Option<PacketsFault>,
-    len: usize,
-    answer: Result<usize, Fault>,
-) -> Option<PacketsFault>
-    ensures { result ≡ fault_after before len answer }
+/// Notes why a packet of this length was not taken whole. What was known before stays, if it was
+/// taken: so nothing is written then.
+#[inline(always)]
+fn note_fault(fault: &mut Option<PacketsFault>, len: usize, answer: &Result<usize, Fault>)
+    ensures { fault.new ≡ fault_after fault.old len answer.now }
 {
     match answer {
-        Ok(count) if count < len => Some(PacketsFault::Cut),
-        Ok(_) => before,
-        Err(fault) => Some(PacketsFault::from(fault)),
+        Ok(count) => {
+            if *count < len {
+                *fault = Some(PacketsFault::Cut);
+            }
+        }
+        Err(refused) => *fault = Some(PacketsFault::from(*refused)),
     }
 }
 
 /// The answer as that of an outlet.
+#[inline(always)]
 fn told(answer: Result<usize, Fault>) -> io::Result<usize>
     ensures { IsAnswer answer result }
 {

@@ -38,6 +38,7 @@ impl<U: Update + Facts + Drop, T: Watch + Drop> Update for Reported<U, T> {
     ghost tells = { λ old new moment. TellsWatched T.begins T.ends old.watch
         (U.known new.update) new.watch moment (U.tells old.update new.update moment) };
 
+    #[inline(always)]
     fn update<D: Disk>(
         &mut self,
         server: &mut Server<D>,

@@ -16,6 +16,7 @@ use std::time::{SystemTime, UNIX_EPOCH};
 const EPOCH: u128 = 1 << 63;
 
 /// What the system said of a call.
+#[inline(always)]
 pub(crate) fn told<A>(answer: io::Result<A>) -> Result<A, Fault>
     ensures { MatchResult answer (λ value. result ≡ Ok value) (λ error. IsErrAnd result (IsFaultOf error)) }
 {

@@ -85,6 +85,7 @@ impl<'a> HostSystem<'a> {
     }
 
     /// Writes to what the handle stands for.
+    #[inline(always)]
     fn write_to(&mut self, handle: Handle, bytes: &[u8]) -> io::Result<usize>
         ensures within { IfOk result (λ count. count ≤ length bytes.now) }
         ensures calls { self.new.calls ≡ self.old.calls }
@@ -179,6 +180,7 @@ impl<'a> System for HostSystem<'a> {
         answer
     }
 
+    #[inline(always)]
     fn write(&mut self, handle: Handle, bytes: &[u8]) -> Result<usize, Fault> {
         let answer = told(self.write_to(handle, bytes));
         self.calls.note(&Event::Wrote(handle, answer), bytes, &[]);

@@ -90,6 +90,7 @@ impl<T: Drop> Table<T> {
     }
 
     /// What the handle stands for.
+    #[inline(always)]
     pub fn get_mut(&mut self, handle: Handle) -> Option<&mut T>
         ensures { option_copied_mut result ≡ held self.old handle.slot }
     {

@@ -1,7 +1,13 @@
 -- The packets of a turn, by the lengths of what it carries.
 use Rattle.std.proofs.Common.{◌≡◌, ◌∙◌, ℕ, zero, suc, ◌+◌, ◌-◌, ◌<◌, ◌≤◌, List, [], ◌∷◌, ◌++◌}
 use Rattle.std.proofs.Common.{length, map, drop, replicate, min, refl, sym, ap, arith}
-use Rattle.std.proofs.Common.{append-nil}
+use Rattle.std.proofs.Common.{append-nil, false, if◌then◌else◌, nat_le, ◌*◌}
+use Rattle.std.proofs.lemmas.Bool.Decides.{nat_tests}
+use Rattle.mot_numbers.specs.PacketLength.{bytes_of, room_of, shortest_room}
+use Rattle.mot_numbers.specs.declared.packet_length.PacketLength.{PacketLength}
+use Rattle.mot_numbers.specs.declared.packet_length.PacketLength.TheVariants.{P24, P48, P72, P96}
+use Rattle.mot_listening.specs.TurnSize.{with_counted}
+use Rattle.mot_listening.specs.declared.turn.TurnSize.{TurnSize}
 use Rattle.std.proofs.lemmas.List.{length-append, length-drop, length-replicate, length-take}
 use Rattle.std.proofs.lemmas.List.Concat.{flat_map-append}
 use Rattle.std.proofs.lemmas.List.Sums.{fold-append, sum_by-cons}
@@ -205,3 +211,57 @@ entity-more with_one none room full before len mid new is new_is =
     ∙ ap (λ l. fold with_one none (turn_lengths room full before ++ l))
     (sym (append-nil (entity_lengths room full len)))
     ∙ ap (fold with_one none) (sym (flat_map-append (entity_lengths room full) before (len ∷ [])))
+
+-- ---- packets of one length, counted at once
+
+abbrev most : ℕ
+most = 18446744073709551615
+
+abbrev counted-at-once : (n packet : ℕ) → TurnSize → TurnSize
+counted-at-once n packet s = record {
+  packets = min (s.packets + n) most;
+  bytes = min (s.bytes + n * packet) most;
+  checksum = s.checksum;
+}
+
+abbrev sized : (packets bytes checksum : ℕ) → TurnSize
+sized packets bytes checksum = record { packets = packets; bytes = bytes; checksum = checksum }
+
+pub counted-cases : (p p' b b' c : ℕ) → p' ≡ p → b' ≡ b → sized p' b' c ≡ sized p b c
+counted-cases p p' b b' c ps bs = ap (λ x. sized x b' c) ps ∙ ap (λ x. sized p x c) bs
+
+-- a full packet has five bytes more than its data field
+pub full-bytes : (length : PacketLength) → bytes_of length ≡ room_of length + 5
+full-bytes P24 = refl
+full-bytes P48 = refl
+full-bytes P72 = refl
+full-bytes P96 = refl
+
+pub counted-same : (n packet : ℕ) (s : TurnSize) → s.packets ≤ most → s.bytes ≤ most
+    → counted-at-once n packet s ≡ fold with_counted s (replicate n packet)
+counted-same zero packet s p b =
+    let ps : min (s.packets + 0) most ≡ s.packets = omega (arith, p) in
+    let bs : min (s.bytes + 0 * packet) most ≡ s.bytes = omega (arith, b) in
+    counted-cases (s.packets) (min (s.packets + 0) most) (s.bytes)
+    (min (s.bytes + 0 * packet) most) s.checksum ps bs
+counted-same (suc n) packet s p b =
+    let more : suc n * packet ≡ packet + n * packet = omega arith in
+    let ps : min (s.packets + suc n) most ≡ min (min (s.packets + 1) most + n) most = omega arith in
+    let bs : min (s.bytes + suc n * packet) most
+    ≡ min (min (s.bytes + packet) most + n * packet) most = omega (arith, more) in
+    counted-cases (min (min (s.packets + 1) most + n) most) (min (s.packets + suc n) most)
+    (min (min (s.bytes + packet) most + n * packet) most) (min (s.bytes + suc n * packet) most)
+    s.checksum ps bs
+    ∙ counted-same n packet (with_counted s packet) (omega arith) (omega arith)
+
+-- the packets of a group: all but the last are full
+pub full-but-last : (n room rest : ℕ) → n * room < rest
+    → packet_lengths (suc n) room rest
+    ≡ replicate n (room + 5) ++ packet_length room (rest - n * room) ∷ []
+full-but-last zero room rest lt = ap (λ m. packet_length room m ∷ []) (omega arith)
+full-but-last (suc n) room rest lt =
+    let long : nat_le rest room ≡ false = grind (arith, nat_tests, lt) in
+    let less : rest - room - n * room ≡ rest - suc n * room = omega arith in
+    ap (λ b. ((if b then shortest_room rest else room) + 5) ∷ packet_lengths (suc n) room (rest - room)) long
+    ∙ ap (λ l. (room + 5) ∷ l) (full-but-last n room (rest - room) (omega (arith, lt))
+    ∙ ap (λ m. replicate n (room + 5) ++ packet_length room m ∷ []) less)

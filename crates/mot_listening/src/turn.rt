@@ -1,5 +1,5 @@
 //! How many packets a turn has, and how many bytes these; and the checksum of its directory.
-ghost use Rattle.std.specs.Prelude.{◌≡◌, ◌+◌, ◌≤◌, IfErr, IfOk, List, ℕ};
+ghost use Rattle.std.specs.Prelude.{◌≡◌, ◌+◌, ◌<◌, ◌≤◌, ◌^◌, IfErr, IfOk, List, ℕ, replicate};
 ghost use Rattle.std.specs.List.{fold};
 ghost use Rattle.mot_listening.specs.Entities.{entity_lengths, group_lengths};
 ghost use Rattle.mot_listening.specs.TurnSize.{begun, size_of_turn, with_counted};
@@ -56,16 +56,27 @@ impl TurnSize {
         self.bytes = self.bytes.saturating_add(packet as u64);
     }
 
-    /// The packets of a group of so many bytes.
+    /// So many packets more, each of so many bytes.
+    fn count_same(&mut self, packet: usize, count: usize)
+        requires few { count < 2 ^ 20 }
+        requires short { packet ≤ 96 }
+        ensures { self.new ≡ fold with_counted self.old (replicate count packet) }
+    {
+        self.packets = self.packets.saturating_add(count as u64);
+        self.bytes = self.bytes.saturating_add((count * packet) as u64);
+    }
+
+    /// The packets of a group of so many bytes: all but the last are full.
     fn count_group(&mut self, full_length: PacketLength, len: usize)
+        requires { len < 2 ^ 20 }
         ensures { self.new ≡ fold with_counted self.old (group_lengths (room_of full_length) len) }
     {
         let count = packet_count(len, full_length);
         let room = full_length.room();
-        let mut rest = len;
-        for _ in 0..count {
-            self.count(packet_for(rest, full_length));
-            rest = rest.saturating_sub(room);
+        let full = count.saturating_sub(1);
+        self.count_same(full_length.bytes(), full);
+        if count > 0 {
+            self.count(packet_for(len - full * room, full_length));
         }
     }
 

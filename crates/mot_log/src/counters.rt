@@ -49,6 +49,7 @@ impl Counters {
     }
 
     /// Counts what happened.
+    #[inline(always)]
     pub fn count(&mut self, tally: Tally)
         ensures { self.new ≡ counted self.old tally }
     {

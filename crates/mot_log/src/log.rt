@@ -65,6 +65,7 @@ impl<W: Write + Drop> EventLog<W> {
     }
 
     /// Writes the line of an event, and flushes; whether that was done.
+    #[inline(never)]
     fn write_line(&mut self, event: &Event<'_>) -> bool
         ensures counts { self.new.counters ≡ self.old.counters }
         ensures levels { self.new.levels ≡ self.old.levels }
@@ -92,6 +93,7 @@ impl<W: Write + Drop> Tells for EventLog<W> {
         (log_view (W.contents new.writer) new.is_whole new.levels new.counters) };
 
     /// Counts an event, and writes its line, if it has one.
+    #[inline(always)]
     fn tell(&mut self, event: &Event<'_>)
         ensures heard { Logs
             (log_view (W.contents self.old.writer) self.old.is_whole self.old.levels

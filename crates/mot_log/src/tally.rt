@@ -92,6 +92,7 @@ impl Level {
 
 impl Tally {
     /// What an event counts as.
+    #[inline(always)]
     pub fn of(event: &Event<'_>) -> Tally
         ensures { result ≡ tally_of event.now }
     {

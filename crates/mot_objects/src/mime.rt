@@ -53,6 +53,7 @@ impl Mime {
 impl Clone for Mime {
     ghost is_clone = { λ old new. new ≡ old };
 
+    #[inline(always)]
     fn clone(&self) -> Result<Self, AllocError> {
         let text = self.text.clone()?;
         Ok(Mime { text })

@@ -54,6 +54,7 @@ impl Name {
 impl Clone for Name {
     ghost is_clone = { λ old new. new ≡ old };
 
+    #[inline(always)]
     fn clone(&self) -> Result<Self, AllocError> {
         let text = self.text.clone()?;
         Ok(Name { text })

@@ -28,6 +28,7 @@ impl Text {
 impl Clone for Text {
     ghost is_clone = { λ old new. text_bytes new ≡ text_bytes old };
 
+    #[inline(always)]
     fn clone(&self) -> Result<Self, AllocError> {
         match self {
             Text::Alone(bytes) => {

@@ -138,6 +138,7 @@ impl<'a, S: System + Drop, W: Write + Drop> Reporter<'a, S, W> {
     }
 
     /// Tells that a packet was taken, and whether a turn has ended with it.
+    #[inline(always)]
     fn tell_packet(&mut self, ended: bool)
         ensures counts { self.new.log.counters ≡ packet_counted ended self.old.log.counters }
         ensures log { (self.new.log.levels ≡ self.old.log.levels)
@@ -458,6 +459,7 @@ impl<'a, S: System + Drop, W: Write + Drop> Watch for Reporter<'a, S, W> {
         (teller S.calls W.contents new) };
 
     /// Tells what is due before an update.
+    #[inline(always)]
     fn begin<D: Disk>(&mut self, server: &Server<D>, alloc: Global, moment: Moment)
         ensures begun { TellsBefore (teller S.calls W.contents self.old) server.now.view moment
             (teller S.calls W.contents self.new) }
@@ -466,6 +468,7 @@ impl<'a, S: System + Drop, W: Write + Drop> Watch for Reporter<'a, S, W> {
     }
 
     /// Tells what is due after an update.
+    #[inline(always)]
     fn end<D: Disk, U: Facts>(&mut self, server: &Server<D>, alloc: Global, update: &U)
         ensures ended { let same = ⟦<LookEvent as PartialEq>⟧.eq in
             TellsAfter same (teller S.calls W.contents self.old) server.now.view

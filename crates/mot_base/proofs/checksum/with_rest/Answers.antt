@@ -14,4 +14,4 @@ returns-in-len4-up c =
     ∙ four_step c.args.register c.with_four-after_four.result (get_or rest 0 0) (get_or rest 1 0)
     (get_or rest 2 0) (get_or rest 3 0)
     others c.with_four-after_four.ensures
-    ∙ c.with_bytes-in-len4-up.ensures
+    ∙ c.with_few-in-len4-up.ensures
