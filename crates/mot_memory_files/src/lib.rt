@@ -1,13 +1,30 @@
-//! A folder in memory, in the place of the system's files: for tests and for the simulation. By a plan
-//! and a seed, other programs change it between any two calls, and calls fail. The program has no part
-//! of it.
+//! A whole machine in memory: folders, files, a pipe, disks and a clock behind one seed, which dies at
+//! a moment of the plan and comes back with what a crash leaves. The program has no part of it.
 #![tactic(auto)]
 
+mod bytes;
+mod call;
 mod calls;
-mod files;
-mod folder;
-mod state;
+mod chance;
+mod crash;
+mod disk;
+mod faults;
+mod listing;
+mod machine;
+mod moves;
+mod names;
+mod node;
+mod others;
+mod plan;
+mod reached;
+mod system;
+mod whole;
+mod world;
 
-pub use files::MemorySystem;
-pub use folder::{Removed, Version};
-pub use state::Plan;
+pub use call::{CALLS, Call};
+pub use machine::{MachineFile, MachineStart, MemoryMachine};
+pub use node::{Node, Removed, Version};
+pub use plan::Plan;
+pub use reached::{Reach, Reached, add_reached, times_failed};
+pub use system::MachineSystem;
+pub use world::World;

@@ -3,14 +3,16 @@ use crate::disks::{Server, new_server};
 use crate::expecting::expect;
 use mot_base::{Geometry, Refusal};
 use mot_events::LookEvent;
+use mot_files::Kind;
 use mot_folder::{FileTypes, Folder, look_at_folder};
 use mot_log::add_met_line;
-use mot_memory_files::{MemorySystem, Plan};
+use mot_memory_files::{MachineSystem, World};
 use mot_shelf::FolderReader;
 use std::alloc::Global;
+use std::cell::RefCell;
 
-/// Of a look: the names in the folder with their bytes, whether every call on it fails, whether a folder
-/// without an object takes all off the air, and what is told.
+/// Of a look: the paths of the files with their bytes, whether nobody may list the folder, whether a
+/// folder without an object takes all off the air, and what is told.
 type Look = (
     &'static [(&'static str, &'static [u8])],
     bool,
@@ -22,19 +24,23 @@ type Look = (
 /// with other bytes; then none, at which the object is kept, and then withdrawn.
 const LOOKS: [Look; 5] = [
     (
-        &[("a.txt", b"one"), ("b.txt", b"two"), ("c.doc", b"none")],
+        &[
+            ("folder/a.txt", b"one"),
+            ("folder/b.txt", b"two"),
+            ("folder/c.doc", b"none"),
+        ],
         false,
         false,
         b"skip c.doc suffix\nput a.txt done object 2 directory 3\nput b.txt done object 4 directory 5\n",
     ),
     (
-        &[("a.txt", b"one")],
+        &[("folder/a.txt", b"one")],
         true,
         false,
-        b"look folder refused 22 ReadFault: permission denied\n",
+        b"look folder refused 22 ReadFault: Permission denied\n",
     ),
     (
-        &[("a.txt", b"six")],
+        &[("folder/a.txt", b"six")],
         false,
         false,
         b"withdraw b.txt done directory 6\nreplace a.txt done object 7 directory 8\n",
@@ -48,33 +54,31 @@ const LOOKS: [Look; 5] = [
     ),
 ];
 
-/// A folder with these files, each of whose calls fails if `fails` is set.
+/// A folder with these files, which nobody may list if it `is_denied`.
 fn folder_of(
     alloc: Global,
     files: &[(&'static str, &'static [u8])],
-    fails: bool,
-) -> Result<MemorySystem, Refusal> {
-    let mut system = MemorySystem::calm(alloc, "folder")?;
-    for (name, bytes) in files {
-        system.put(name, bytes)?;
+    is_denied: bool,
+) -> Result<World, Refusal> {
+    let mut world = World::new(alloc, 0);
+    world.place_other("folder", Kind::Folder)?;
+    for (path, bytes) in files {
+        world.place_file(path, bytes)?;
     }
-    let stop = u64::from(fails);
-    system.set_plan(Plan {
-        stop,
-        ..Plan::calm()
-    });
-    Ok(system)
+    world.set_denied("folder", is_denied);
+    Ok(world)
 }
 
 /// What is told of a look at this folder.
 fn told_of(
     alloc: Global,
     server: &mut Server,
-    system: MemorySystem,
+    world: World,
     allows_empty: bool,
 ) -> Result<Vec<u8>, Refusal> {
+    let world = RefCell::new(world);
     let types = FileTypes::new(alloc)?;
-    let shelf = FolderReader::new(system, "folder", true);
+    let shelf = FolderReader::new(MachineSystem::new(&world), "folder", true);
     let mut folder = Folder::new(alloc, shelf, &types, allows_empty);
     look_at_folder(alloc, server, &mut folder)?;
     lines_of(alloc, folder.report.events.as_slice())
@@ -91,9 +95,9 @@ fn lines_of(alloc: Global, events: &[LookEvent]) -> Result<Vec<u8>, Refusal> {
 
 /// Whether a look is told so.
 fn is_told(alloc: Global, server: &mut Server, look: Look) -> Result<bool, Refusal> {
-    let (files, fails, allows_empty, told) = look;
-    let system = folder_of(alloc, files, fails)?;
-    let lines = told_of(alloc, server, system, allows_empty)?;
+    let (files, is_denied, allows_empty, told) = look;
+    let world = folder_of(alloc, files, is_denied)?;
+    let lines = told_of(alloc, server, world, allows_empty)?;
     Ok(lines.as_slice() == told)
 }
 

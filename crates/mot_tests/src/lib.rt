@@ -23,6 +23,8 @@ mod looks;
 #[cfg(test)]
 mod memory;
 #[cfg(test)]
+mod memory_faults;
+#[cfg(test)]
 mod memory_folder;
 #[cfg(test)]
 mod objects;

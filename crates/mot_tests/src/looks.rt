@@ -1,21 +1,39 @@
 //! A look does not read a file again that was not changed.
 use crate::disks::new_server;
 use mot_base::Geometry;
+use mot_files::Kind;
 use mot_folder::{FileTypes, Folder, look_at_folder};
-use mot_memory_files::MemorySystem;
+use mot_memory_files::{MachineSystem, World};
 use mot_shelf::FolderReader;
-use std::alloc::Global;
+use std::alloc::{AllocError, Global};
+use std::cell::RefCell;
 use std::test::Fail;
 
+/// A folder of two files, whose last change is so long ago.
+fn folder_of(alloc: Global, age: u64) -> Result<World, AllocError> {
+    let mut world = World::new(alloc, 0);
+    world.place_other("folder", Kind::Folder)?;
+    world.place_file("folder/a.txt", b"one")?;
+    world.place_file("folder/b.txt", b"two")?;
+    world.clock = world.clock.wrapping_add(age);
+    Ok(world)
+}
+
 /// Of so many looks at a folder of two files, whose last change is so long ago: how many calls the
-/// folder got, and of how many files it is known then that they need not be read.
+/// machine got, and of how many files it is known then that they need not be read.
 fn looked(alloc: Global, looks: u64, age: u64) -> Result<(u64, usize), Fail> {
-    let mut system = MemorySystem::calm(alloc, "folder")?;
-    system.put("a.txt", b"one")?;
-    system.put("b.txt", b"two")?;
-    system.pass(age);
+    let world = RefCell::new(folder_of(alloc, age)?);
+    let known = known_after(alloc, &world, looks)?;
+    match world.try_borrow() {
+        Ok(w) => Ok((w.steps, known)),
+        Err(_) => Err(Fail::from("in use")),
+    }
+}
+
+/// Of how many files that is known after so many looks.
+fn known_after(alloc: Global, world: &RefCell<World>, looks: u64) -> Result<usize, Fail> {
     let types = FileTypes::new(alloc)?;
-    let shelf = FolderReader::new(system, "folder", true);
+    let shelf = FolderReader::new(MachineSystem::new(world), "folder", true);
     let mut folder = Folder::new(alloc, shelf, &types, false);
     let Ok(mut server) = new_server(alloc, &Geometry::default()) else {
         return Err(Fail::from("unopened"));
@@ -25,8 +43,7 @@ fn looked(alloc: Global, looks: u64, age: u64) -> Result<(u64, usize), Fail> {
             return Err(Fail::from("refused"));
         }
     }
-    let known = folder.files.known.len();
-    Ok((folder.shelf.into_system().steps(), known))
+    Ok(folder.files.known.len())
 }
 
 /// How many calls the last of so many looks makes, at files whose last change is so long ago.
