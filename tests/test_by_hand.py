@@ -105,10 +105,9 @@ class ByHand(AirCase):
                     (1, b"refused 10 NoSuchName\ndone directory 6\n", b""),
                     self.motcar("withdraw", self.place, "gone", "logo.png"))
         self.expect("the other stays", (0, b"carousel 0 6 6 1\nobject 4 0 1 2 6 page.html text/html\n", b""), self.listed())
-        self.expect("two words are no name", (1, b"refused 1 BadLine\n", b""),
-                    self.motcar("withdraw", self.place, "page.html more"))
-        self.expect("nor is what ends a line", (1, b"refused 2 BadName\n", b""),
-                    self.motcar("withdraw", self.place, "page.html\nlist"))
+        for row, name in (("two words are no name", "page.html more"), ("nor is what ends a line", "page.html\nlist"), ("nor is nothing", "")):
+            self.expect(row, (1, b"refused 2 BadName\n", f"motcar: {name}: no object can have this name\n".encode()),
+                        self.motcar("withdraw", self.place, name))
         self.expect("it stays", (0, b"carousel 0 6 6 1\nobject 4 0 1 2 6 page.html text/html\n", b""), self.listed())
 
     def test_get(self):

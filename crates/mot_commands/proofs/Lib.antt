@@ -1,10 +1,7 @@
-pub mod AskedFor
-pub mod Come
 pub mod Ends
 pub mod Named
 pub mod On
 pub mod Opened
 pub mod Read
-pub mod Said
 pub mod Served
 pub mod Taken

@@ -1,125 +1,66 @@
--- What was asked on a disk, told of the disk that it is made of.
-use Rattle.std.proofs.Common.{ℕ, Bool, List, [], ◌∷◌, Option, None, Some, ap}
+-- What was changed on a disk, told of the disk that it is made of.
+use Rattle.std.proofs.Common.{ℕ, Bool, List, [], ◌∷◌, Option, None, Result, Ok, Err, ap, inl, inr}
 use Rattle.disk_model.specs.Disk.{State}
-use Rattle.mot_commands.specs.Asking.{Answers, Asks, Breaks, Spoken, TakesEach, TakesTill}
-use Rattle.mot_commands.specs.Asking.{WithdrawsEach, Withdraws, WithdrawStops, withdraw_line}
-use Rattle.mot_commands.specs.Asking.Asks.{opened, unopened}
-use Rattle.mot_commands.specs.Asking.Breaks.{unasked, unprinted, unsaid}
-use Rattle.mot_commands.specs.Putting.{Puts, PutsEach, PutStops, Putting, line_on}
-use Rattle.mot_commands.specs.Putting.Puts.{asked, refused}
-use Rattle.mot_commands.specs.Putting.PutStops.{asking, refusing}
-use Rattle.mot_commands.proofs.Served.{opens-on}
+use Rattle.mot_commands.specs.Changing.{Executes, Changes, Progress, Takes, TakesEach}
+use Rattle.mot_commands.specs.declared.asking.Words.{Words}
+use Rattle.mot_commands.proofs.Served.{opens_for-on}
 use Rattle.mot_files.specs.Call.{Call}
 use Rattle.mot_numbers.specs.declared.refusal.Refusal.{Refusal}
+use Rattle.mot_objects.specs.declared.command.Command.{Command}
+use Rattle.mot_objects.specs.declared.command.Done.{Done}
 use Rattle.mot_playout.specs.Server.{ServerView}
-use Rattle.mot_session.proofs.Laws.{each-on, server_on, some-on}
-use Rattle.mot_suffixes.specs.Types.{SuffixType}
+use Rattle.mot_session.proofs.Laws.{server_on}
 
--- what is taken in turn, from the images of the states
-module _ {S T A : Type 0} (f : S → T) (Takes : A → S → S → Bool → Type 0)
-    (Stops : A → S → S → Refusal → Type 0) (Takes' : A → T → T → Bool → Type 0)
-    (Stops' : A → T → T → Refusal → Type 0)
-    (takes : (x : A) (old new : S) (done : Bool) → Takes x old new done
-    → Takes' x (f old) (f new) done)
-    (stops : (x : A) (old new : S) (r : Refusal) → Stops x old new r → Stops' x (f old) (f new) r)
-  where
-    each-map : (xs : List A) (old new : S) (all : Bool) → TakesEach Takes Stops xs old new all
-        → TakesEach Takes' Stops' xs (f old) (f new) all
-    each-map [] old new all taken = (ap f taken.0, taken.1)
-    each-map (x ∷ xs) old new all taken = (
-      f taken.0,
-      taken.1,
-      taken.2,
-      takes x old taken.0 taken.1 taken.3,
-      each-map xs taken.0 new taken.2 taken.4,
-      taken.5,
-    )
-
-    pub till-map : (ending : Option Refusal) (all : Bool) (xs : List A) (old new : S)
-        → TakesTill Takes Stops ending all xs old new
-        → TakesTill Takes' Stops' ending all xs (f old) (f new)
-    till-map None all xs old new taken = each-map xs old new all taken
-    till-map (Some r) all xs old new stopped = record {
-      first = stopped.first;
-      next = stopped.next;
-      others = stopped.others;
-      split = stopped.split;
-      mid = f stopped.mid;
-      all = stopped.all;
-      each = each-map stopped.first old stopped.mid stopped.all stopped.each;
-      stops = stops stopped.next stopped.mid new r stopped.stops;
-    }
-
-module _ {D E : Type 0} (of : D → E) (state : E → State) where
+module _ {D E : Type 0} (of : D → E) (state : E → State) (words : Words) where
   abbrev state_of : D → State
   state_of d = state (of d)
 
-  abbrev spoken_on : Spoken D → Spoken E
-  spoken_on s = (server_on of s.0, s.1)
+  abbrev on : Progress D → Progress E
+  on p = (server_on of p.0, p.1, p.2)
 
-  answers-on : (line : List ℕ) (old new : Spoken D) (done : Bool)
-      → Answers state_of line old new done → Answers state line (spoken_on old) (spoken_on new) done
-  answers-on line old new done a = record {
-    text = a.text;
-    reply = each-on of state old.0 new.0 (line ∷ []) (Some []) (Some a.text) a.reply;
-    printed = a.printed;
-    right = a.right;
+  executes-on : (request : Result Command Refusal) (old new : ServerView D)
+      (end : Result Done Refusal) → Executes state_of request old new end
+      → Executes state request (server_on of old) (server_on of new) end
+  executes-on (Ok command) old new end does = record {
+    keeps = does.keeps;
+    answered = does.answered;
+    going = does.going;
+    any_moment = does.any_moment;
+    stored = does.stored;
+  }
+  executes-on (Err refusal) old new end none = (ap (server_on of) none.0, none.1)
+
+  takes-on : (word : List ℕ) (done : Bool) (ending : Option Refusal) (old new : Progress D)
+      → Takes state_of words word done ending old new
+      → Takes state words word done ending (on old) (on new)
+  takes-on word done ending old new t = record {
+    request = t.request;
+    asked = t.asked;
+    end = t.end;
+    answered = executes-on t.request old.0 new.0 t.end t.answered;
+    printed = t.printed;
+    right = t.right;
   }
 
-  breaks-on : (line : List ℕ) (old new : Spoken D) (r : Refusal)
-      → Breaks state_of line old new r → Breaks state line (spoken_on old) (spoken_on new) r
-  breaks-on line old new r (unasked is same kept) = unasked is (ap (server_on of) same) kept
-  breaks-on line old new r (unsaid is front some kept) =
-      unsaid is front (some-on of state old.0 new.0 (line ∷ []) 0 (Some []) front some) kept
-  breaks-on line old new r (unprinted is text reply front) = unprinted is text
-      (each-on of state old.0 new.0 (line ∷ []) (Some []) (Some text) reply) front
+  each-on : (list : List (List ℕ)) (all : Bool) (ending : Option Refusal) (old new : Progress D)
+      → TakesEach state_of words list all ending old new
+      → TakesEach state words list all ending (on old) (on new)
+  each-on [] all ending old new taken = (taken.0, taken.1, ap on taken.2)
+  each-on (word ∷ others) all ending old new (inl taken) = inl (
+    taken.0,
+    taken.1,
+    on taken.2,
+    takes-on word taken.0 None old taken.2 taken.3,
+    each-on others taken.1 ending taken.2 new taken.4,
+    taken.5,
+  )
+  each-on (word ∷ others) all ending old new (inr stopped) =
+      inr (stopped.0, stopped.1, takes-on word all ending old new stopped.2)
 
-  module _ (disk : D) (ending : Option Refusal) (Silent : Type 0) (start : State) where
-    asks-on : (P : ServerView D → ServerView D → Type 0) (Q : ServerView E → ServerView E → Type 0)
-        → ((first last : ServerView D) → P first last → Q (server_on of first) (server_on of last))
-        → Asks state_of disk ending Silent P start → Asks state (of disk) ending Silent Q start
-    asks-on P Q f (unopened r is why silent) = unopened r is why silent
-    asks-on P Q f (opened opens) =
-        opened (opens-on of state disk start None None None None P Q f opens)
-
-  -- objects were withdrawn
-  pub withdraws-on : (names : List (List ℕ)) (disk : D) (all : Bool) (ending : Option Refusal)
-      (old new : Option (List ℕ)) (start : State)
-      → WithdrawsEach state_of names disk all ending old new start
-      → WithdrawsEach state names (of disk) all ending old new start
-  withdraws-on names disk all ending old new start = asks-on disk ending _ start _ _
-      (λ first last. till-map spoken_on (Withdraws state_of) (WithdrawStops state_of)
-      (Withdraws state) (WithdrawStops state) (λ name. answers-on (withdraw_line name))
-      (λ name. breaks-on (withdraw_line name)) ending all names (first, old) (last, new))
-
-  module _ (types : List SuffixType) where
-    abbrev putting_on : Putting D → Putting E
-    putting_on s = (spoken_on s.0, s.1)
-
-    puts-one-on : (path : List ℕ) (old new : Putting D) (done : Bool)
-        → Puts state_of types path old new done
-        → Puts state types path (putting_on old) (putting_on new) done
-    puts-one-on path old new done (asked bytes type read typed answers) =
-        asked bytes type read typed
-        (answers-on (line_on state_of types path type bytes old) old.0 new.0 done answers)
-    puts-one-on path old new done (refused r why same printed is) =
-        refused r why (ap (server_on of) same) printed is
-
-    put-stops-on : (path : List ℕ) (old new : Putting D) (r : Refusal)
-        → PutStops state_of types path old new r
-        → PutStops state types path (putting_on old) (putting_on new) r
-    put-stops-on path old new r (asking bytes type read typed breaks) =
-        asking bytes type read typed
-        (breaks-on (line_on state_of types path type bytes old) old.0 new.0 r breaks)
-    put-stops-on path old new r (refusing is why unput same front) =
-        refusing is why unput (ap (server_on of) same) front
-
-    -- files were put
-    pub puts-on : (paths : List (List ℕ)) (disk : D) (all : Bool) (ending : Option Refusal)
-        (old new : Option (List ℕ)) (before after : List Call) (start : State)
-        → PutsEach state_of types paths disk all ending old new before after start
-        → PutsEach state types paths (of disk) all ending old new before after start
-    puts-on paths disk all ending old new before after start = asks-on disk ending _ start _ _
-        (λ first last. till-map putting_on (Puts state_of types) (PutStops state_of types)
-        (Puts state types) (PutStops state types) puts-one-on put-stops-on ending all paths
-        ((first, old), before) ((last, new), after))
+  pub changes-on : (list : List (List ℕ)) (all : Bool) (ending : Option Refusal)
+      (old new : Option (List ℕ)) (before after : List Call) (disk : D) (start : State)
+      → Changes state_of words list all ending old new before after disk start
+      → Changes state words list all ending old new before after (of disk) start
+  changes-on list all ending old new before after disk start =
+      opens_for-on of state disk start ending _ _ _ (λ first last. each-on list all ending
+      (first, old, before) (last, new, after))

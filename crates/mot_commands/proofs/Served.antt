@@ -4,17 +4,16 @@ use Rattle.disk_model.specs.Disk.{State}
 use Rattle.mot_lines.specs.Lines.{lines_of, whole_lines}
 use Rattle.mot_numbers.specs.declared.refusal.Refusal.{Refusal}
 use Rattle.mot_numbers.specs.declared.refusal.Refusal.TheVariants.{ReadFault, WriteFault}
-use Rattle.mot_commands.specs.Serving.{OpensTo, Serves, ServesTill}
-use Rattle.mot_commands.specs.Serving.Serves.{opened, unopened}
+use Rattle.mot_commands.specs.Serving.{OpensFor, OpensTo, Serves, ServesTill}
+use Rattle.mot_commands.specs.Serving.OpensFor.{opened, unopened}
 use Rattle.mot_playout.specs.Server.{ServerView}
 use Rattle.mot_session.proofs.Laws.{each-on, server_on, some-on}
 
-module _ {D E : Type 0} (of : D → E) (state : E → State) (disk : D) (start : State)
-    (was is old new : Option (List ℕ)) where
+module _ {D E : Type 0} (of : D → E) (state : E → State) (disk : D) (start : State) where
   abbrev state_on : D → State
   state_on d = state (of d)
 
-  pub opens-on : (P : ServerView D → ServerView D → Type 0) (Q : ServerView E → ServerView E → Type 0)
+  opens-on : (P : ServerView D → ServerView D → Type 0) (Q : ServerView E → ServerView E → Type 0)
       → ((first last : ServerView D) → P first last → Q (server_on of first) (server_on of last))
       → OpensTo state_on disk start P → OpensTo state (of disk) start Q
   opens-on P Q f o = record {
@@ -30,23 +29,29 @@ module _ {D E : Type 0} (of : D → E) (state : E → State) (disk : D) (start :
     leads = f o.first o.last o.leads;
   }
 
-  till-on : (ending : Option Refusal) (input : List ℕ) (first last : ServerView D)
-      → ServesTill state_on disk ending is input old new first last
-      → ServesTill state (of disk) ending is input old new (server_on of first) (server_on of last)
-  till-on None input first last served =
-      (served.0, each-on of state first last (lines_of input) old new served.1)
-  till-on (Some ReadFault) input first last served =
-      each-on of state first last (whole_lines input) old new served
-  till-on (Some WriteFault) input first last (count, inl some) =
-      (count, inl (some-on of state first last (whole_lines input) count old new some))
-  till-on (Some WriteFault) input first last (count, inr some) =
-      (count, inr (some.0, some-on of state first last (lines_of input) count old new some.1))
-  till-on (Some refusal) input first last none = absurd none
+  pub opens_for-on : (ending : Option Refusal) (Nothing : Type 0)
+      (P : ServerView D → ServerView D → Type 0) (Q : ServerView E → ServerView E → Type 0)
+      → ((first last : ServerView D) → P first last → Q (server_on of first) (server_on of last))
+      → OpensFor state_on disk ending Nothing P start → OpensFor state (of disk) ending Nothing Q start
+  opens_for-on ending Nothing P Q f (unopened refusal ends why none) = unopened refusal ends why none
+  opens_for-on ending Nothing P Q f (opened opens) = opened (opens-on P Q f opens)
 
-  -- serving ended so
-  pub serves-on : (ending : Option Refusal) → Serves state_on disk ending was is old new start
-      → Serves state (of disk) ending was is old new start
-  serves-on ending (unopened refusal ends why kept silent) = unopened refusal ends why kept silent
-  serves-on ending (opened input taken opens) = opened input taken
-      (opens-on (ServesTill state_on disk ending is input old new)
-      (ServesTill state (of disk) ending is input old new) (till-on ending input) opens)
+  module _ (was is old new : Option (List ℕ)) where
+    till-on : (ending : Option Refusal) (input : List ℕ) (first last : ServerView D)
+        → ServesTill state_on disk ending is input old new first last
+        → ServesTill state (of disk) ending is input old new (server_on of first) (server_on of last)
+    till-on None input first last served =
+        (served.0, each-on of state first last (lines_of input) old new served.1)
+    till-on (Some ReadFault) input first last served =
+        each-on of state first last (whole_lines input) old new served
+    till-on (Some WriteFault) input first last (count, inl some) =
+        (count, inl (some-on of state first last (whole_lines input) count old new some))
+    till-on (Some WriteFault) input first last (count, inr some) =
+        (count, inr (some.0, some-on of state first last (lines_of input) count old new some.1))
+    till-on (Some refusal) input first last none = absurd none
+
+    -- serving ended so
+    pub serves-on : (ending : Option Refusal) → Serves state_on disk ending was is old new start
+        → Serves state (of disk) ending was is old new start
+    serves-on ending = opens_for-on ending _ _ _
+        (λ first last served. (served.0, served.1, till-on ending served.0 first last served.2))

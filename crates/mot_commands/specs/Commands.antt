@@ -14,7 +14,6 @@ use Rattle.mot_export.specs.Exporting.{Exports}
 use Rattle.mot_export.specs.Inspecting.{Inspects}
 use Rattle.mot_files.specs.Call.{Call, made_disk, opened_disk, removed}
 use Rattle.mot_files.specs.declared.system.Fault.{Fault}
-use Rattle.mot_commands.specs.Asking.{WithdrawsEach}
 use Rattle.mot_commands.specs.Report.{Checks, Formats, Migrates}
 use Rattle.mot_commands.specs.Serving.{Serves}
 use Rattle.mot_commands.specs.Shown.{Gets, Lists}
@@ -95,12 +94,6 @@ module _ {S F : Type 0} {start : Ghosts S F} where
   abbrev pub GetsFile : (name : List ℕ) → Option Refusal → UsedDisk S F start
       → (old new : Option (List ℕ)) → Type 0
   GetsFile name ending used old new = OnOpened (Gets name ending old new) used
-
-  -- or objects of it withdrawn
-  abbrev pub WithdrawsFile : (names : List Text) → (all : Bool) → Option Refusal
-      → UsedDisk S F start → (old new : Option (List ℕ)) → Type 0
-  WithdrawsFile names all ending used old new = OnFile (λ disk beside. SinceOpened
-      (λ first now. WithdrawsEach file_state names disk all ending old new first) disk) used
 
   -- its calls are those of a file that was made, or that was opened
   abbrev pub IsBegun : (is_new : Bool) → UsedDisk S F start → Type 0

@@ -1,7 +1,7 @@
 pub mod Asking
+pub mod Changing
 pub mod Commands
 pub mod Inner
-pub mod Putting
 pub mod Report
 pub mod Serving
 pub mod Shown

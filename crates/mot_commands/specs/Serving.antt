@@ -48,12 +48,16 @@ module _ {D : Type 0} (state : D → State) (disk : D) where
       ⊎ (IsAtEnd left × ServesSome state first (lines_of input) count last old new))
   ServesTill (Some refusal) left input old new first last = ⊥
 
-  -- no server was opened, and nothing read or printed; or one was, and an input was served
-  pub data Serves (ending : Option Refusal) (unread left old new : Option (List ℕ))
-      (start : State) : Type 0 where
+  -- No server was opened, and there is Nothing; or one was, and there is P as above.
+  pub data OpensFor (ending : Option Refusal) (Nothing : Type 0)
+      (P : ServerView D → ServerView D → Type 0) (start : State) : Type 0 where
     unopened : (refusal : Refusal) → ending ≡ Some refusal
-        → IsUnopened refusal start (state disk) → Keeps unread left → Keeps old new
-        → Serves ending unread left old new start
-    opened : (input : List ℕ) → TakesInput MAX_READS unread left input
-        → OpensTo start (ServesTill ending left input old new)
-        → Serves ending unread left old new start
+        → IsUnopened refusal start (state disk) → Nothing → OpensFor ending Nothing P start
+    opened : OpensTo start P → OpensFor ending Nothing P start
+
+  -- nothing was read or printed, or an input was served
+  abbrev pub Serves : Option Refusal → (unread left old new : Option (List ℕ)) → (start : State)
+      → Type 0
+  Serves ending unread left old new = OpensFor ending (Keeps unread left × Keeps old new)
+      (λ first last. (input : List ℕ) × TakesInput MAX_READS unread left input
+      × ServesTill ending left input old new first last)

@@ -3,10 +3,11 @@ ghost use Rattle.mot_playout.specs.Attempts.{fault_of};
 ghost use Rattle.std.specs.Prelude.{◌≡◌, ◌⊎◌, ◌<◌, [], IfErr, IfOk, vec_len};
 ghost use Rattle.disk_model.specs.Disk.{OnlyReads};
 ghost use Rattle.disk_model.specs.Failures.{Rises};
-ghost use Rattle.mot_numbers.specs.declared.refusal.Refusal.TheVariants.{BadName, DeviceFault, OutOfMemory};
+ghost use Rattle.mot_numbers.specs.declared.refusal.Refusal.TheVariants.{DeviceFault, OutOfMemory};
 ghost use Rattle.mot_journal.specs.Image.{Standing};
 ghost use Rattle.mot_objects.specs.Name.{IsName};
 ghost use Rattle.mot_outcome.specs.Outcome.{Finishes, Opens};
+ghost use Rattle.mot_commands.specs.Asking.{IsUnnamed};
 ghost use Rattle.mot_commands.specs.Commands.{GetsFile};
 ghost use Rattle.mot_commands.specs.Shown.{Gets};
 ghost use Rattle.mot_commands.specs.Inner.Got.{MissesBody, ReadsBody};
@@ -101,8 +102,7 @@ fn read_named<D: Disk>(
 /// A name of these bytes.
 pub(crate) fn name_of(alloc: Global, bytes: &[u8]) -> Result<Name, Refusal>
     ensures named { IfOk result (λ name. (name ≡ bytes.now) × IsName bytes.now) }
-    ensures why { IfErr result (λ refusal. ((refusal ≡ BadName) × ¬ (IsName bytes.now))
-        ⊎ (refusal ≡ OutOfMemory)) }
+    ensures why { IfErr result (IsUnnamed bytes.now) }
 {
     let Ok(bytes) = Vec::from_slice(alloc, bytes) else {
         return Err(Refusal::OutOfMemory);

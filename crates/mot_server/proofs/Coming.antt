@@ -65,22 +65,6 @@ module _ {S F : Type 0} {start : Ghosts S F} (task : Task) (unread left old new 
       let first = early r p.0 in inl (first.0, p.1, first.1)
   comes_so IsEarly IsEnded (Err r) used early ended (inr p) = inr (ended false (Some r) p)
 
-  -- one that tells both, and is told of the disk
-  pub comes_told : (IsEarly : Refusal → Type 0)
-      (IsEnded : Bool → Option Refusal → UsedDisk S F start → Type 0)
-      (result : Result Bool Refusal) (used : UsedDisk S F start)
-      → ((r : Refusal) → IsEarly r → IsBeginningRefusal task r × Keeps unread left)
-      → ((all : Bool) (ending : Option Refusal) → IsEnded all ending used
-      → Ends task all ending used unread left old new)
-      → IsErrAnd result (λ r. IsEarly r × IsUntold used old new)
-      ⊎ IsEnded (result_unwrap_or result false) (fault_of result) used
-      → ComesOut task result used unread left old new
-  comes_told IsEarly IsEnded (Ok all) used early ended (inl none) = absurd none
-  comes_told IsEarly IsEnded (Ok all) used early ended (inr p) = inr (ended all None p)
-  comes_told IsEarly IsEnded (Err r) used early ended (inl p) =
-      let first = early r p.0 in inl (first.0, p.1, first.1)
-  comes_told IsEarly IsEnded (Err r) used early ended (inr p) = inr (ended false (Some r) p)
-
   -- and so the run, whose words ask for it
   pub runs : (words : List Text) → AskFor motcar_app IsTask words task
       → (result : Result Bool Refusal) (used : UsedDisk S F start)

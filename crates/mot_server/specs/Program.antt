@@ -17,8 +17,8 @@ use Rattle.mot_cli.specs.declared.task.Task.TheVariants.{GetBody, ListObjects, P
 use Rattle.mot_cli.specs.declared.task.Task.TheVariants.{WithdrawNames}
 use Rattle.mot_commands.specs.Commands.{ChecksFile, FormatsFile, IsUnformatted, IsUnmade}
 use Rattle.mot_commands.specs.Commands.{FormatsFree, MigratesFile, ServesFile}
-use Rattle.mot_commands.specs.Commands.{GetsFile, ListsFile, ServesMemory, WithdrawsFile}
-use Rattle.mot_commands.specs.Putting.{PutReads, PutsFiles, texts}
+use Rattle.mot_commands.specs.Commands.{GetsFile, ListsFile, ServesMemory}
+use Rattle.mot_commands.specs.Changing.{PutReads, PutsFiles, WithdrawsFile, texts}
 use Rattle.mot_copy_command.specs.Command.{CopiesFile, OpensTwo}
 use Rattle.mot_endpoints.specs.Opened.{Need, if_given}
 use Rattle.mot_endpoints.specs.Types.{IsUntyped}

@@ -52,7 +52,7 @@ pub(crate) fn execute<'a, B: Start, R: Read, W: Write, E: Write, M: Machine<File
             host, alloc, disk, files, *types, start, writer, errors,
         ),
         Task::WithdrawNames { disk, names } => {
-            withdraw_file(host, alloc, disk, names, start, writer)
+            withdraw_file(host, alloc, disk, names, start, writer, errors)
         }
         Task::GetBody { disk, name } => whole(get_file(host, alloc, disk, name, start, writer)),
         Task::Export(path) => whole(export_file(host, alloc, path, start, writer)),

@@ -1,13 +1,10 @@
--- A body that is read for its name, and a file that is not put.
+-- A body that is read for its name.
 use Rattle.std.specs.Prelude.{◌≡◌, ◌⊎◌, ℕ, List, None, Some}
 use Rattle.disk_model.specs.Disk.{State}
 use Rattle.disk_model.specs.Failures.{Rises}
-use Rattle.mot_commands.specs.Putting.{unread_refusal}
-use Rattle.mot_commands.specs.declared.file_line.Unput.{Unput}
-use Rattle.mot_commands.specs.declared.file_line.Unput.TheVariants.{NoMemory, Unnamed, Unread, Untyped}
 use Rattle.mot_journal.specs.Image.{Standing}
 use Rattle.mot_numbers.specs.declared.refusal.Refusal.{Refusal}
-use Rattle.mot_numbers.specs.declared.refusal.Refusal.TheVariants.{BadName, BadType, DeviceFault}
+use Rattle.mot_numbers.specs.declared.refusal.Refusal.TheVariants.{BadName, DeviceFault}
 use Rattle.mot_numbers.specs.declared.refusal.Refusal.TheVariants.{NoSuchName, OutOfMemory}
 use Rattle.mot_objects.specs.Carousel.{Object}
 use Rattle.mot_objects.specs.Name.{IsName}
@@ -32,10 +29,3 @@ MissesBody view before after name refusal = ((refusal ≡ BadName) × ¬ (IsName
     ⊎ ((refusal ≡ NoSuchName) × (index_of name view.carousel.objects.items ≡ None))
     ⊎ (refusal ≡ OutOfMemory)
     ⊎ ((refusal ≡ DeviceFault) × Rises before after)
-
--- what a file is refused with that is not put
-abbrev pub refusal_of : Unput → Refusal
-refusal_of Unnamed = BadName
-refusal_of Untyped = BadType
-refusal_of (Unread unread) = unread_refusal unread
-refusal_of NoMemory = OutOfMemory

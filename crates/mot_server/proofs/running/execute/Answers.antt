@@ -12,8 +12,8 @@ use Rattle.mot_cli.specs.declared.task.Task.TheVariants.{GetBody, ListObjects, P
 use Rattle.mot_cli.specs.declared.task.Task.TheVariants.{WithdrawNames}
 use Rattle.mot_commands.specs.Commands.{ChecksFile, FormatsFile, IsUnformatted, IsUnmade}
 use Rattle.mot_commands.specs.Commands.{FormatsFree, MigratesFile, ServesFile}
-use Rattle.mot_commands.specs.Commands.{GetsFile, ListsFile, ServesMemory, WithdrawsFile}
-use Rattle.mot_commands.specs.Putting.{PutsFiles, texts}
+use Rattle.mot_commands.specs.Commands.{GetsFile, ListsFile, ServesMemory}
+use Rattle.mot_commands.specs.Changing.{PutsFiles, WithdrawsFile, texts}
 use Rattle.mot_copy_command.specs.Command.{CopiesFile, OpensTwo}
 use Rattle.mot_endpoints.specs.Types.{IsUntyped}
 use Rattle.mot_files.specs.Call.{Call}
@@ -23,7 +23,7 @@ use Rattle.mot_outcome.specs.Outcome.{Opens}
 use Rattle.mot_playout.specs.Attempts.{fault_of}
 use Rattle.mot_server.specs.Inner.Coming.{ComesOut}
 use Rattle.mot_server.specs.Program.{UsesFor}
-use Rattle.mot_server.proofs.Coming.{comes_so, comes_told, comes_whole, fault_whole, opens_whole}
+use Rattle.mot_server.proofs.Coming.{comes_so, comes_whole, fault_whole, opens_whole}
 use Rattle.mot_server.proofs.running.execute.Goals as goal
 
 pub returns-in-Memory-clause-ended : goal.returns-in-Memory-clause-ended
@@ -276,8 +276,8 @@ returns-in-WithdrawNames-clause-ended g c =
     let result = c.withdraw_file.result.result in
     let used = c.withdraw_file.result.disk in
     subst (λ (t : Task). ComesOut t result used unread unread old new) (sym c.in-WithdrawNames.is)
-    (comes_told task unread unread old new (λ r. r ≡ DeviceFault)
-    (λ all ending used. WithdrawsFile (texts names.now) all ending used old new) result used
+    (comes_so task unread unread old new (λ r. r ≡ DeviceFault)
+    (λ all ending. WithdrawsFile (texts names.now) all ending used old new) result used
     (λ r early. (early, Keeps-refl _)) (λ all ending is. (Keeps-refl _, is))
     c.withdraw_file.ensures.ended)
 
@@ -292,8 +292,8 @@ returns-in-PutFiles-clause-ended g c =
     let result = c.put.result.result in
     let used = c.put.result.disk in
     subst (λ (t : Task). ComesOut t result used unread unread old new) (sym c.in-PutFiles.is)
-    (comes_told task unread unread old new (λ r. IsUntyped types r ⊎ (r ≡ DeviceFault))
-    (λ all ending used. (before after : List Call)
+    (comes_so task unread unread old new (λ r. IsUntyped types r ⊎ (r ≡ DeviceFault))
+    (λ all ending. (before after : List Call)
     × PutsFiles types (texts files.now) all ending used old new before after)
     result used (λ r early. (early, Keeps-refl _))
     (λ all ending is. (Keeps-refl _, is)) c.put.ensures.ended)

@@ -1,0 +1,227 @@
+//! What `put` and `withdraw` do.
+ghost use Rattle.std.specs.Prelude.{◌≡◌, ◌⊎◌, ℕ, Bool, [], List, None, Option, false, is_ok};
+ghost use Rattle.std.specs.Result.{result_unwrap_or};
+ghost use Rattle.disk_model.specs.Disk.{KeepsLength};
+ghost use Rattle.mot_commands.specs.Changing.{Executes, Changes, ChangesFile, PutReads};
+ghost use Rattle.mot_commands.specs.Changing.{PutsFiles, Takes, TakesEach, WithdrawsFile};
+ghost use Rattle.mot_commands.specs.Changing.{reply_line, texts};
+ghost use Rattle.mot_endpoints.specs.Opened.{Need, if_given};
+ghost use Rattle.mot_endpoints.specs.Types.{IsUntyped};
+ghost use Rattle.mot_files.specs.Call.{Call};
+ghost use Rattle.mot_numbers.specs.declared.refusal.Refusal.TheVariants.{DeviceFault};
+ghost use Rattle.mot_outcome.specs.Outcome.{Concludes, Opens, OpensAnd, Prints};
+ghost use Rattle.mot_playout.specs.Attempts.{fault_of};
+
+use crate::asking::{Words, request_of};
+use crate::finishing::finish;
+use disk_model::Disk;
+use disk_store::Start;
+use mot_endpoints::{Host, Machine, file_types};
+use mot_files::System;
+use mot_lines::{TextLine, done_text, refusal_text};
+use mot_numbers::Refusal;
+use mot_objects::{Command, Done};
+use mot_outcome::{Finished, write_last};
+use mot_playout::Server;
+use mot_update::Ended;
+use std::alloc::Global;
+use std::io::Write;
+
+/// Puts these files on the disk of the file at the path, one after the other, or replaces the
+/// objects of their names; prints the replies, and why a file was not read to `errors`. Each is
+/// typed by its suffix, of the known ones and of those that a file adds. Whether each was put.
+pub fn put<S: Start, W: Write, E: Write, M: Machine<File = S::File> + Drop>(
+    host: &mut Host<M>,
+    alloc: Global,
+    path: &str,
+    files: &[&str],
+    types: Option<&str>,
+    start: S,
+    writer: &mut W,
+    errors: &mut E,
+) -> Finished<S, bool>
+    ensures ended { Concludes (λ r. IsUntyped types.entry r ⊎ (r ≡ DeviceFault))
+        (λ all ending. (before after : List Call) × PutsFiles types.entry (texts files.now) all
+        ending result.disk (W.contents writer.old) (W.contents writer.new) before after)
+        result.result result.disk (W.contents writer.old) (W.contents writer.new) }
+    ensures files { OpensAnd (if_given Need.types types.entry) path.now
+        (PutReads types.entry (texts files.now) result.disk) (fault_of result.result) result.disk
+        (M.System.calls host.old.system) (M.System.calls host.new.system) }
+{
+    match file_types(host, alloc, types) {
+        Ok(types) => {
+            let words = Words::Files(types);
+            change_file(host, alloc, path, files, &words, start, writer, errors)
+        }
+        Err(unbegun) => Finished::unbegun(unbegun.refusal, unbegun.cause, start),
+    }
+}
+
+/// Withdraws the objects of these names from the disk of the file at the path, one after the other,
+/// and prints the replies; to `errors` which names no object can have. Whether each was withdrawn.
+pub fn withdraw_file<S: Start, W: Write, E: Write, M: Machine<File = S::File> + Drop>(
+    host: &mut Host<M>,
+    alloc: Global,
+    path: &str,
+    names: &[&str],
+    start: S,
+    writer: &mut W,
+    errors: &mut E,
+) -> Finished<S, bool>
+    ensures ended { Concludes (λ r. r ≡ DeviceFault) (λ all ending. WithdrawsFile
+        (texts names.now) all ending result.disk (W.contents writer.old) (W.contents writer.new))
+        result.result result.disk (W.contents writer.old) (W.contents writer.new) }
+    ensures files { Opens [] path.now (fault_of result.result) result.disk
+        (M.System.calls host.old.system) (M.System.calls host.new.system) }
+{
+    change_file(
+        host,
+        alloc,
+        path,
+        names,
+        &Words::Objects,
+        start,
+        writer,
+        errors,
+    )
+}
+
+/// Does what each word asks for on the disk of the file at the path, one after the other, and prints
+/// the replies; why a word asks for no command to `errors`. Whether each command is done.
+fn change_file<S: Start, W: Write, E: Write, M: Machine<File = S::File> + Drop>(
+    host: &mut Host<M>,
+    alloc: Global,
+    path: &str,
+    list: &[&str],
+    words: &Words,
+    start: S,
+    writer: &mut W,
+    errors: &mut E,
+) -> Finished<S, bool>
+    ensures ended { Concludes (λ r. r ≡ DeviceFault) (λ all ending. (before after : List Call)
+        × ChangesFile words.now (texts list.now) all ending
+        (W.contents writer.old) (W.contents writer.new) before after result.disk)
+        result.result result.disk (W.contents writer.old) (W.contents writer.new) }
+    ensures files { OpensAnd [] path.now (λ before after. (all : Bool) × (ending : Option Refusal)
+        × (old : Option (List ℕ)) × (new : Option (List ℕ))
+        × ChangesFile words.now (texts list.now) all ending old new before after result.disk)
+        (fault_of result.result) result.disk
+        (M.System.calls host.old.system) (M.System.calls host.new.system) }
+{
+    match host.disk(path, start) {
+        Ok(disk) => {
+            let ended = change_disk(&mut host.system, alloc, disk, list, words, writer, errors);
+            finish(host, ended)
+        }
+        Err(unopened) => Finished::unopened(unopened),
+    }
+}
+
+/// The same on a disk that it opens.
+fn change_disk<Y: System, D: Disk, W: Write, E: Write>(
+    system: &mut Y,
+    alloc: Global,
+    disk: D,
+    list: &[&str],
+    words: &Words,
+    writer: &mut W,
+    errors: &mut E,
+) -> Ended<D, bool>
+    ensures keeps { KeepsLength (D.state disk) (D.state result.disk) }
+    ensures ended { Changes D.state words.now (texts list.now)
+        (result_unwrap_or result.result false) (fault_of result.result)
+        (W.contents writer.old) (W.contents writer.new)
+        (Y.calls system.old) (Y.calls system.new) result.disk (D.state disk) }
+{
+    let mut server = match Server::open(alloc, disk) {
+        Ok(server) => server,
+        Err(refused) => return Ended::unopened(refused),
+    };
+    let result = take_each(system, alloc, list, words, writer, errors, &mut server);
+    Ended {
+        disk: server.into_disk(),
+        result,
+        reason: None,
+    }
+}
+
+/// Takes the words in turn.
+fn take_each<Y: System, D: Disk, W: Write, E: Write>(
+    system: &mut Y,
+    alloc: Global,
+    list: &[&str],
+    words: &Words,
+    writer: &mut W,
+    errors: &mut E,
+    server: &mut Server<D>,
+) -> Result<bool, Refusal>
+    ensures keeps { KeepsLength (D.state server.old.disk) (D.state server.new.disk) }
+    ensures taken { TakesEach D.state words.now (texts list.now)
+        (result_unwrap_or result false) (fault_of result)
+        (server.old, W.contents writer.old, Y.calls system.old)
+        (server.new, W.contents writer.new, Y.calls system.new) }
+{
+    let mut all = true;
+    for word in list {
+        let done = take(system, alloc, word, words, writer, errors, server)?;
+        all = all && done;
+    }
+    Ok(all)
+}
+
+/// Does what a word asks for, and prints the reply.
+fn take<Y: System, D: Disk, W: Write, E: Write>(
+    system: &mut Y,
+    alloc: Global,
+    word: &str,
+    words: &Words,
+    writer: &mut W,
+    errors: &mut E,
+    server: &mut Server<D>,
+) -> Result<bool, Refusal>
+    ensures keeps { KeepsLength (D.state server.old.disk) (D.state server.new.disk) }
+    ensures taken { Takes D.state words.now word.now (result_unwrap_or result false)
+        (fault_of result)
+        (server.old, W.contents writer.old, Y.calls system.old)
+        (server.new, W.contents writer.new, Y.calls system.new) }
+{
+    let request = request_of(system, alloc, words, server.carousel(), word, errors);
+    let end = answer(alloc, request, server);
+    print_reply(writer, end)
+}
+
+/// Does the command, unless what was asked for is refused.
+fn answer<D: Disk>(
+    alloc: Global,
+    request: Result<Command, Refusal>,
+    server: &mut Server<D>,
+) -> Result<Done, Refusal>
+    ensures { Executes D.state request server.old server.new result }
+{
+    match request {
+        Ok(command) => server.execute(alloc, &command),
+        Err(refusal) => Err(refusal),
+    }
+}
+
+/// Prints the reply to a command; whether the command is done.
+fn print_reply<W: Write>(writer: &mut W, end: Result<Done, Refusal>) -> Result<bool, Refusal>
+    ensures printed { Prints (fault_of result) (reply_line end)
+        (W.contents writer.old) (W.contents writer.new) }
+    ensures right { fault_of result ≡ None → result_unwrap_or result false ≡ is_ok end }
+{
+    match write_last(writer, reply_text(end).as_slice()) {
+        Ok(()) => Ok(end.is_ok()),
+        Err(refusal) => Err(refusal),
+    }
+}
+
+/// The reply to a command that ended so.
+fn reply_text(end: Result<Done, Refusal>) -> TextLine
+    ensures { result.items ≡ reply_line end }
+{
+    match end {
+        Ok(done) => done_text(done),
+        Err(refusal) => refusal_text(refusal),
+    }
+}
