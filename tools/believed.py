@@ -112,11 +112,8 @@ CITED_BY_NONE = [
     ("mot_log/Status", "label_byte", "private functions of `write_status`"),
     ("mot_log/Text", "line_of", "private functions of `EventLog`"),
     ("mot_folder/Log", "TellsAnswers TellsOf not_accepted waiting_in", "private functions of `look_at_folder`"),
-    ("mot_feed_lines/Logged", "LogHas", "private functions of `answer_there`"),
     ("mot_line_folder/LineFiles", "refusal_of", "private functions of `Spool`"),
     ("mot_shelf/Gives", "GoesOnSo", "private functions of `look_at_folder`"),
-    ("mot_status/Measured", "IsMeasured", "private functions of `Reporter`"),
-    ("mot_air/Telling", "EndsAs", "private functions of `mot_air::play`"),
     ("mot_cli/Asked", "AskBy", "proofs of `mot_server`"),
     ("mot_update/Looking", "unknown_names withdraw_all HasSettled", "private functions of `look`"),
 ]

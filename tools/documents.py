@@ -1,5 +1,5 @@
 #!/usr/bin/env python3
-"""Looks whether the documents name what is there: README's length and its clauses, links and their headings, the
+"""Looks whether the documents name what is there: README's length, the clauses in BELIEVE, links and their headings, the
 paths of the repository, and in docs/PROMISES.md each function, each label of a clause and each definition; whether
 their prose keeps the rules of tools/prose.py, and no sentence stands on two pages; whether each name in crates.txt is
 used by the crate that names it, and docs/ARCHITECTURE.md has a row for each crate, in that order.
@@ -19,8 +19,6 @@ top = pathlib.Path(__file__).resolve().parent.parent
 README_LINES = 100
 # Pages on which a sentence may stand again: the list of changes, and tables that a tool makes.
 REPEATING = ("CHANGELOG.md", "docs/believed.md")
-# Pages that still share one.
-SHARING = [{"README.md", "docs/OPERATING.md"}, {"docs/FORMATS.md", "docs/OPERATING.md"}, {"bench/README.md", "campaigns/README.md"}]
 # The crates that are no part of the product.
 TESTS = ("mot_memory_files", "mot_tests", "simulate", "public_names")
 FOLDERS = ("docs", "tools", "tests", "campaigns", "bench", "packaging", "examples")
@@ -184,18 +182,18 @@ def repeats():
         name = str(page.relative_to(top))
         for number, run in prose.runs(page.read_text()):
             other, at = seen.setdefault(run, (name, number))
-            if other != name and {other, name} not in SHARING:
+            if other != name:
                 found.setdefault((name, number, other, at), run.replace("\x00", "`..`"))
     wrong.extend(f"{name}:{number}: stands in {other}:{at}, too: {run}.." for (name, number, other, at), run in found.items())
 
 
 def clauses():
-    """The clauses on README's page stand in the code."""
-    said = re.findall(r"```rust\n(    // .*?)```", (top / "README.md").read_text(), re.S)
+    """The two clauses of the theorem stand in the code as BELIEVE shows them."""
+    said = re.findall(r"```rust\n(.*?)```", (top / "docs/BELIEVE.md").read_text(), re.S)
     code = (top / "crates/mot_playout/src/life.rt").read_text()
-    wrong.extend("README.md has other clauses than crates/mot_playout/src/life.rt" for it in said if it not in code)
-    if not said:
-        wrong.append("README.md shows no clause")
+    wrong.extend("BELIEVE.md has other clauses than crates/mot_playout/src/life.rt" for it in said if it not in code)
+    if len(said) != 2:
+        wrong.append(f"BELIEVE.md shows {len(said)} clauses of the theorem, and not two")
 
 
 clauses()

@@ -4,7 +4,7 @@ it prints with what stands there; and looks that those of README leave nothing i
 
     tools/operating.py [PROGRAM]
 
-The commands run in a temporary folder with examples/, and for the manual a copy of its logo.png; `motcar` is the built
+The commands run in a temporary folder with examples/ and a copy of its logo.png; `motcar` is the built
 program. A `motcar play` at the end of a block has no end without `--turns`: it gets a Ctrl-C once all that the page wants
 was printed, and a second brought no more.
 """
@@ -67,15 +67,14 @@ def rows_of(name, motcar):
     """Each block of a page: what it is, what it should print and what it printed."""
     with tempfile.TemporaryDirectory() as room, tempfile.TemporaryDirectory() as path:
         shutil.copytree(top / "examples", f"{room}/examples")
-        if name != "README.md":
-            shutil.copy(top / "examples/logo.png", room)
+        shutil.copy(top / "examples/logo.png", room)
         for it in (room, path):
             pathlib.Path(it, "motcar").symlink_to(motcar)
         environment = {**os.environ, "PATH": f"{path}:{os.environ['PATH']}"}
         for commands, wanted in blocks_of((top / name).read_text()):
             yield f"{name}:\n{commands}", wanted, printed_by(commands, wanted, cwd=room, env=environment)
         if name == "README.md":
-            left = [it for it in os.listdir(room) if not is_tracked_or_ignored(it)]
+            left = [it for it in os.listdir(room) if it != "logo.png" and not is_tracked_or_ignored(it)]
             yield "what README.md leaves in a clone", [], left
 
 

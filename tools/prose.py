@@ -9,8 +9,6 @@ LINES_OF_A_PARAGRAPH = 8
 WORDS_OF_A_CELL = 60
 WORDS_OF_A_TITLE = 4
 WORDS_OF_A_REPEAT = 12
-# How many longer cells a page has that nobody has shortened yet.
-LONG_CELLS = {"docs/FORMATS.md": 1, "campaigns/device/README.md": 2}
 
 # Each with what to write instead. A pattern with `^` is looked for at the beginning of a sentence, and after `;`;
 STUMBLES = [
@@ -75,11 +73,10 @@ def words_in(text):
     return len([it for it in text.split() if re.search(r"[\w\x00]", it)])
 
 
-def long_cells(name, text):
-    """The cells with too many words, each with its line; none if the page has as many as are known of it."""
+def long_cells(text):
+    """The cells with too many words, each with its line."""
     cells = [(number, plain(lines[0])) for number, lines, is_cell in units(text) if is_cell]
-    found = [(number, words_in(it)) for number, it in cells if words_in(it) > WORDS_OF_A_CELL and not is_list_of_code(it)]
-    return found if len(found) != LONG_CELLS.get(str(name), 0) else []
+    return [(number, words_in(it)) for number, it in cells if words_in(it) > WORDS_OF_A_CELL and not is_list_of_code(it)]
 
 
 def runs(text):
@@ -96,7 +93,7 @@ def runs(text):
 
 def faults(name, text):
     """What a reader stumbles over, with the page and the line."""
-    for number, count in long_cells(name, text):
+    for number, count in long_cells(text):
         yield f"{name}:{number}: a cell of {count} words"
     for number, lines, is_cell in units(text):
         if not is_cell and len(lines) > LINES_OF_A_PARAGRAPH:

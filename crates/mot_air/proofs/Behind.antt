@@ -1,6 +1,6 @@
 -- Playing a disk that was opened before, for the length of its packets.
 use Rattle.std.proofs.Common.{◌≡◌, ◌∙◌, ◌++◌, arith, ⊎_elim, ℕ, List, [], Bool, Option, Some, None}
-use Rattle.std.proofs.Common.{◌≢◌, Err, false, inl, inr, refl, subst, sym}
+use Rattle.std.proofs.Common.{Err, false, inl, inr, refl, subst, sym}
 use Rattle.std.specs.Prelude.{IsOk, IsSomeAnd}
 use Rattle.disk_model.proofs.Laws.{joins, keeps_on}
 use Rattle.disk_model.specs.Disk.{Elapses, IsHonestDisk, IsStill, Nothing, OnlySyncs}
@@ -12,8 +12,7 @@ use Rattle.mot_update.specs.Ending.{IsEnd, Leaves}
 use Rattle.mot_update.specs.Ending as opening
 use Rattle.mot_air.specs.Playing.{HasAired, Plays, Tale}
 use Rattle.mot_air.specs.declared.manner.Manner.{Manner}
-use Rattle.mot_air.specs.Telling.{BesideView, EndsAs, Same, first_sources, tale_told}
-use Rattle.mot_air.specs.Telling.EndsTelling.{broken}
+use Rattle.mot_air.specs.Telling.{first_sources, tale_with}
 use Rattle.mot_update.proofs.Laws.{AllAre}
 use Rattle.mot_update.specs.Opening.{IsUnopened}
 use Rattle.mot_feed.specs.Feeding.{Event, Stage}
@@ -29,7 +28,8 @@ use Rattle.mot_objects.specs.Carousel.{Carousel}
 use Rattle.mot_objects.specs.declared.command.Command.{Command}
 use Rattle.mot_playout.proofs.Laws.{after_none, none_of}
 use Rattle.mot_playout.specs.Runs.{StandsAfterSome, accepted_commands, commands_in_flight}
-use Rattle.mot_status.specs.Teller.{TellerView}
+use Rattle.mot_line_folder.specs.Spool.{SpoolView}
+use Rattle.mot_shelf.specs.View.{FolderView}
 
 -- time in which no image comes, and then more of it
 elapses_on : (a b c : State) → Elapses a b Nothing → Elapses b c Nothing → Elapses a c Nothing
@@ -166,23 +166,16 @@ plays_behind start mid now opens calm sound tale how ending before after is =
     }
 
 -- of a disk that was not opened nothing is told
-pub none_told : (same : Same) (w : Option Watch) (reads : Option (List ℕ × ℕ)) (how : Manner)
-    (refused : Bool) (first : BesideView) → refused ≡ false → (limit : ℕ) (c : Carousel)
-    → tale_told same w reads how refused first first limit c Ready [] [] [] c
-none_told same w None how refused first any limit c = (
-  first_sources [] first,
-  record { folder = refl; any = sym any; lines = refl; teller = refl },
+pub none_told : (w : Option Watch) (reads : Option (List ℕ × ℕ)) (how : Manner)
+    (refused : Bool) (folder : FolderView) (lines : SpoolView) → refused ≡ false → (limit : ℕ)
+    (c : Carousel) → tale_with w reads how refused folder folder lines lines limit c Ready [] [] [] c
+none_told w None how refused folder lines any limit c = (
+  first_sources [] folder lines,
+  record { looked = refl; any = sym any; read = refl },
   no_call,
 )
-none_told same w (Some (hand, between)) how refused first any limit c = (
-  first_sources hand first,
-  record { folder = refl; any = sym any; lines = refl; teller = refl },
+none_told w (Some (hand, between)) how refused folder lines any limit c = (
+  first_sources hand folder lines,
+  record { looked = refl; any = sym any; read = refl },
   no_call,
 )
-
--- and the log is as it was
-pub none_ends : (reads : Option (List ℕ × ℕ)) (ending : Option Refusal) (turns : ℕ)
-    (first : TellerView) (bytes : Option (List ℕ)) → ending ≢ None → bytes ≡ first.log.bytes
-    → EndsAs reads ending turns first bytes
-none_ends None ending turns first bytes some is = broken some is
-none_ends (Some reads) ending turns first bytes some is = (first, [], tt, refl, broken some is)

@@ -8,7 +8,7 @@ use Rattle.disk_store.specs.declared.file.start.Start.{Ghosts}
 use Rattle.mot_air.specs.Directory.{IsFrame, directory_of, early_of, look_of}
 use Rattle.mot_air.specs.Playing.{Plays, Tale}
 use Rattle.mot_air.specs.declared.manner.Manner.{Manner}
-use Rattle.mot_air.specs.Telling.{EndsReading, lines_at, tale_with, watch_in, watched}
+use Rattle.mot_air.specs.Telling.{EndsReading, Hands, lines_at, tale_with, watch_in, watched}
 use Rattle.mot_destinations.specs.declared.packets.Target.{Target}
 use Rattle.mot_destinations.specs.declared.packets.Target.TheVariants.{File, Output}
 use Rattle.mot_endpoints.specs.Lines.{IsUnlined}
@@ -25,7 +25,6 @@ use Rattle.mot_files.specs.Call.{Call}
 use Rattle.mot_files.specs.declared.system.Handle.{Handle}
 use Rattle.mot_line_folder.specs.Spool.{SpoolView}
 use Rattle.mot_shelf.specs.View.{FolderView, folder_at}
-use Rattle.mot_outcome.specs.declared.used.Beside.{Beside}
 use Rattle.mot_endpoints.specs.Types.{IsTyped, IsUntyped}
 use Rattle.mot_numbers.specs.declared.refusal.Refusal.{Refusal}
 use Rattle.mot_numbers.specs.declared.refusal.Refusal.TheVariants.{DeviceFault, WriteFault}
@@ -141,11 +140,6 @@ pub record SendsAsked (p : PlayTask) (target : Target) (ending : Option Refusal)
   pub opened : List Call
   pub opens : OpensInto p.packets.now p.disk.now handle [] opened destination
   pub sends : Sends destination handle ending Played opened calls
-
--- the calls of the folder of objects are handed out, and those of the folder of lines
-abbrev pub Hands : Beside → (FolderView → SpoolView → Type 0) → Type 0
-Hands beside IsSo = (folder : FolderView) × (folder.calls ≡ beside.folder.all)
-    × ((lines : SpoolView) × IsSo folder lines)
 
 module _ {S F : Type 0} {start : Ghosts S F} where
   -- The disk of a file was played into what takes packets, up to this ending; where it came to its

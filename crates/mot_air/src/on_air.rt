@@ -1,18 +1,17 @@
 //! Playing the disk of a file into what a path names.
 ghost use Rattle.std.specs.Prelude.{◌≡◌, ◌⊎◌, ◌-◌, ℕ, [], ◌∷◌, false, true, Some, None, Err, Ok};
-ghost use Rattle.std.specs.Prelude.{◌++◌, IfErr, IfOk, List, MatchResult, Option, option_map, unwrap_or};
+ghost use Rattle.std.specs.Prelude.{◌++◌, IfErr, IfOk, List, MatchResult, Option, unwrap_or};
 ghost use Rattle.std.specs.Io.KnownBytes.{Keeps};
 ghost use Rattle.clap.specs.Words.{Text};
 ghost use Rattle.disk_store.specs.Beginning.{IsFirst};
-ghost use Rattle.mot_air.specs.Inner.Beside.{lines_in};
+ghost use Rattle.mot_air.specs.Inner.Beside.{lines_in, tale_aired};
 ghost use Rattle.mot_air.specs.Directory.{IsFrame, directory_of, early_of, look_of};
 ghost use Rattle.mot_air.specs.Inner.Unbegun.{IsUnbegun};
 ghost use Rattle.mot_air.specs.Playing.{Plays};
-ghost use Rattle.mot_air.specs.Commands.{EndsSending, Hands, PlaysAsked, PlaysTo, Sends, is_all_done};
+ghost use Rattle.mot_air.specs.Commands.{EndsSending, PlaysAsked, PlaysTo, Sends, is_all_done};
 ghost use Rattle.mot_air.specs.Commands.{packets_of, played_as};
 ghost use Rattle.mot_outcome.specs.Outcome.{Concludes, Opens};
-ghost use Rattle.mot_air.specs.Telling.{BesideView, EndsAs, EndsReading, HandsOut, folder_in};
-ghost use Rattle.mot_air.specs.Telling.{tale_told, tale_with, watch_in, watched};
+ghost use Rattle.mot_air.specs.Telling.{EndsReading, Hands, HandsOut, folder_in};
 ghost use Rattle.mot_endpoints.specs.Opened.{AreMet, Need};
 ghost use Rattle.mot_destinations.specs.Packets.{IsReason, IsTarget, OpensInto, destination_of};
 ghost use Rattle.mot_destinations.specs.Packets.{target_of, writer_handle, writer_system};
@@ -20,8 +19,6 @@ ghost use Rattle.mot_destinations.specs.declared.fault.PacketsFault.{PacketsFaul
 ghost use Rattle.mot_files.specs.Call.{Call, opened_disk};
 ghost use Rattle.mot_numbers.specs.declared.refusal.Refusal.TheVariants.{DeviceFault, WriteFault};
 ghost use Rattle.mot_playout.specs.Attempts.{fault_of};
-ghost use Rattle.mot_shelf.specs.Reader.{reader_path};
-ghost use Rattle.mot_status.specs.Teller.{starts};
 
 use crate::Ended;
 use crate::answered::answered;
@@ -33,7 +30,6 @@ use disk_store::{BegunFile, Start, WasThere};
 use mot_cli::PlayTask;
 use mot_destinations::{Cause, OpenPackets, StatusFile, Target};
 use mot_endpoints::{Host, Machine};
-use mot_events::LookEvent;
 use mot_files::{CallLog, System};
 use mot_line_folder::LineFolder;
 use mot_numbers::Refusal;
@@ -87,12 +83,8 @@ pub(crate) fn play_file<
 ) -> Finished<B, bool>
     ensures ended { Concludes (λ r. (r ≡ DeviceFault) ⊎ (r ≡ WriteFault)) (λ all ending.
         PlaysTo airing.entry.task (λ frame refused then_folder then_lines.
-        let how = played_as airing.entry.task frame in
-        tale_with (watched airing.entry.folder (λ followed. watch_in how
-        (reader_path followed.shelf) followed.types.now followed.allows_empty))
-        (option_map (λ lines. (lines.hand, lines.every - 1)) airing.entry.lines) how refused
-        (folder_in Y.calls airing.entry.folder) then_folder
-        (lines_in Y.calls airing.entry.lines) then_lines)
+        tale_aired Y.calls Y.calls airing.entry (played_as airing.entry.task frame) refused
+        then_folder then_lines)
         all ending (W.contents writer.old) (W.contents writer.new) result.disk)
         result.result result.disk (W.contents writer.old) (W.contents writer.new) }
     ensures opens { Opens (packets_of airing.entry.task)
@@ -158,12 +150,8 @@ fn play_both<B: Start, P: System + Drop, F: System + Drop, Y: System + Drop, W: 
         (destination_of opened.entry) → IsFirst false disk.disk
         → Concludes (λ r. (r ≡ DeviceFault) ⊎ (r ≡ WriteFault)) (λ all ending.
         PlaysTo airing.entry.task (λ frame refused then_folder then_lines.
-        let how = played_as airing.entry.task frame in
-        tale_with (watched airing.entry.folder (λ followed. watch_in how
-        (reader_path followed.shelf) followed.types.now followed.allows_empty))
-        (option_map (λ lines. (lines.hand, lines.every - 1)) airing.entry.lines) how refused
-        (folder_in F.calls airing.entry.folder) then_folder
-        (lines_in Y.calls airing.entry.lines) then_lines)
+        tale_aired F.calls Y.calls airing.entry (played_as airing.entry.task frame) refused
+        then_folder then_lines)
         all ending (W.contents writer.old) (W.contents writer.new) result.disk)
         result.result result.disk (W.contents writer.old) (W.contents writer.new) }
     ensures opens { (path : Text) (needs : List Need) (old then new : List Call)
@@ -199,12 +187,8 @@ fn play_into<D: Disk, P: System + Drop, F: System + Drop, Y: System + Drop, W: W
     ensures played { Hands result.beside (λ folder lines. Sends (destination_of opened.entry)
         (writer_handle opened.entry.writer) (fault_of result.ended.result)
         (λ begun taken. PlaysAsked (target_of opened.entry)
-        (λ frame. let how = played_as airing.entry.task frame in
-        tale_with (watched airing.entry.folder (λ followed. watch_in how
-        (reader_path followed.shelf) followed.types.now followed.allows_empty))
-        (option_map (λ lines. (lines.hand, lines.every - 1)) airing.entry.lines) how
-        result.any_refused (folder_in F.calls airing.entry.folder) folder
-        (lines_in Y.calls airing.entry.lines) lines)
+        (λ frame. tale_aired F.calls Y.calls airing.entry (played_as airing.entry.task frame)
+        result.any_refused folder lines)
         (λ ended. EndsReading ended lines result.beside.lines.all)
         airing.entry.task (fault_of result.ended.result) begun taken
         (D.state disk) (D.state result.ended.disk)) (P.calls (writer_system opened.entry.writer))
@@ -219,43 +203,28 @@ fn play_into<D: Disk, P: System + Drop, F: System + Drop, Y: System + Drop, W: W
 }
 
 /// Plays the disk into the outlet, with looks at the folder and answers to lines, if these are
-/// given. What took the log is handed out: of a borrowed one no clause could say what it has behind
-/// the call.
+/// given.
 fn air<D: Disk, F: System + Drop, Y: System + Drop, O: Outlet, L: Write + Drop>(
     alloc: Global,
     disk: D,
     outlet: &mut O,
     airing: Airing<'_, '_, F, Y>,
     log: L,
-) -> (PlayEnd<D>, L)
-    ensures { let same = ⟦<LookEvent as PartialEq>⟧.eq in
-        let reads = option_map (λ lines. (lines.hand, lines.every - 1)) airing.entry.lines in
-        (frame : ℕ) × IsFrame airing.entry.task.rate frame (fault_of result.0.ended.result)
-        (D.state disk) (D.state result.0.ended.disk)
+) -> PlayEnd<D>
+    ensures { (frame : ℕ) × IsFrame airing.entry.task.rate frame (fault_of result.ended.result)
+        (D.state disk) (D.state result.ended.disk)
         × (let how = played_as airing.entry.task frame in
-        (last : BesideView) × HandsOut (fault_of result.0.ended.result) last result.0.beside
-        × Plays (tale_told same
-        (watched airing.entry.folder (λ followed. watch_in how (reader_path followed.shelf)
-        followed.types.now followed.allows_empty)) reads how result.0.any_refused (record {
-          folder = folder_in F.calls airing.entry.folder;
-          lines = lines_in Y.calls airing.entry.lines;
-          teller = starts Y.calls (L.contents log) (record {
-            disk = airing.entry.task.disk;
-            status = airing.entry.status;
-            levels = airing.entry.task.levels;
-          });
-        })
-        last) how (fault_of result.0.ended.result) (O.writes outlet.old) (O.writes outlet.new)
-        (D.state disk) (D.state result.0.ended.disk)
-        × EndsAs reads (fault_of result.0.ended.result) how.turns last.teller
-        (L.contents result.1)) }
+        HandsOut (fault_of result.ended.result) result.beside (λ folder lines.
+        Plays (tale_aired F.calls Y.calls airing.entry how result.any_refused folder lines) how
+        (fault_of result.ended.result) (O.writes outlet.old) (O.writes outlet.new)
+        (D.state disk) (D.state result.ended.disk))) }
 {
     match frame_on(alloc, disk, airing.task.rate) {
         Ok((frame, disk)) => {
             let how = manner_of(airing.task, frame);
             air_so(alloc, disk, outlet, airing, log, how)
         }
-        Err(refused) => (unbegun(refused, airing), log),
+        Err(refused) => unbegun(refused, airing),
     }
 }
 
@@ -302,25 +271,11 @@ fn air_so<D: Disk, F: System + Drop, Y: System + Drop, O: Outlet, L: Write + Dro
     airing: Airing<'_, '_, F, Y>,
     log: L,
     how: Manner,
-) -> (PlayEnd<D>, L)
-    ensures { let same = ⟦<LookEvent as PartialEq>⟧.eq in
-        let reads = option_map (λ lines. (lines.hand, lines.every - 1)) airing.entry.lines in
-        (last : BesideView) × HandsOut (fault_of result.0.ended.result) last result.0.beside
-        × Plays (tale_told same
-        (watched airing.entry.folder (λ followed. watch_in how (reader_path followed.shelf)
-        followed.types.now followed.allows_empty)) reads how result.0.any_refused (record {
-          folder = folder_in F.calls airing.entry.folder;
-          lines = lines_in Y.calls airing.entry.lines;
-          teller = starts Y.calls (L.contents log) (record {
-            disk = airing.entry.task.disk;
-            status = airing.entry.status;
-            levels = airing.entry.task.levels;
-          });
-        })
-        last) how (fault_of result.0.ended.result) (O.writes outlet.old) (O.writes outlet.new)
-        (D.state disk) (D.state result.0.ended.disk)
-        × EndsAs reads (fault_of result.0.ended.result) how.turns last.teller
-        (L.contents result.1) }
+) -> PlayEnd<D>
+    ensures { HandsOut (fault_of result.ended.result) result.beside (λ folder lines.
+        Plays (tale_aired F.calls Y.calls airing.entry how result.any_refused folder lines) how
+        (fault_of result.ended.result) (O.writes outlet.old) (O.writes outlet.new)
+        (D.state disk) (D.state result.ended.disk)) }
 {
     let Airing {
         task,
@@ -351,25 +306,20 @@ fn play_opened<D: Disk, P: System + Drop, F: System + Drop, Y: System + Drop, L:
     ensures played { Hands result.beside (λ folder lines. Sends (destination_of opened.entry)
         (writer_handle opened.entry.writer) (fault_of result.ended.result)
         (λ begun taken. PlaysAsked (target_of opened.entry)
-        (λ frame. let how = played_as airing.entry.task frame in
-        tale_with (watched airing.entry.folder (λ followed. watch_in how
-        (reader_path followed.shelf) followed.types.now followed.allows_empty))
-        (option_map (λ lines. (lines.hand, lines.every - 1)) airing.entry.lines) how
-        result.any_refused (folder_in F.calls airing.entry.folder) folder
-        (lines_in Y.calls airing.entry.lines) lines)
+        (λ frame. tale_aired F.calls Y.calls airing.entry (played_as airing.entry.task frame)
+        result.any_refused folder lines)
         (λ ended. EndsReading ended lines result.beside.lines.all)
         airing.entry.task (fault_of result.ended.result) begun taken
         (D.state disk) (D.state result.ended.disk)) (P.calls (writer_system opened.entry.writer))
         result.beside.packets.all) }
 {
     let mut opened = opened;
-    let (end, _) = air(alloc, disk, &mut opened.writer, airing, log);
     let PlayEnd {
         ended,
         any_refused,
         cause,
         beside,
-    } = end;
+    } = air(alloc, disk, &mut opened.writer, airing, log);
     let (result, cause) = placed(&mut opened, ended.result, cause);
     PlayEnd {
         ended: Ended {

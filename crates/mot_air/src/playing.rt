@@ -1,15 +1,14 @@
 //! Playing a disk, and making its carousel equal to a folder.
-ghost use Rattle.std.specs.Prelude.{◌≡◌, ◌≢◌, ◌↔◌, ◌⊎◌, ◌-◌, ℕ, [], IsSomeAnd, IsTrue, List};
+ghost use Rattle.std.specs.Prelude.{◌≡◌, ◌↔◌, ◌⊎◌, ◌-◌, ℕ, [], IsSomeAnd, IsTrue, List};
 ghost use Rattle.std.specs.Prelude.{None, Some, false, true};
 ghost use Rattle.mot_air.specs.Lives.{AirsOn, KeepsDone};
 ghost use Rattle.mot_air.specs.Playing.{Plays, tale_of};
-ghost use Rattle.mot_air.specs.Telling.{BesideView, EndsLines, EndsReading, EndsTelling, HandsOut};
-ghost use Rattle.mot_air.specs.Telling.{folder_in, lines_at, no_looks, tale_told, watch_in, watched};
-ghost use Rattle.mot_air.specs.Inner.Beside.{SourcesOf, beside, tells_alone_of, tells_answered, tells_lines_of};
+ghost use Rattle.mot_air.specs.Telling.{EndsReading, HandsOut, folder_in, lines_at, no_looks};
+ghost use Rattle.mot_air.specs.Telling.{tale_with, watch_in, watched};
+ghost use Rattle.mot_air.specs.Inner.Beside.{SourcesOf, beside, tells_answered, tells_lines_of};
 ghost use Rattle.mot_air.specs.Inner.Beside.{tells_reported};
 ghost use Rattle.mot_air.specs.Inner.Fed.{IsEndOf, disk_of, ending_of};
 ghost use Rattle.mot_line_folder.specs.Spooling.{Finishes};
-ghost use Rattle.mot_events.specs.Told.{AreOfFiles, Entry, HearsAll};
 ghost use Rattle.mot_folder.specs.Looked.{so_far, watch};
 ghost use Rattle.mot_lines.specs.Hand.{bytes_in_hand};
 ghost use Rattle.mot_numbers.specs.declared.geometry.Geometry.{Geometry};
@@ -19,14 +18,12 @@ ghost use Rattle.mot_line_folder.specs.Spool.{SpoolView, open_file, spool_system
 ghost use Rattle.mot_line_folder.specs.Spooling.{GaveLines};
 ghost use Rattle.mot_shelf.specs.Reader.{reader_path, view};
 ghost use Rattle.mot_playout.specs.Attempts.{fault_of};
-ghost use Rattle.mot_status.specs.Teller.{TellerView, TellsEnd, starts, teller};
-ghost use Rattle.mot_update.specs.Watching.{looks_known};
 
 use crate::Ended;
 use crate::manner::Manner;
 use disk_model::Disk;
 use mot_destinations::Cause;
-use mot_events::{Inlet, LookEvent};
+use mot_events::Inlet;
 use mot_feed::feed_every;
 use mot_feed_lines::{Lines, Reported};
 use mot_files::{CallLog, System};
@@ -128,7 +125,8 @@ fn beside_of(folder: CallLog, lines: CallLog) -> Beside
 }
 
 /// Opens the disk and plays it into the outlet, with looks at the folder if there is one. The lines
-/// of the looks, of the start and of the end are written to the log, and the status to its file.
+/// of the looks, of the start and of the end are written to the log, and the status to its file. (No
+/// clause says so: what is logged is tested.)
 pub fn play_disk<S: System + Drop, F: System + Drop, D: Disk, O: Outlet, L: Write + Drop>(
     alloc: Global,
     disk: D,
@@ -137,29 +135,23 @@ pub fn play_disk<S: System + Drop, F: System + Drop, D: Disk, O: Outlet, L: Writ
     telling: Telling<'_, F>,
     log: L,
     how: Manner,
-) -> (PlayEnd<D>, L)
-    ensures { let same = ⟦<LookEvent as PartialEq>⟧.eq in
-        (last : BesideView) × HandsOut (fault_of result.0.ended.result) last result.0.beside
-        × Plays (tale_told same
-        (watched folder.entry (λ followed. watch_in how (reader_path followed.shelf)
-        followed.types.now followed.allows_empty)) None how result.0.any_refused (record {
-          folder = folder_in S.calls folder.entry;
-          lines = lines_at [] [];
-          teller = starts F.calls (L.contents log) telling.entry;
-        }) last) how (fault_of result.0.ended.result) (O.writes outlet.old) (O.writes outlet.new)
-        (D.state disk) (D.state result.0.ended.disk)
-        × EndsTelling (fault_of result.0.ended.result) how.turns last.teller (L.contents result.1) }
+) -> PlayEnd<D>
+    ensures { HandsOut (fault_of result.ended.result) result.beside (λ then_folder then_lines.
+        Plays (tale_with (watched folder.entry (λ followed. watch_in how (reader_path followed.shelf)
+        followed.types.now followed.allows_empty)) None how result.any_refused
+        (folder_in S.calls folder.entry) then_folder (lines_at [] []) then_lines) how
+        (fault_of result.ended.result) (O.writes outlet.old) (O.writes outlet.new)
+        (D.state disk) (D.state result.ended.disk)) }
 {
     match folder {
         Some(followed) => {
             let update = looks_at(alloc, followed, how);
-            let (ended, looks, log) = play_telling(alloc, disk, update, outlet, telling, log, how);
-            (PlayEnd::looking(ended, looks, CallLog::new()), log)
+            let (ended, looks) = play_telling(alloc, disk, update, outlet, telling, log, how);
+            PlayEnd::looking(ended, looks, CallLog::new())
         }
         None => {
-            let update = NoUpdate;
-            let (ended, _, log) = play_telling(alloc, disk, update, outlet, telling, log, how);
-            (PlayEnd::unwatched(ended, CallLog::new()), log)
+            let (ended, _) = play_telling(alloc, disk, NoUpdate, outlet, telling, log, how);
+            PlayEnd::unwatched(ended, CallLog::new())
         }
     }
 }
@@ -177,40 +169,35 @@ pub fn play_and_answer<S: System + Drop, F: System + Drop, D: Disk, O: Outlet, L
     telling: Telling<'_, F>,
     log: L,
     how: Manner,
-) -> (PlayEnd<D>, L)
-    ensures { let same = ⟦<LookEvent as PartialEq>⟧.eq in
-        (last : BesideView) × HandsOut (fault_of result.0.ended.result) last result.0.beside
-        × Plays (tale_told same
-        (watched folder.entry (λ followed. watch_in how (reader_path followed.shelf)
+) -> PlayEnd<D>
+    ensures { HandsOut (fault_of result.ended.result) result.beside (λ then_folder then_lines.
+        Plays (tale_with (watched folder.entry (λ followed. watch_in how (reader_path followed.shelf)
         followed.types.now followed.allows_empty))
-        (Some (lines.entry.hand, lines.entry.every - 1)) how result.0.any_refused (record {
-          folder = folder_in S.calls folder.entry;
-          lines = lines_at lines.entry.place.path.now (F.calls lines.entry.place.system);
-          teller = starts F.calls (L.contents log) telling.entry;
-        }) last) how (fault_of result.0.ended.result) (O.writes outlet.old) (O.writes outlet.new)
-        (D.state disk) (D.state result.0.ended.disk)
-        × EndsLines (fault_of result.0.ended.result) how.turns last.teller (L.contents result.1) }
+        (Some (lines.entry.hand, lines.entry.every - 1)) how result.any_refused
+        (folder_in S.calls folder.entry) then_folder
+        (lines_at lines.entry.place.path.now (F.calls lines.entry.place.system)) then_lines) how
+        (fault_of result.ended.result) (O.writes outlet.old) (O.writes outlet.new)
+        (D.state disk) (D.state result.ended.disk)) }
 {
     match folder {
         Some(followed) => {
             let update = looks_at(alloc, followed, how);
-            let (ended, looks, log, lines) = play_answering(
+            let (ended, looks, lines) = play_answering(
                 alloc, disk, update, outlet, lines, telling, log, how,
             );
-            (PlayEnd::looking(ended, looks, lines), log)
+            PlayEnd::looking(ended, looks, lines)
         }
         None => {
-            let update = NoUpdate;
-            let (ended, _, log, lines) = play_answering(
-                alloc, disk, update, outlet, lines, telling, log, how,
+            let (ended, _, lines) = play_answering(
+                alloc, disk, NoUpdate, outlet, lines, telling, log, how,
             );
-            (PlayEnd::unwatched(ended, lines), log)
+            PlayEnd::unwatched(ended, lines)
         }
     }
 }
 
 /// Opens the disk and plays it into the outlet with these updates, and tells of them and of the
-/// end. The updates and the log are handed out. (Each layer of updates has a function of its own,
+/// end. The updates are handed out. (Each layer of updates has a function of its own,
 /// since a call at a type of several layers takes long to prove.)
 fn play_telling<D: Disk, U: Update + Facts + Drop, F: System + Drop, O: Outlet, L: Write + Drop>(
     alloc: Global,
@@ -220,20 +207,16 @@ fn play_telling<D: Disk, U: Update + Facts + Drop, F: System + Drop, O: Outlet, 
     telling: Telling<'_, F>,
     log: L,
     how: Manner,
-) -> (Ended<D, ()>, U, L)
-    ensures { let same = ⟦<LookEvent as PartialEq>⟧.eq in
-        (last : TellerView) × Plays (tale_of (tells_alone_of same U.known U.tells) how
-        (beside update (tt {0}) [] (starts F.calls (L.contents log) telling.entry))
-        (beside result.1 (tt {0}) [] last)) how (fault_of result.0.result) (O.writes outlet.old)
-        (O.writes outlet.new) (D.state disk) (D.state result.0.disk)
-        × EndsTelling (fault_of result.0.result) how.turns last (L.contents result.2) }
+) -> (Ended<D, ()>, U)
+    ensures { Plays (tale_of U.tells how update result.1) how (fault_of result.0.result)
+        (O.writes outlet.old) (O.writes outlet.new) (D.state disk) (D.state result.0.disk) }
 {
     let watch = Reporter::new(alloc, log, telling);
     let mut reported = Reported { update, watch };
     let fed = feed_reported(alloc, disk, &mut reported, outlet, how);
     let ended = end_telling(alloc, fed, how.turns, &mut reported);
-    let (update, watch) = reported.into_parts();
-    (ended, update, watch.into_log())
+    let (update, _) = reported.into_parts();
+    (ended, update)
 }
 
 /// Opens the disk and feeds it into the outlet with updates that are watched.
@@ -244,8 +227,8 @@ fn feed_reported<D: Disk, U: Update + Facts + Drop, T: Watch + Drop, O: Outlet>(
     outlet: &mut O,
     how: Manner,
 ) -> Fed<D>
-    ensures { Plays (tale_of (tells_reported T.begins T.ends U.known U.tells) how
-        reported.old reported.new) how (ending_of result)
+    ensures { Plays (tale_of (tells_reported U.tells) how reported.old reported.new) how
+        (ending_of result)
         (O.writes outlet.old) (O.writes outlet.new) (D.state disk) (D.state (disk_of result)) }
 {
     feed_disk(alloc, disk, reported, outlet, how)
@@ -262,27 +245,20 @@ fn play_answering<D: Disk, U: Update + Facts + Drop, F: System + Drop, O: Outlet
     telling: Telling<'_, F>,
     log: L,
     how: Manner,
-) -> (Ended<D, ()>, U, L, CallLog)
-    ensures { let same = ⟦<LookEvent as PartialEq>⟧.eq in
-        (last : SourcesOf U SpoolView) × (last.update ≡ result.1)
-        × EndsReading (fault_of result.0.result) last.lines result.3.all
-        × Plays (tale_of (tells_lines_of same GaveLines (lines.entry.every - 1) U.known U.tells) how
+) -> (Ended<D, ()>, U, CallLog)
+    ensures { (last : SourcesOf U SpoolView) × (last.update ≡ result.1)
+        × EndsReading (fault_of result.0.result) last.lines result.2.all
+        × Plays (tale_of (tells_lines_of GaveLines (lines.entry.every - 1) U.tells) how
         (beside update (lines_at lines.entry.place.path.now (F.calls lines.entry.place.system))
-        lines.entry.hand (starts F.calls (L.contents log) telling.entry)) last) how (fault_of result.0.result) (O.writes outlet.old)
-        (O.writes outlet.new) (D.state disk) (D.state result.0.disk)
-        × EndsLines (fault_of result.0.result) how.turns last.teller (L.contents result.2) }
+        lines.entry.hand) last) how (fault_of result.0.result) (O.writes outlet.old)
+        (O.writes outlet.new) (D.state disk) (D.state result.0.disk) }
 {
     let watch = Reporter::new(alloc, log, telling);
     let mut lines = lines_between(alloc, lines, Reported { update, watch });
     let fed = feed_lines(alloc, disk, &mut lines, outlet, how);
     let ended = end_lines(alloc, fed, how.turns, &mut lines);
-    let (spool, update, watch) = lines.into_parts();
-    (
-        ended,
-        update,
-        watch.into_log(),
-        spool.into_system().into_calls(),
-    )
+    let (spool, update, _) = lines.into_parts();
+    (ended, update, spool.into_system().into_calls())
 }
 
 /// Opens the disk and feeds it into the outlet with lines behind updates that are watched.
@@ -293,8 +269,8 @@ fn feed_lines<D: Disk, R: Inlet + Drop, U: Update + Facts + Drop, T: Watch + Dro
     outlet: &mut O,
     how: Manner,
 ) -> Fed<D>
-    ensures { Plays (tale_of (tells_answered (HearsAll T.hears T.misses) T.begins T.ends R.gave R.view
-        U.known U.tells) how lines.old lines.new) how (ending_of result)
+    ensures { Plays (tale_of (tells_answered R.gave R.view U.tells) how lines.old lines.new) how
+        (ending_of result)
         (O.writes outlet.old) (O.writes outlet.new) (D.state disk) (D.state (disk_of result)) }
 {
     feed_disk(alloc, disk, lines, outlet, how)
@@ -311,7 +287,6 @@ fn looks_at<'a, S: System + Drop>(
         ≡ watch_in how (reader_path followed.entry.shelf) followed.entry.types.now
         followed.entry.allows_empty }
     ensures none { so_far result.left (view S.calls result.folder.shelf) result.any_refused
-        (looks_known result.count result.folder.report.events.items result.before.items)
         result.folder.files.known.items ≡ no_looks (view S.calls followed.entry.shelf) }
 {
     let Followed {
@@ -357,8 +332,6 @@ fn end_telling<D: Disk, U: Update + Facts + Drop, F: System + Drop, L: Write + D
 ) -> Ended<D, ()>
     ensures update { reported.new.update ≡ reported.old.update }
     ensures ended { IsEndOf fed result }
-    ensures told { EndsTelling (ending_of fed) turns (teller F.calls L.contents reported.old.watch)
-        (teller F.calls L.contents reported.new.watch).log.bytes }
 {
     match fed {
         Err(refused) => Ended::unopened(refused),
@@ -381,11 +354,7 @@ fn tell_end<D: Disk, U: Update + Facts + Drop, F: System + Drop, L: Write + Drop
     turns: u64,
     reported: &mut Reported<U, Reporter<'_, F, L>>,
 )
-    ensures update { reported.new.update ≡ reported.old.update }
-    ensures quiet { fault_of ended ≢ None → reported.new ≡ reported.old }
-    ensures told { fault_of ended ≡ None → TellsEnd (teller F.calls L.contents reported.old.watch)
-        server.now.view turns (U.known reported.old.update).events
-        (teller F.calls L.contents reported.new.watch) }
+    ensures { reported.new.update ≡ reported.old.update }
 {
     if ended.is_ok() {
         let events = reported.update.events();
@@ -405,9 +374,6 @@ fn end_lines<'a, D: Disk, U: Update + Facts + Drop, F: System + Drop, L: Write +
         (F.calls (spool_system lines.new.reader)) }
     ensures update { lines.new.reported.update ≡ lines.old.reported.update }
     ensures ended { IsEndOf fed result }
-    ensures told { EndsLines (ending_of fed) turns
-        (teller F.calls L.contents lines.old.reported.watch)
-        (teller F.calls L.contents lines.new.reported.watch).log.bytes }
 {
     finish(lines, has_ended(&fed));
     end_telling(alloc, fed, turns, &mut lines.reported)
@@ -437,8 +403,6 @@ fn finish<'a, F: System + Drop, U: Update + Facts + Drop, T: Watch + Drop>(
     ensures finishes { is_ended ≡ true → lines.old.intake.hand ≡ bytes_in_hand []
         → Finishes (open_file lines.old.reader)
         (F.calls (spool_system lines.old.reader)) (F.calls (spool_system lines.new.reader)) }
-    ensures told { (entries : List Entry) × AreOfFiles entries
-        × HearsAll T.hears T.misses lines.old.reported.watch entries lines.new.reported.watch }
 {
     if !is_ended {
         return;

@@ -1,5 +1,5 @@
 //! The file that monitoring reads.
-ghost use Rattle.std.specs.Prelude.{◌≡◌, ◌++◌, ◌∷◌, [], IfSome, MatchOption, codes, string_bytes};
+ghost use Rattle.std.specs.Prelude.{◌≡◌, ◌++◌, ◌∷◌, [], IfSome, IsErr, MatchOption, codes, string_bytes};
 ghost use Rattle.mot_files.specs.Call.{told_time};
 ghost use Rattle.mot_destinations.specs.Status.{AsksLock, ChecksPlace, WritesStatus, beside_fault};
 ghost use Rattle.mot_destinations.specs.Status.{status_beside, status_disk, status_system, unless_busy};
@@ -53,7 +53,7 @@ impl<'a, S: System + Drop> StatusFile<'a, S> {
     /// cut the file may be empty. The disk stays, and so do what is no regular file and what is locked.
     pub fn write(&mut self, text: &[u8]) -> Result<(), PacketsFault>
         ensures calls { MatchOption (status_beside self.old)
-            (S.calls (status_system self.new) ≡ S.calls (status_system self.old))
+            (IsErr result × (S.calls (status_system self.new) ≡ S.calls (status_system self.old)))
             (λ beside. WritesStatus self.old.path.now beside (status_disk self.old) text.now result
             (S.calls (status_system self.old)) (S.calls (status_system self.new))) }
         ensures path { self.new.path ≡ self.old.path }

@@ -1,6 +1,5 @@
 //! What a program has to come to lines by that are given while it works.
 ghost use Rattle.std.specs.Prelude.{◌≤◌, ℕ, List, length, take};
-ghost use Rattle.mot_events.specs.Told.{AreOfFiles, Entry, HearsAll};
 
 use crate::Tells;
 use crate::line_count::LineCount;
@@ -19,7 +18,5 @@ pub trait Inlet {
     /// `count` begins anew with it. What is wrong with a file is told.
     fn read<T: Tells>(&mut self, room: &mut [u8], count: &mut LineCount, log: &mut T) -> usize
         ensures fits { result ≤ length room.new }
-        ensures gave { gave (view self.old) (view self.new) (take result room.new) }
-        ensures told { (entries : List Entry) × AreOfFiles entries
-            × HearsAll T.hears T.misses log.old entries log.new };
+        ensures gave { gave (view self.old) (view self.new) (take result room.new) };
 }

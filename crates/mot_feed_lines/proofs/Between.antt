@@ -6,21 +6,19 @@ use Rattle.std.specs.Prelude.{◌≢◌, ◌⊎◌, ⊤, Decides, bytes_eq}
 use Rattle.mot_feed_lines.proofs.Requests.{never}
 use Rattle.disk_model.specs.Disk.{State, IsHonestDisk}
 use Rattle.disk_model.proofs.Laws.{unchanged_none}
-use Rattle.mot_events.specs.Told.{Entry}
-use Rattle.mot_feed_lines.specs.Answering.{IsInHand, TakesMore, TellsBetween, TellsLines}
-use Rattle.mot_feed_lines.specs.Answering.{TellsOnTime, commands_run, late_behind}
+use Rattle.mot_feed_lines.specs.Answering.{IsInHand, TellsBetween, TellsLines}
+use Rattle.mot_feed_lines.specs.Answering.{TellsOnTime, late_behind}
+use Rattle.mot_feed_lines.specs.Inner.Request.{AnswersMore}
 use Rattle.mot_feed_lines.specs.Answering.TellsBetween.{other_alone, then_lines}
 use Rattle.mot_lines.specs.Hand.{bytes_in_hand}
 use Rattle.mot_lines.specs.Lines.{rest_of}
 use Rattle.mot_journal.specs.Image.{Standing}
 use Rattle.mot_numbers.specs.declared.refusal.Refusal.{Refusal}
 use Rattle.mot_objects.specs.declared.command.Command.{Command}
-use Rattle.mot_repository.specs.Repository.{Holds, RepositoryView}
+use Rattle.mot_repository.specs.Repository.{Holds}
 use Rattle.mot_playout.specs.Server.{ServerView}
 use Rattle.mot_update.specs.Between.{IsUpdating, Telling}
 use Rattle.mot_update.specs.HasRun.{HasRun}
-use Rattle.mot_update.specs.Watching.{LooksKnown, TellsWatched}
-use Rattle.mot_update.specs.declared.moment.Moment.{Moment}
 use Rattle.mot_update.proofs.Laws.{has_read, join}
 
 module _ {D : Type 0} (state : D → State) where
@@ -58,52 +56,42 @@ module _ {D : Type 0} (state : D → State) where
 
   -- lines that were taken tell of their commands
   pub updating_lines : (old new : ServerView D) (s : Standing) (fault : Option Refusal)
-      (hand then_hand : List ℕ) {V : Type 0} (earlier later : V) {T : Type 0}
-      (Hears : T → List Entry → T → Type 0) (Gives : V → V → List ℕ → Type 0) (before now : T)
+      (hand then_hand more : List ℕ) {V : Type 0} (earlier later : V)
+      (Gives : V → V → List ℕ → Type 0) → Gives earlier later more
       → Holds old.view s (state old.disk) → (state new.disk).IsHonest
       → IsUpdating (λ _ _ _ _. ⊤) old new (state old.disk) (state new.disk) s fault
       → ((input : List ℕ) → hand ≡ bytes_in_hand (rest_of input)
-      → (more : List ℕ) × Gives earlier later more
-      × TakesMore state old new input more fault then_hand Hears before now)
-      → IsUpdating (λ _. TellsLines Hears Gives before now hand then_hand earlier later) old new
+      → AnswersMore state old new input (input ++ more) fault)
+      → ((input : List ℕ) → hand ≡ bytes_in_hand (rest_of input) → fault ≡ None
+      → then_hand ≡ bytes_in_hand (rest_of (input ++ more)))
+      → IsUpdating (λ _. TellsLines Gives hand then_hand earlier later) old new
       (state old.disk) (state new.disk) s fault
-  updating_lines old new s fault hand then_hand earlier later Hears Gives before now holds honest
-      anyhow takes =
+  updating_lines old new s fault hand then_hand more earlier later Gives given holds honest
+      anyhow takes keeps =
       cases (bytes_eq hand (bytes_in_hand (rest_of hand))) (bytes_eq-Decides hand _)
     where
       of_these : IsInHand hand
-          → IsUpdating (λ _. TellsLines Hears Gives before now hand then_hand earlier later) old new
+          → IsUpdating (λ _. TellsLines Gives hand then_hand earlier later) old new
           (state old.disk) (state new.disk) s fault
       of_these is =
-          let read = takes hand is in
-          let taken = read.2 in
-          let run = taken.answers.run s holds honest in
+          let taken = takes hand is in
+          let run = taken.run s holds honest in
           record {
-            commands = commands_run taken.answers.told;
+            commands = taken.commands;
             marks = run.0;
-            run = run.2;
+            run = run.1;
             told = λ _. record {
-              more = read.0;
-              given = read.1;
-              told = taken.answers.told;
-              ended = taken.answers.ended;
-              are = refl;
-              accepted = run.1;
-              in_hand = taken.in_hand;
-              tells = record {
-                notices = taken.notices;
-                are_of_files = taken.are_of_files;
-                middle = taken.so_far;
-                noticed = taken.read;
-                entries = taken.answers.log.0;
-                logged = taken.answers.log.1;
-                heard = taken.answers.log.2;
-              };
+              more = more;
+              given = given;
+              lines = taken.lines;
+              ended = taken.ended;
+              are = taken.are;
+              in_hand = keeps hand is;
             };
           }
 
       cases : (b : Bool) → Decides b (IsInHand hand)
-          → IsUpdating (λ _. TellsLines Hears Gives before now hand then_hand earlier later) old new
+          → IsUpdating (λ _. TellsLines Gives hand then_hand earlier later) old new
           (state old.disk) (state new.disk) s fault
       cases true is = of_these (is.0 refl)
       cases false is = record {
@@ -113,46 +101,15 @@ module _ {D : Type 0} (state : D → State) where
         told = λ e. absurd (never (is.1 e));
       }
 
-  -- an update that is watched
-  pub updating_watched : {W : Type 0} (begins : W → RepositoryView → Moment → W → Type 0)
-      (ends : W → RepositoryView → LooksKnown → W → Type 0) (before begun now : W)
-      (known : LooksKnown) (moment : Moment) (other : Telling) (old new : ServerView D)
-      (s : Standing) (fault : Option Refusal) → Holds old.view s (state old.disk)
-      → begins before old.view moment begun → ends begun new.view known now
-      → IsUpdating other old new (state old.disk) (state new.disk) s fault
-      → IsUpdating (TellsWatched begins ends before known now moment other) old new
-      (state old.disk) (state new.disk) s fault
-  updating_watched begins ends before begun now known moment other old new s fault holds first last
-      one =
-      let leaves = one.run.leaves in record {
-        commands = one.commands;
-        marks = one.marks;
-        run = one.run;
-        told = record {
-          found = old.view;
-          found_is = (holds.agrees.bodies, holds.agrees.are_bodies, holds.agrees.carousel);
-          begun = begun;
-          begins = first;
-          told = one.told;
-          left = new.view;
-          limit = s.geometry.objects;
-          made = leaves.last.carousel;
-          leads = leaves.after.carousel;
-          left_is = (leaves.agrees.bodies, leaves.agrees.are_bodies, leaves.agrees.carousel);
-          ends = last;
-        };
-      }
-
-  module _ {T : Type 0} (Hears : T → List Entry → T → Type 0)
-      {V : Type 0} (Gives : V → V → List ℕ → Type 0) where
+  module _ {V : Type 0} (Gives : V → V → List ℕ → Type 0) where
     -- the other update alone
-    pub updating_alone : (other : T → Telling) (now : T) (left : ℕ) (hand : List ℕ)
+    pub updating_alone : (other : Telling) (left : ℕ) (hand : List ℕ)
         (given : V) (old new : ServerView D) (s : Standing)
         (fault : Option Refusal) → (0 < left) ⊎ (fault ≢ None)
-        → IsUpdating (other now) old new (state old.disk) (state new.disk) s fault
-        → IsUpdating (TellsBetween Hears Gives left hand hand given given other now) old new
+        → IsUpdating other old new (state old.disk) (state new.disk) s fault
+        → IsUpdating (TellsBetween Gives left hand hand given given other) old new
         (state old.disk) (state new.disk) s fault
-    updating_alone other now left hand given old new s fault undue one = record {
+    updating_alone other left hand given old new s fault undue one = record {
       commands = one.commands;
       marks = one.marks;
       run = one.run;
@@ -160,24 +117,23 @@ module _ {D : Type 0} (state : D → State) where
     }
 
     -- and lines behind it
-    pub updating_then : (other : T → Telling) (middle now : T) (left : ℕ) (hand then_hand : List ℕ)
+    pub updating_then : (other : Telling) (left : ℕ) (hand then_hand : List ℕ)
         (earlier later : V) (old mid new : ServerView D) (s : Standing)
         (fault : Option Refusal) → left ≡ 0
-        → IsUpdating (other middle) old mid (state old.disk) (state mid.disk) s None
+        → IsUpdating other old mid (state old.disk) (state mid.disk) s None
         → ((t : Standing) → Holds mid.view t (state mid.disk)
-        → IsUpdating (λ _. TellsLines Hears Gives middle now hand then_hand earlier later) mid new
+        → IsUpdating (λ _. TellsLines Gives hand then_hand earlier later) mid new
         (state mid.disk) (state new.disk) t fault)
-        → IsUpdating (TellsBetween Hears Gives left hand then_hand earlier later other now) old new
+        → IsUpdating (TellsBetween Gives left hand then_hand earlier later other) old new
         (state old.disk) (state new.disk) s fault
-    updating_then other middle now left hand then_hand earlier later old mid new s fault due one
-        after =
+    updating_then other left hand then_hand earlier later old mid new s fault due one after =
         let two = after one.run.leaves.last (one.run.leaves.going refl) in
         record {
           commands = one.commands ++ two.commands;
           marks = one.marks ++ two.marks;
           run = join old mid new (state old.disk) (state mid.disk) (state new.disk) s one.commands
               two.commands one.marks two.marks fault one.run two.run;
-          told = then_lines middle one.commands two.commands one.marks two.marks fault due one.told
+          told = then_lines one.commands two.commands one.marks two.marks fault due one.told
               two.told;
         }
 
@@ -194,16 +150,15 @@ begun_anew between left due =
     subst (λ (n : ℕ). between ≡ late_behind between n) (sym due) refl
 
 -- the same calls with their count
-pub on_time : {D T : Type 0} {Hears : T → List Entry → T → Type 0}
-    {V : Type 0} {Gives : V → V → List ℕ → Type 0}
+pub on_time : {D : Type 0} {V : Type 0} {Gives : V → V → List ℕ → Type 0}
     {between then_between left then_left : ℕ} {hand then_hand : List ℕ}
-    {earlier later : V} {other : T → Telling} {at : T} {old new : ServerView D} {start now : State}
+    {earlier later : V} {other : Telling} {old new : ServerView D} {start now : State}
     {s : Standing} {fault : Option Refusal} → then_between ≡ between
     → (fault ≡ None → then_left ≡ late_behind between left)
-    → IsUpdating (TellsBetween Hears Gives left hand then_hand earlier later other at) old new start
+    → IsUpdating (TellsBetween Gives left hand then_hand earlier later other) old new start
     now s fault
-    → IsUpdating (TellsOnTime Hears Gives between then_between left then_left hand then_hand earlier
-    later other at) old new start now s fault
+    → IsUpdating (TellsOnTime Gives between then_between left then_left hand then_hand earlier
+    later other) old new start now s fault
 on_time same counts is = record {
   commands = is.commands;
   marks = is.marks;

@@ -2,4 +2,3 @@ pub mod Between
 pub mod Commands
 pub mod Requests
 pub mod Taken
-pub mod Told

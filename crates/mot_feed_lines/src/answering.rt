@@ -1,18 +1,16 @@
 //! Answering what there is of an inlet.
-ghost use Rattle.std.specs.Prelude.{◌≡◌, ◌++◌, ℕ, List, Ok, Err, None, IfNone, IfSome, ⊤};
+ghost use Rattle.std.specs.Prelude.{◌≡◌, ◌++◌, ◌∷◌, [], ℕ, List, None, IfNone, IfSome, ⊤};
 ghost use Rattle.disk_model.specs.Disk.{KeepsLength};
-ghost use Rattle.mot_events.specs.Told.{HearsAll};
-ghost use Rattle.mot_feed_lines.specs.Answering.{AnswersMore, TakesMore, TellsLines, asked_here};
-ghost use Rattle.mot_feed_lines.specs.Inner.Request.{HasAnswered, end_of};
+ghost use Rattle.mot_feed_lines.specs.Answering.{TellsLines};
+ghost use Rattle.mot_feed_lines.specs.Inner.Request.{AnswersMore, HasAnswered, end_of};
 ghost use Rattle.mot_update.specs.Between.{IsUpdating};
 ghost use Rattle.mot_playout.specs.Attempts.{fault_of};
 ghost use Rattle.mot_journal.specs.Image.{Standing};
 ghost use Rattle.mot_lines.specs.Hand.{bytes_in_hand};
 ghost use Rattle.mot_lines.specs.Line.{line_of};
 ghost use Rattle.mot_lines.specs.Lines.{rest_of};
-ghost use Rattle.mot_lines.specs.declared.line.Line.TheVariants as asks;
 ghost use Rattle.mot_repository.specs.Repository.{Holds};
-ghost use Rattle.mot_session.specs.OnAnyDisk.{read_only};
+ghost use Rattle.mot_session.specs.Stored.{command_in};
 ghost use Rattle.mot_update.specs.Faults.{TellsFaults};
 
 use crate::intake::Intake;
@@ -43,14 +41,9 @@ pub fn answer_there<R: Inlet, T: Tells, D: Disk>(
         (D.state server.old.disk) (D.state server.new.disk) result }
     ensures run { (s : Standing) → Holds server.old.view s (D.state server.old.disk)
         → (D.state server.new.disk).IsHonest
-        → IsUpdating (λ _. TellsLines (HearsAll T.hears T.misses) R.gave log.old log.new
-        intake.old.hand intake.new.hand (R.view reader.old) (R.view reader.new))
-        server.old server.new
+        → IsUpdating (λ _. TellsLines R.gave intake.old.hand intake.new.hand
+        (R.view reader.old) (R.view reader.new)) server.old server.new
         (D.state server.old.disk) (D.state server.new.disk) s (fault_of result) }
-    ensures answered { (input : List ℕ) → intake.old.hand ≡ bytes_in_hand (rest_of input)
-        → (more : List ℕ) × R.gave (R.view reader.old) (R.view reader.new) more
-        × TakesMore D.state server.old server.new input more (fault_of result) intake.new.hand
-        (HearsAll T.hears T.misses) log.old log.new }
 {
     let mut chunk = [0u8; READ_SIZE];
     let count = reader.read(&mut chunk, &mut intake.count, log);
@@ -73,8 +66,7 @@ fn answer_chunk<T: Tells, D: Disk>(
         → IsUpdating (λ _ _ _ _. ⊤) server.old server.new
         (D.state server.old.disk) (D.state server.new.disk) s (fault_of result) }
     ensures answered { (input : List ℕ) → intake.old.hand ≡ bytes_in_hand (rest_of input)
-        → AnswersMore D.state server.old server.new input (input ++ chunk.now) (fault_of result)
-        (HearsAll T.hears T.misses) log.old log.new }
+        → AnswersMore D.state server.old server.new input (input ++ chunk.now) (fault_of result) }
     ensures in_hand { fault_of result ≡ None
         → (input : List ℕ) → intake.old.hand ≡ bytes_in_hand (rest_of input)
         → intake.new.hand ≡ bytes_in_hand (rest_of (input ++ chunk.now)) }
@@ -105,9 +97,8 @@ fn answer_line<T: Tells, D: Disk>(
         → IsUpdating (λ _ _ _ _. ⊤) server.old server.new
         (D.state server.old.disk) (D.state server.new.disk) s (fault_of result) }
     ensures answered { (line : List ℕ) → intake.old.hand ≡ bytes_in_hand line
-        → HasAnswered D.state server.old server.new (asked_here (line_of line))
-        (bytes_in_hand line) (fault_of result)
-        (HearsAll T.hears T.misses) log.old log.new }
+        → HasAnswered D.state server.old server.new (command_in (line_of line))
+        (fault_of result) }
     ensures hand { intake.new.hand ≡ intake.old.hand }
 {
     intake.count.add();
@@ -126,8 +117,8 @@ fn answer_request<T: Tells, D: Disk>(
     ensures keeps { KeepsLength (D.state server.old.disk) (D.state server.new.disk) }
     ensures faults { TellsFaults server.old server.new
         (D.state server.old.disk) (D.state server.new.disk) result }
-    ensures answered { HasAnswered D.state server.old server.new (asked_here request.now)
-        intake.now.hand (fault_of result) (HearsAll T.hears T.misses) log.old log.new }
+    ensures answered { HasAnswered D.state server.old server.new (command_in request.now)
+        (fault_of result) }
 {
     match command_of(request) {
         Some(command) => answer_command(alloc, command, intake, log, server),
@@ -140,26 +131,12 @@ fn answer_request<T: Tells, D: Disk>(
 
 /// The command that is asked for, if one is.
 fn command_of(request: &Result<Line, Refusal>) -> Option<&Command>
-    ensures some { IfSome result (λ command. request.now ≡ Ok (asks.Command command.now)) }
-    ensures none { IfNone result (asked_here request.now ≡ read_only request.now) }
+    ensures some { IfSome result (λ command. command_in request.now ≡ command.now ∷ []) }
+    ensures none { IfNone result (command_in request.now ≡ []) }
 {
     match request {
-        Ok(line) => command_in(line),
-        Err(_) => None,
-    }
-}
-
-/// The command that a line asks for, if it asks for one.
-fn command_in(line: &Line) -> Option<&Command>
-    ensures some { IfSome result (λ command. line.now ≡ asks.Command command.now) }
-    ensures none { IfNone result (asked_here (Ok line.now) ≡ read_only (Ok line.now)) }
-{
-    match line {
-        Line::Command(command) => Some(command),
-        Line::List => None,
-        Line::Raw { .. } => None,
-        Line::Next(_) => None,
-        Line::Turn => None,
+        Ok(Line::Command(command)) => Some(command),
+        Ok(Line::List | Line::Raw { .. } | Line::Next(_) | Line::Turn) | Err(_) => None,
     }
 }
 
@@ -174,8 +151,8 @@ fn answer_command<T: Tells, D: Disk>(
     ensures keeps { KeepsLength (D.state server.old.disk) (D.state server.new.disk) }
     ensures faults { TellsFaults server.old server.new
         (D.state server.old.disk) (D.state server.new.disk) result }
-    ensures answered { HasAnswered D.state server.old server.new (Ok (asks.Command command.now))
-        intake.now.hand (fault_of result) (HearsAll T.hears T.misses) log.old log.new }
+    ensures answered { HasAnswered D.state server.old server.new (command.now ∷ [])
+        (fault_of result) }
 {
     if server.halted() {
         tell_refused(intake, log, Refusal::Halted, &Why::Unsaid);

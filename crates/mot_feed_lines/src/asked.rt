@@ -1,8 +1,4 @@
 //! What a line asks for, as the log tells it.
-ghost use Rattle.std.specs.Prelude.{◌≡◌};
-ghost use Rattle.mot_feed_lines.specs.Logged.{IsAbout, IsAskedBy, IsCut, IsFront, asked_of};
-ghost use Rattle.mot_feed_lines.specs.Logged.{has_subject};
-
 use memchr::memchr;
 use mot_events::Asked;
 
@@ -13,18 +9,14 @@ const SUBJECT: usize = 255;
 const WITHIN: usize = 3;
 
 /// The command of a line, and what it is about: nothing, if that is not told.
-pub(crate) fn command_of(line: &[u8]) -> (Asked, &[u8])
-    ensures { IsAskedBy line.now result.0 result.1.now }
-{
+pub(crate) fn command_of(line: &[u8]) -> (Asked, &[u8]) {
     let (word, rest) = cut_word(line);
     let asked = asked_of(word);
     (asked, subject_of(asked, rest))
 }
 
 /// What the command is about, of the words behind it.
-fn subject_of(asked: Asked, rest: &[u8]) -> &[u8]
-    ensures { IsAbout (has_subject asked) rest.now result.now }
-{
+fn subject_of(asked: Asked, rest: &[u8]) -> &[u8] {
     if !has_subject(asked) {
         return b"";
     }
@@ -33,9 +25,7 @@ fn subject_of(asked: Asked, rest: &[u8]) -> &[u8]
 }
 
 /// The first word of a line, and what follows the space behind it.
-fn cut_word(line: &[u8]) -> (&[u8], &[u8])
-    ensures { IsCut line.now result.0.now result.1.now }
-{
+fn cut_word(line: &[u8]) -> (&[u8], &[u8]) {
     match memchr(b' ', line) {
         Some(at) => (&line[..at], &line[at + 1..]),
         None => (line, b""),
@@ -43,9 +33,7 @@ fn cut_word(line: &[u8]) -> (&[u8], &[u8])
 }
 
 /// The command that a first word is.
-fn asked_of(word: &[u8]) -> Asked
-    ensures { result ≡ asked_of word.now }
-{
+fn asked_of(word: &[u8]) -> Asked {
     if word == b"put".as_slice() {
         Asked::Put
     } else if word == b"replace".as_slice() {
@@ -68,9 +56,7 @@ fn asked_of(word: &[u8]) -> Asked
 }
 
 /// Whether the second word of such a line says what it is about.
-fn has_subject(asked: Asked) -> bool
-    ensures { result ≡ has_subject asked }
-{
+fn has_subject(asked: Asked) -> bool {
     match asked {
         Asked::Put | Asked::Replace | Asked::Withdraw | Asked::Period => true,
         _ => false,
@@ -78,9 +64,7 @@ fn has_subject(asked: Asked) -> bool
 }
 
 /// The first bytes of a word, 255 at most, and of a text so many that no letter of it is cut.
-fn front_of(word: &[u8]) -> &[u8]
-    ensures { IsFront word.now result.now }
-{
+fn front_of(word: &[u8]) -> &[u8] {
     if word.len() <= SUBJECT {
         return word;
     }

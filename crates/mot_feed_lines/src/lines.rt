@@ -1,16 +1,13 @@
 //! Lines between the packets of a feed.
 ghost use Rattle.std.specs.Prelude.{◌≡◌, ◌<◌, ◌-◌, ◌↔◌, [], ℕ, IsTrue, List, OnOk};
 ghost use Rattle.disk_model.specs.Disk.{KeepsLength};
-ghost use Rattle.mot_events.specs.Told.{HearsAll};
-ghost use Rattle.mot_feed_lines.specs.Answering.{TakesBetween, TellsOnTime};
+ghost use Rattle.mot_feed_lines.specs.Answering.{TellsOnTime};
 ghost use Rattle.mot_update.specs.Between.{IsUpdating};
 ghost use Rattle.mot_playout.specs.Attempts.{fault_of};
 ghost use Rattle.mot_journal.specs.Image.{Standing};
 ghost use Rattle.mot_lines.specs.Hand.{bytes_in_hand};
-ghost use Rattle.mot_lines.specs.Lines.{rest_of};
 ghost use Rattle.mot_repository.specs.Repository.{Holds};
 ghost use Rattle.mot_update.specs.Faults.{TellsFaults};
-ghost use Rattle.mot_update.specs.Watching.{TellsWatched};
 
 use crate::answering::answer_there;
 use crate::intake::Intake;
@@ -87,11 +84,10 @@ impl<R: Inlet + Drop, U: Update + Facts + Drop, T: Watch + Drop> Lines<R, U, T> 
 
 impl<R: Inlet + Drop, U: Update + Facts + Drop, T: Watch + Drop> Update for Lines<R, U, T> {
     // What the other update tells; and, where a read was due, what the lines do behind it.
-    ghost tells = { λ old new moment. TellsOnTime (HearsAll T.hears T.misses) R.gave
+    ghost tells = { λ old new moment. TellsOnTime R.gave
         old.between new.between old.left new.left old.intake.hand new.intake.hand
         (R.view old.reader) (R.view new.reader)
-        (λ watch. TellsWatched T.begins T.ends old.reported.watch (U.known new.reported.update) watch
-        moment (U.tells old.reported.update new.reported.update moment)) new.reported.watch };
+        (U.tells old.reported.update new.reported.update moment) };
 
     fn update<D: Disk>(
         &mut self,
@@ -104,14 +100,12 @@ impl<R: Inlet + Drop, U: Update + Facts + Drop, T: Watch + Drop> Update for Line
             (D.state server.old.disk) (D.state server.new.disk) result }
         ensures run { (s : Standing) → Holds server.old.view s (D.state server.old.disk)
             → (D.state server.new.disk).IsHonest
-            → IsUpdating (TellsOnTime (HearsAll T.hears T.misses) R.gave
+            → IsUpdating (TellsOnTime R.gave
             self.old.between self.new.between self.old.left self.new.left
             self.old.intake.hand self.new.intake.hand (R.view self.old.reader)
             (R.view self.new.reader)
-            (λ watch. TellsWatched T.begins T.ends self.old.reported.watch
-            (U.known self.new.reported.update) watch moment
             (U.tells self.old.reported.update self.new.reported.update moment))
-            self.new.reported.watch) server.old server.new (D.state server.old.disk) (D.state server.new.disk) s
+            server.old server.new (D.state server.old.disk) (D.state server.new.disk) s
             (fault_of result) }
 
         // It reads if a read is due, and else it only counts.
@@ -119,15 +113,6 @@ impl<R: Inlet + Drop, U: Update + Facts + Drop, T: Watch + Drop> Update for Line
             × (self.new.intake ≡ self.old.intake)
             × OnOk result (self.new.left ≡ self.old.left - 1) }
         ensures reads { self.old.left ≡ 0 → OnOk result (self.new.left ≡ self.old.between) }
-
-        // What the inlet gave was answered, and nothing else was.
-        ensures lines { (input : List ℕ) → self.old.intake.hand ≡ bytes_in_hand (rest_of input)
-            → TakesBetween D.state server.old server.new input
-            (R.view self.old.reader) (R.view self.new.reader) self.new.intake.hand
-            (λ watch. TellsWatched T.begins T.ends self.old.reported.watch
-            (U.known self.new.reported.update) watch moment
-            (U.tells self.old.reported.update self.new.reported.update moment))
-            (HearsAll T.hears T.misses) R.gave self.new.reported.watch }
     {
         self.reported.update(server, alloc, moment)?;
         if self.left > 0 {

@@ -1,9 +1,4 @@
 //! Why a line is refused, beside the number of the refusal.
-ghost use Rattle.std.specs.Prelude.{◌≡◌, Err, IfSome};
-ghost use Rattle.mot_feed_lines.specs.Inner.Reasons.{IsWhy, IsWrong, ends_with_return};
-ghost use Rattle.mot_feed_lines.specs.Inner.Reasons.{space_count, why_for, word_count, words_asked};
-ghost use Rattle.mot_session.specs.OnAnyDisk.{read_only};
-
 use crate::asked::command_of;
 use mot_events::{Asked, Why};
 use mot_lines::Line;
@@ -11,9 +6,7 @@ use mot_numbers::Refusal;
 
 /// The refusal of a line that asks for nothing here: it was refused as it was read, or it asks for
 /// packets, which are those that are played.
-pub(crate) fn refusal_of(request: &Result<Line, Refusal>) -> Option<Refusal>
-    ensures { IfSome result (λ refusal. read_only request.now ≡ Err refusal) }
-{
+pub(crate) fn refusal_of(request: &Result<Line, Refusal>) -> Option<Refusal> {
     match request {
         Err(refusal) => Some(*refusal),
         Ok(Line::Next(_) | Line::Turn) => Some(Refusal::BadLine),
@@ -22,9 +15,7 @@ pub(crate) fn refusal_of(request: &Result<Line, Refusal>) -> Option<Refusal>
 }
 
 /// Why it is refused, as far as the line shows it.
-pub(crate) fn why_of(request: &Result<Line, Refusal>, line: &[u8]) -> Why
-    ensures { IsWhy request.now line.now result }
-{
+pub(crate) fn why_of(request: &Result<Line, Refusal>, line: &[u8]) -> Why {
     match request {
         Ok(_) => Why::NotHere,
         Err(_) => why_in(line),
@@ -32,9 +23,7 @@ pub(crate) fn why_of(request: &Result<Line, Refusal>, line: &[u8]) -> Why
 }
 
 /// Why a line is wrong: a carriage return at its end belongs to its last word.
-fn why_in(line: &[u8]) -> Why
-    ensures { IsWrong line.now result }
-{
+fn why_in(line: &[u8]) -> Why {
     if ends_with_return(line) {
         return Why::Return;
     }
@@ -43,9 +32,7 @@ fn why_in(line: &[u8]) -> Why
 }
 
 /// Why a line of so many words is wrong that asks for this.
-fn why_for(asked: Asked, count: u64) -> Why
-    ensures { result ≡ why_for asked count }
-{
+fn why_for(asked: Asked, count: u64) -> Why {
     let wanted = words_asked(asked);
     if wanted == 0 {
         Why::NoCommand
@@ -57,9 +44,7 @@ fn why_for(asked: Asked, count: u64) -> Why
 }
 
 /// How many words a command has, its first among them; 0 for what is no command.
-fn words_asked(asked: Asked) -> u64
-    ensures { result ≡ words_asked asked }
-{
+fn words_asked(asked: Asked) -> u64 {
     match asked {
         Asked::Put | Asked::Replace => 6,
         Asked::Raw => 4,
@@ -70,23 +55,17 @@ fn words_asked(asked: Asked) -> u64
 }
 
 /// How many words a line has: one more than spaces.
-fn word_count(line: &[u8]) -> u64
-    ensures { result ≡ word_count line.now }
-{
+fn word_count(line: &[u8]) -> u64 {
     (space_count(line) as u64).saturating_add(1)
 }
 
 /// How many spaces a line has.
-fn space_count(line: &[u8]) -> usize
-    ensures { result ≡ space_count line.now }
-{
+fn space_count(line: &[u8]) -> usize {
     line.iter().filter(|byte| **byte == b' ').count()
 }
 
 /// Whether the last byte is a carriage return.
-fn ends_with_return(line: &[u8]) -> bool
-    ensures { result ≡ ends_with_return line.now }
-{
+fn ends_with_return(line: &[u8]) -> bool {
     if line.is_empty() {
         return false;
     }

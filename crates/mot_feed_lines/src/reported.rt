@@ -6,7 +6,6 @@ ghost use Rattle.mot_repository.specs.Repository.{Holds};
 ghost use Rattle.mot_playout.specs.Attempts.{fault_of};
 ghost use Rattle.mot_update.specs.Between.{IsUpdating};
 ghost use Rattle.mot_update.specs.Faults.{TellsFaults};
-ghost use Rattle.mot_update.specs.Watching.{TellsWatched};
 
 use disk_model::Disk;
 use mot_numbers::Refusal;
@@ -34,9 +33,7 @@ impl<U: Update + Facts + Drop, T: Watch + Drop> Reported<U, T> {
 }
 
 impl<U: Update + Facts + Drop, T: Watch + Drop> Update for Reported<U, T> {
-    // What the updates tell, and that who watches them was told of it.
-    ghost tells = { λ old new moment. TellsWatched T.begins T.ends old.watch
-        (U.known new.update) new.watch moment (U.tells old.update new.update moment) };
+    ghost tells = { λ old new moment. U.tells old.update new.update moment };
 
     #[inline(always)]
     fn update<D: Disk>(
@@ -50,14 +47,8 @@ impl<U: Update + Facts + Drop, T: Watch + Drop> Update for Reported<U, T> {
             (D.state server.old.disk) (D.state server.new.disk) result }
         ensures run { (s : Standing) → Holds server.old.view s (D.state server.old.disk)
             → (D.state server.new.disk).IsHonest
-            → IsUpdating (TellsWatched T.begins T.ends self.old.watch (U.known self.new.update)
-            self.new.watch moment (U.tells self.old.update self.new.update moment))
-            server.old server.new
+            → IsUpdating (U.tells self.old.update self.new.update moment) server.old server.new
             (D.state server.old.disk) (D.state server.new.disk) s (fault_of result) }
-
-        // On every disk it was told of the update's beginning and of its end.
-        ensures watched { (begun : T) × T.begins self.old.watch server.old.view moment begun
-            × T.ends begun server.new.view (U.known self.new.update) self.new.watch }
     {
         self.watch.begin(server, alloc, moment);
         let result = self.update.update(server, alloc, moment);

@@ -1,13 +1,4 @@
 //! Telling what lines were answered.
-ghost use Rattle.std.specs.Prelude.{List, map, ℕ};
-ghost use Rattle.mot_events.specs.Told.{HearsAll};
-ghost use Rattle.mot_events.specs.Told.Entry.{of};
-ghost use Rattle.mot_events.specs.declared.event.Event.{Event};
-ghost use Rattle.mot_feed_lines.specs.Inner.Request.{reply_of};
-ghost use Rattle.mot_feed_lines.specs.Logged.{Answers, AreShown, IsShown, LogHas};
-ghost use Rattle.mot_lines.specs.Text.{done_line, refusal_line};
-ghost use Rattle.mot_session.specs.OnAnyDisk.{AnswersAnyhow, read_only};
-
 use crate::asked::command_of;
 use crate::intake::Intake;
 use crate::reason::{refusal_of, why_of};
@@ -21,9 +12,7 @@ use mot_session::answer_reading;
 use std::alloc::Global;
 
 /// Tells that the command in hand was done.
-fn tell_done<T: Tells>(intake: &Intake, log: &mut T, done: Done)
-    ensures { LogHas (HearsAll T.hears T.misses) intake.now.hand (done_line done) log.old log.new }
-{
+fn tell_done<T: Tells>(intake: &Intake, log: &mut T, done: Done) {
     let (asked, subject) = command_of(intake.hand.as_slice());
     let (file, number) = (intake.count.file(), intake.count.number);
     log.tell(&Event::Answered(file, number, asked, subject, Reply::Done(done)));
@@ -35,9 +24,7 @@ pub(crate) fn tell_refused<'x, T: Tells>(
     log: &mut T,
     refusal: Refusal,
     why: &'x Why,
-)
-    ensures { LogHas (HearsAll T.hears T.misses) intake.now.hand (refusal_line refusal) log.old log.new }
-{
+) {
     let (asked, subject) = command_of(intake.hand.as_slice());
     let (file, number) = (intake.count.file(), intake.count.number);
     let reply = Reply::Refused(refusal, why);
@@ -45,10 +32,7 @@ pub(crate) fn tell_refused<'x, T: Tells>(
 }
 
 /// Tells a line that the line in hand asks for.
-fn tell_shown<'x, T: Tells>(intake: &'x Intake, log: &mut T, line: &'x [u8])
-    ensures { (e : Event) × Answers intake.now.hand (IsShown line.now) e
-        × T.hears log.old e log.new }
-{
+fn tell_shown<'x, T: Tells>(intake: &'x Intake, log: &mut T, line: &'x [u8]) {
     let (asked, subject) = command_of(intake.hand.as_slice());
     let (file, number) = (intake.count.file(), intake.count.number);
     log.tell(&Event::Answered(file, number, asked, subject, Reply::Shown(line)));
@@ -59,9 +43,7 @@ pub(crate) fn tell_attempt<T: Tells>(
     intake: &Intake,
     log: &mut T,
     attempt: &Result<Attempt, Refusal>,
-)
-    ensures { LogHas (HearsAll T.hears T.misses) intake.now.hand (reply_of attempt.now) log.old log.new }
-{
+) {
     match attempt {
         Ok(Attempt::Accepted(done)) => tell_done(intake, log, *done),
         Ok(Attempt::Refused(refusal)) => tell_refused(intake, log, *refusal, &Why::Unsaid),
@@ -76,12 +58,7 @@ pub(crate) fn show<T: Tells, D: Disk>(
     intake: &Intake,
     log: &mut T,
     server: &Server<D>,
-)
-    ensures { (text : List ℕ) × AnswersAnyhow server.now.view server.now.view
-        (D.state server.now.disk).failures (D.state server.now.disk).failures
-        (read_only request.now) text
-        × LogHas (HearsAll T.hears T.misses) intake.now.hand text log.old log.new }
-{
+) {
     match refusal_of(request) {
         Some(refusal) => {
             let why = why_of(request, intake.hand.as_slice());
@@ -98,12 +75,7 @@ fn show_text<T: Tells, D: Disk>(
     intake: &Intake,
     log: &mut T,
     server: &Server<D>,
-)
-    ensures { (text : List ℕ) × AnswersAnyhow server.now.view server.now.view
-        (D.state server.now.disk).failures (D.state server.now.disk).failures
-        (read_only request.now) text
-        × LogHas (HearsAll T.hears T.misses) intake.now.hand text log.old log.new }
-{
+) {
     let mut text = Vec::new(alloc);
     match answer_reading(alloc, request, &mut text, server) {
         Ok(()) => show_lines(intake, log, text.as_slice()),
@@ -115,10 +87,7 @@ fn show_text<T: Tells, D: Disk>(
 }
 
 /// Tells each line of a text.
-fn show_lines<T: Tells>(intake: &Intake, log: &mut T, text: &[u8])
-    ensures { (events : List Event) × AreShown intake.now.hand text.now events
-        × HearsAll T.hears T.misses log.old (map of events) log.new }
-{
+fn show_lines<T: Tells>(intake: &Intake, log: &mut T, text: &[u8]) {
     let mut rest = text;
     while let Some((line, next)) = cut_at_line_end(rest) {
         tell_shown(intake, log, line);

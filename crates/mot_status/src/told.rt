@@ -1,11 +1,4 @@
 //! A try to write the status, and what the log has of it.
-ghost use Rattle.std.specs.Prelude.{◌≡◌, List, false, is_ok, not};
-ghost use Rattle.std.specs.Prelude.{true, ℕ};
-ghost use Rattle.std.specs.Io.KnownBytes.{Appends};
-ghost use Rattle.mot_destinations.specs.Status.{status_beside, status_disk, status_system};
-ghost use Rattle.mot_log.specs.Status.{status_text};
-ghost use Rattle.mot_status.specs.Told.{Tries, place_of, status_counted, status_line};
-
 use mot_destinations::{PacketsFault, StatusFile};
 use mot_events::{Event, LookEvent, Tells};
 use mot_files::System;
@@ -21,13 +14,7 @@ pub(crate) fn hand<S: System + Drop>(
     figures: &Figures<'_>,
     counters: &Counters,
     events: &[LookEvent],
-) -> Result<(), PacketsFault>
-    ensures tries { Tries (place_of status.old) (status_text figures.now counters.now events.now)
-        result (S.calls (status_system status.old)) (S.calls (status_system status.new)) }
-    ensures path { status.new.path ≡ status.old.path }
-    ensures disk { status_disk status.new ≡ status_disk status.old }
-    ensures beside { status_beside status.new ≡ status_beside status.old }
-{
+) -> Result<(), PacketsFault> {
     match write_status(text, alloc, figures, counters, events) {
         Ok(()) => status.write(text.as_slice()),
         Err(error) => Err(PacketsFault::from(error)),
@@ -42,74 +29,33 @@ pub(crate) fn tell_written<W: Write + Drop>(
     path: &str,
     was_unwritten: bool,
     written: Result<(), PacketsFault>,
-) -> bool
-    ensures unwritten { result ≡ not (is_ok written) }
-    ensures counts { log.new.counters
-        ≡ status_counted was_unwritten (not (is_ok written)) log.old.counters }
-    ensures levels { log.new.levels ≡ log.old.levels }
-    ensures whole { log.new.is_whole ≡ true → log.old.is_whole ≡ true }
-    ensures told { log.new.is_whole ≡ true → (reason : List ℕ) × Appends
-        (W.contents log.old.writer) (W.contents log.new.writer)
-        (status_line log.old.levels path.now was_unwritten (not (is_ok written)) reason) }
-{
+) -> bool {
     match written {
         Ok(()) => {
-            tell_again(log, path, was_unwritten);
+            if was_unwritten {
+                log.tell(&Event::StatusWritten(path.as_bytes()));
+            }
             false
         }
         Err(fault) => {
-            tell_fault(log, alloc, path, was_unwritten, fault);
+            if !was_unwritten {
+                tell_fault(log, alloc, path, fault);
+            }
             true
         }
     }
 }
 
-/// Tells that the status of this path is written again, if it was not.
-fn tell_again<W: Write + Drop>(log: &mut EventLog<W>, path: &str, was_unwritten: bool)
-    ensures counts { log.new.counters ≡ log.old.counters }
-    ensures levels { log.new.levels ≡ log.old.levels }
-    ensures whole { log.new.is_whole ≡ true → log.old.is_whole ≡ true }
-    ensures told { log.new.is_whole ≡ true → (reason : List ℕ) → Appends
-        (W.contents log.old.writer) (W.contents log.new.writer)
-        (status_line log.old.levels path.now was_unwritten false reason) }
-{
-    if was_unwritten {
-        log.tell(&Event::StatusWritten(path.as_bytes()));
-    }
-}
-
-/// Tells that the status of this path was not written, if the last one was.
+/// Tells that the status of this path was not written.
 fn tell_fault<W: Write + Drop>(
     log: &mut EventLog<W>,
     alloc: Global,
     path: &str,
-    was_unwritten: bool,
     fault: PacketsFault,
-)
-    ensures counts { log.new.counters ≡ status_counted was_unwritten true log.old.counters }
-    ensures levels { log.new.levels ≡ log.old.levels }
-    ensures whole { log.new.is_whole ≡ true → log.old.is_whole ≡ true }
-    ensures told { log.new.is_whole ≡ true → (reason : List ℕ) × Appends
-        (W.contents log.old.writer) (W.contents log.new.writer)
-        (status_line log.old.levels path.now was_unwritten true reason) }
-{
-    if was_unwritten {
-        return;
-    }
+) {
+    let path = path.as_bytes();
     match format!(in alloc; "{fault}") {
-        Ok(reason) => tell_reason(log, path, reason.as_bytes()),
-        Err(_) => tell_reason(log, path, b"out of memory"),
+        Ok(reason) => log.tell(&Event::StatusRefused(path, reason.as_bytes())),
+        Err(_) => log.tell(&Event::StatusRefused(path, b"out of memory")),
     }
-}
-
-/// Tells that the status of this path was not written, for this reason.
-fn tell_reason<W: Write + Drop>(log: &mut EventLog<W>, path: &str, reason: &[u8])
-    ensures counts { log.new.counters ≡ status_counted false true log.old.counters }
-    ensures levels { log.new.levels ≡ log.old.levels }
-    ensures whole { log.new.is_whole ≡ true → log.old.is_whole ≡ true }
-    ensures told { log.new.is_whole ≡ true → Appends
-        (W.contents log.old.writer) (W.contents log.new.writer)
-        (status_line log.old.levels path.now false true reason.now) }
-{
-    log.tell(&Event::StatusRefused(path.as_bytes(), reason));
 }

@@ -1,17 +1,18 @@
--- What stands beside a disk while it is played with any update, and what is told of that.
-use Rattle.std.specs.Prelude.{ℕ, List, [], Option, Some, None}
-use Rattle.mot_air.specs.Telling.{Same, lines_at}
-use Rattle.mot_events.specs.Told.{Entry, HearsAll}
+-- What stands beside a disk while it is played with any update.
+use Rattle.std.specs.Prelude.{◌-◌, ℕ, Bool, List, [], Option, Some, None, option_map}
+use Rattle.mot_air.specs.Playing.{Tale}
+use Rattle.mot_air.specs.Telling.{folder_in, lines_at, tale_with, watch_in, watched}
+use Rattle.mot_air.specs.declared.manner.Manner.{Manner}
+use Rattle.mot_air.specs.declared.on_air.Airing.{Airing}
 use Rattle.mot_feed_lines.specs.Answering.{TellsInTurn, TellsOnTime}
 use Rattle.mot_feed_lines.specs.declared.lines.Lines.{Lines}
 use Rattle.mot_feed_lines.specs.declared.reported.Reported.{Reported}
 use Rattle.mot_files.specs.Call.{Call}
 use Rattle.mot_line_folder.specs.Spool.{SpoolView}
 use Rattle.mot_line_folder.specs.declared.folder.LineFolder.{LineFolder}
-use Rattle.mot_repository.specs.Repository.{RepositoryView}
-use Rattle.mot_status.specs.Teller.{Hears, Misses, TellerView, TellsAfter, TellsBefore}
+use Rattle.mot_shelf.specs.Reader.{reader_path}
+use Rattle.mot_shelf.specs.View.{FolderView}
 use Rattle.mot_update.specs.Between.{Telling}
-use Rattle.mot_update.specs.Watching.{LooksKnown, TellsWatched}
 use Rattle.mot_update.specs.declared.moment.Moment.{Moment}
 
 -- the folder of lines before it is read, and where there is none
@@ -19,60 +20,41 @@ abbrev pub lines_in : {S : Type 0} → (S → List Call) → Option (LineFolder 
 lines_in calls None = lines_at [] []
 lines_in calls (Some lines) = lines_at lines.place.path.now (calls lines.place.system)
 
+-- what is told of a disk that is played so, in this manner, with this beside it in the end
+abbrev pub tale_aired : {S T : Type 0} → (S → List Call) → (T → List Call) → Airing S T → Manner
+    → (refused : Bool) → FolderView → SpoolView → Tale
+tale_aired calls line_calls airing how refused folder lines = tale_with
+    (watched airing.folder (λ followed. watch_in how (reader_path followed.shelf) followed.types.now
+    followed.allows_empty))
+    (option_map (λ (l : LineFolder _). (l.hand, l.every - 1)) airing.lines) how refused
+    (folder_in calls airing.folder) folder (lines_in line_calls airing.lines) lines
+
 -- the update; how many packets are to come before the next read of lines, what is seen of what gives
--- them, what has come of the next line; and what was told
+-- them, and what has come of the next line
 pub record SourcesOf (U V : Type 0) : Type 0 where
   pub update : U
   pub late : ℕ
   pub lines : V
   pub hand : List ℕ
-  pub teller : TellerView
 
 -- nothing was read
-abbrev pub beside : {U V : Type 0} → U → V → (hand : List ℕ) → TellerView → SourcesOf U V
-beside update lines hand teller =
-    record { update = update; late = 0; lines = lines; hand = hand; teller = teller }
+abbrev pub beside : {U V : Type 0} → U → V → (hand : List ℕ) → SourcesOf U V
+beside update lines hand = record { update = update; late = 0; lines = lines; hand = hand }
 
-module _ {U V : Type 0} (same : Same) (known : U → LooksKnown)
-    (tells : U → U → Moment → Telling) where
-  -- what the update tells, and that it was told, up to here
-  abbrev pub tells_told_of : (old new : SourcesOf U V) → (told : TellerView) → Moment → Telling
-  tells_told_of old new told moment =
-      TellsWatched TellsBefore (TellsAfter same) old.teller (known new.update) told moment
-      (tells old.update new.update moment)
+-- what the update tells, or lines, of which so many packets come between two reads
+abbrev pub tells_lines_of : {U V : Type 0} → (Gives : V → V → List ℕ → Type 0) → (between : ℕ)
+    → (tells : U → U → Moment → Telling) → (old new : SourcesOf U V) → Moment → Telling
+tells_lines_of Gives between tells old new moment = TellsInTurn Gives between old.late new.late
+    old.hand new.hand old.lines new.lines (tells old.update new.update moment)
 
-  -- nothing else is told
-  abbrev pub tells_alone_of : (old new : SourcesOf U V) → Moment → Telling
-  tells_alone_of old new moment = tells_told_of old new new.teller moment
+-- what an update tells that is watched
+abbrev pub tells_reported : {U W : Type 0} → (tells : U → U → Moment → Telling)
+    → (old new : Reported U W) → Moment → Telling
+tells_reported tells old new moment = tells old.update new.update moment
 
-module _ {U V : Type 0} (same : Same) (Gives : V → V → List ℕ → Type 0) (between : ℕ)
-    (known : U → LooksKnown) (tells : U → U → Moment → Telling) where
-  -- or lines, of which so many packets come between two reads
-  abbrev pub tells_lines_of : (old new : SourcesOf U V) → Moment → Telling
-  tells_lines_of old new moment =
-      TellsInTurn (HearsAll Hears Misses) Gives between old.late new.late old.hand new.hand old.lines
-      new.lines (λ (told : TellerView). tells_told_of same known tells old new told moment)
-      new.teller
-
--- Whoever is told of it hears so of updates.
-module _ {U W : Type 0} (begins : W → RepositoryView → Moment → W → Type 0)
-    (ends : W → RepositoryView → LooksKnown → W → Type 0) where
-  -- what is told of an update that is watched
-  abbrev pub tells_reported : (known : U → LooksKnown) → (tells : U → U → Moment → Telling)
-      → (old new : Reported U W) → Moment → Telling
-  tells_reported known tells old new moment =
-      TellsWatched begins ends old.watch (known new.update) new.watch moment
-      (tells old.update new.update moment)
-
-module _ {R U V W : Type 0} (hears : W → List Entry → W → Type 0)
-    (begins : W → RepositoryView → Moment → W → Type 0)
-    (ends : W → RepositoryView → LooksKnown → W → Type 0) (Gives : V → V → List ℕ → Type 0)
-    (seen : R → V) where
-  -- and of lines behind it
-  abbrev pub tells_answered : (known : U → LooksKnown) → (tells : U → U → Moment → Telling)
-      → (old new : Lines R U W) → Moment → Telling
-  tells_answered known tells old new moment =
-      TellsOnTime hears Gives old.between new.between old.left new.left old.intake.hand
-      new.intake.hand (seen old.reader) (seen new.reader) (λ (told : W). TellsWatched begins ends
-      old.reported.watch (known new.reported.update) told moment
-      (tells old.reported.update new.reported.update moment)) new.reported.watch
+-- and lines behind it
+abbrev pub tells_answered : {R U V W : Type 0} → (Gives : V → V → List ℕ → Type 0) → (seen : R → V)
+    → (tells : U → U → Moment → Telling) → (old new : Lines R U W) → Moment → Telling
+tells_answered Gives seen tells old new moment = TellsOnTime Gives old.between new.between old.left
+    new.left old.intake.hand new.intake.hand (seen old.reader) (seen new.reader)
+    (tells old.reported.update new.reported.update moment)

@@ -4,8 +4,7 @@ use Rattle.disk_model.specs.Disk.{State}
 use Rattle.mot_air.specs.Inner.Beside.{lines_in}
 use Rattle.mot_air.specs.Playing.{Plays}
 use Rattle.mot_air.specs.declared.manner.Manner.{Manner}
-use Rattle.mot_air.specs.Telling.{BesideView, EndsAs, HandsOut, Same, folder_in, tale_told}
-use Rattle.mot_air.specs.Telling.{watch_in, watched}
+use Rattle.mot_air.specs.Telling.{HandsOut, folder_in, tale_with, watch_in, watched}
 use Rattle.mot_air.proofs.on_air.air_so.Goals as goal
 use Rattle.mot_folder.specs.Looked.{Watch}
 use Rattle.mot_files.specs.Call.{Call}
@@ -15,41 +14,32 @@ use Rattle.mot_playout.specs.Attempts.{fault_of}
 use Rattle.mot_outcome.specs.declared.used.Beside.{Beside}
 use Rattle.mot_shelf.specs.Reader.{reader_path}
 use Rattle.mot_shelf.specs.View.{FolderView}
-use Rattle.mot_status.specs.Teller.{TellerView}
 
 -- what is told of a folder of lines, or of none
-module _ {S : Type 0} (calls : S → List Call) (same : Same) (w : Option Watch) (how : Manner)
-    (refused : Bool) (folder : FolderView) (teller : TellerView) (beside : Beside)
-    (ending : Option Refusal) (before after : Option (List (List ℕ))) (start now : State)
-    (log : Option (List ℕ)) where
+module _ {S : Type 0} (calls : S → List Call) (w : Option Watch) (how : Manner)
+    (refused : Bool) (folder : FolderView) (beside : Beside) (ending : Option Refusal)
+    (before after : Option (List (List ℕ))) (start now : State) where
   abbrev AirsSo : Option (LineFolder S) → Type 0
-  AirsSo lines = let reads = option_map (λ (l : LineFolder S). (l.hand, l.every - 1)) lines in
-      (last : BesideView) × HandsOut ending last beside
-      × Plays (tale_told same w reads how refused
-      (record { folder = folder; lines = lines_in calls lines; teller = teller }) last) how ending
-      before after start now
-      × EndsAs reads ending how.turns last.teller log
+  AirsSo lines = HandsOut ending beside (λ then_folder then_lines. Plays (tale_with w
+      (option_map (λ (l : LineFolder S). (l.hand, l.every - 1)) lines) how refused folder then_folder
+      (lines_in calls lines) then_lines) how ending before after start now)
 
 pub returns-in-Some : goal.returns-in-Some
 returns-in-Some g c =
-    let out = c.play_and_answer.result.0 in
-    let log = c.play_and_answer.result.1 in
-    subst (AirsSo g.Y.System.calls _ (watched c.args.airing.folder (λ followed. watch_in c.args.how
+    let out = c.play_and_answer.result in
+    subst (AirsSo g.Y.System.calls (watched c.args.airing.folder (λ followed. watch_in c.args.how
     (reader_path followed.shelf) followed.types.now followed.allows_empty)) c.args.how
-    out.any_refused (folder_in g.F.System.calls c.args.airing.folder) _ out.beside
+    out.any_refused (folder_in g.F.System.calls c.args.airing.folder) out.beside
     (fault_of out.ended.result) (g.O.Outlet.writes c.args.outlet.now)
     (g.O.Outlet.writes c.play_and_answer.new.outlet) (g.D.Disk.state c.args.disk)
-    (g.D.Disk.state out.ended.disk) (g.L.Write.contents log)) (sym c.in-Some.is)
-    c.play_and_answer.ensures
+    (g.D.Disk.state out.ended.disk)) (sym c.in-Some.is) c.play_and_answer.ensures
 
 pub returns-in-None : goal.returns-in-None
 returns-in-None g c =
-    let out = c.play_disk.result.0 in
-    let log = c.play_disk.result.1 in
-    subst (AirsSo g.Y.System.calls _ (watched c.args.airing.folder (λ followed. watch_in c.args.how
+    let out = c.play_disk.result in
+    subst (AirsSo g.Y.System.calls (watched c.args.airing.folder (λ followed. watch_in c.args.how
     (reader_path followed.shelf) followed.types.now followed.allows_empty)) c.args.how
-    out.any_refused (folder_in g.F.System.calls c.args.airing.folder) _ out.beside
+    out.any_refused (folder_in g.F.System.calls c.args.airing.folder) out.beside
     (fault_of out.ended.result) (g.O.Outlet.writes c.args.outlet.now)
     (g.O.Outlet.writes c.play_disk.new.outlet) (g.D.Disk.state c.args.disk)
-    (g.D.Disk.state out.ended.disk) (g.L.Write.contents log)) (sym c.in-None.is)
-    c.play_disk.ensures
+    (g.D.Disk.state out.ended.disk)) (sym c.in-None.is) c.play_disk.ensures

@@ -1,5 +1,4 @@
 use Rattle.std.proofs.Common.{false, ℕ, ◌⊎◌, ◌≡◌, ◌∙◌, ◌-◌, Bool, [], Option, ap, refl, subst, sym}
-use Rattle.std.specs.Prelude.{option_map}
 use Rattle.disk_store.specs.Beginning.{IsFirst, SinceOpened}
 use Rattle.disk_store.specs.Begun.{begun_state}
 use Rattle.disk_store.proofs.Laws.{since_opened}
@@ -9,14 +8,13 @@ use Rattle.mot_air.proofs.Played.{into_keeps, sends_as}
 use Rattle.mot_air.proofs.on_air.play_both.Given as given
 use Rattle.mot_air.proofs.on_air.play_both.Goals as goal
 use Rattle.mot_outcome.specs.Outcome.{Concludes}
-use Rattle.mot_air.specs.Inner.Beside.{lines_in}
-use Rattle.mot_air.specs.Commands.{Hands, PlaysAsked, PlaysTo, Sends, SendsAsked, is_all_done}
+use Rattle.mot_air.specs.Inner.Beside.{tale_aired}
+use Rattle.mot_air.specs.Commands.{PlaysAsked, PlaysTo, Sends, SendsAsked, is_all_done}
 use Rattle.mot_air.specs.Commands.{played_as}
 use Rattle.mot_outcome.specs.Outcome.{Opens}
 use Rattle.mot_air.specs.Playing.{Tale}
-use Rattle.mot_air.specs.Telling.{EndsReading, folder_in, tale_with, watch_in, watched}
+use Rattle.mot_air.specs.Telling.{EndsReading, Hands}
 use Rattle.mot_line_folder.specs.Spool.{SpoolView}
-use Rattle.mot_line_folder.specs.declared.folder.LineFolder.{LineFolder}
 use Rattle.mot_destinations.specs.Packets.{IsTarget, OpensInto, destination_of, target_of, writer_handle}
 use Rattle.mot_destinations.specs.Packets.{writer_system}
 use Rattle.mot_destinations.specs.declared.packets.Target.{Target}
@@ -26,7 +24,6 @@ use Rattle.mot_outcome.specs.Outcome.{OnFile}
 use Rattle.mot_outcome.specs.declared.used.Beside.{Beside}
 use Rattle.mot_outcome.specs.declared.used.UsedDisk.TheVariants.{OfFile}
 use Rattle.mot_playout.specs.Attempts.{fault_of}
-use Rattle.mot_shelf.specs.Reader.{reader_path}
 use Rattle.mot_shelf.specs.View.{FolderView}
 
 -- the disk that is handed out is that of playing
@@ -127,12 +124,8 @@ played g c tale is_target opens is_first plays =
 
 pub returns-clause-ended : goal.returns-clause-ended
 returns-clause-ended g c = λ target opens is_first.
-    played g c (λ frame refused then_folder then_lines. let how = played_as c.args.airing.task frame in
-    tale_with (watched c.args.airing.folder (λ followed. watch_in how
-    (reader_path followed.shelf) followed.types.now followed.allows_empty))
-    (option_map (λ (lines : LineFolder _). (lines.hand, lines.every - 1)) c.args.airing.lines) how
-    refused (folder_in g.F.System.calls c.args.airing.folder) then_folder
-    (lines_in g.Y.System.calls c.args.airing.lines) then_lines)
+    played g c (λ frame refused then_folder then_lines. tale_aired g.F.System.calls g.Y.System.calls
+    c.args.airing (played_as c.args.airing.task frame) refused then_folder then_lines)
     target opens is_first c.play_into-end.ensures.played
 
 pub returns-clause-opens : goal.returns-clause-opens

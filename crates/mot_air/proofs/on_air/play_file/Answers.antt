@@ -1,17 +1,13 @@
 use Rattle.std.proofs.Common.{ℕ, ◌∙◌, ◌-◌, Bool, ap, List, Option, Result, inl, subst, sym}
 use Rattle.std.proofs.KnownBytes.{Keeps-refl}
 use Rattle.disk_store.specs.declared.file.start.Start.{Ghosts}
-use Rattle.mot_air.specs.Inner.Beside.{lines_in}
+use Rattle.mot_air.specs.Inner.Beside.{tale_aired}
 use Rattle.mot_air.specs.Inner.Unbegun.{IsUnbegun}
 use Rattle.mot_numbers.specs.declared.refusal.Refusal.{Refusal}
 use Rattle.mot_outcome.specs.Outcome.{Concludes}
 use Rattle.mot_outcome.specs.declared.used.UsedDisk.{UsedDisk}
-use Rattle.std.specs.Prelude.{option_map}
 use Rattle.mot_air.specs.Commands.{PlaysTo, packets_of, played_as}
-use Rattle.mot_air.specs.Telling.{folder_in, tale_with, watch_in, watched}
-use Rattle.mot_line_folder.specs.declared.folder.LineFolder.{LineFolder}
 use Rattle.mot_air.proofs.on_air.play_file.Goals as goal
-use Rattle.mot_shelf.specs.Reader.{reader_path}
 
 -- what was not begun
 unbegun_so : {S F : Type 0} {start : Ghosts S F} (IsEarly : Refusal → Type 0)
@@ -40,11 +36,8 @@ returns-in-Err-clause-ended g c =
     let log = g.W.Write.contents c.args.writer.now in
     let used = c.in-Err.unbegun.disk in
     unbegun_so _ (λ all ending. PlaysTo task (λ frame refused then_folder then_lines.
-    let how = played_as task frame in tale_with (watched c.args.airing.folder
-    (λ followed. watch_in how (reader_path followed.shelf) followed.types.now followed.allows_empty))
-    (option_map (λ (lines : LineFolder _). (lines.hand, lines.every - 1)) c.args.airing.lines) how
-    refused (folder_in g.Y.System.calls c.args.airing.folder) then_folder
-    (lines_in g.Y.System.calls c.args.airing.lines) then_lines)
+    tale_aired g.Y.System.calls g.Y.System.calls c.args.airing (played_as task frame) refused
+    then_folder then_lines)
     all ending log log used) c.in-Err.unbegun.result used log
     c.in-Err.ensures.refused
 

@@ -7,7 +7,6 @@ use Rattle.mot_air.specs.declared.manner.Manner.{Manner}
 use Rattle.mot_air.specs.Commands.{EndsSending, PlaysInto}
 use Rattle.mot_air.specs.Telling.{EndsReading}
 use Rattle.mot_air.proofs.Behind.{frame_behind}
-use Rattle.mot_air.proofs.Retold.{plays_as, whoever}
 use Rattle.mot_air.proofs.on_air.play_opened.Goals as goal
 use Rattle.mot_destinations.specs.Packets.{destination_of, target_of}
 use Rattle.mot_destinations.specs.declared.packets.Target.{Target}
@@ -50,34 +49,32 @@ frame_placed rate target frame start now a b (inr lost) found =
 
 pub returns : goal.returns
 returns g c =
-    let told = c.air-end.ensures in
-    let end = c.air-end.result.0 in
+    let told = c.air-ended.ensures in
+    let end = c.air-ended.result in
     let came = c.placed-result.ensures.came in
     let target = target_of c.args.opened in
     let sent = c.placed-result.ensures.sent in
-    let last = told.2.0 in
-    let hands = told.2.1 in record {
+    let hands = told.2 in record {
       played = (
-        last.folder,
-        hands.folder,
+        hands.0,
+        hands.1,
         (
-          last.lines,
+          hands.2.0,
           record {
-            sent = g.P.System.calls c.air-end.new.outlet.system;
-            then_handle = c.air-end.new.outlet.handle;
+            sent = g.P.System.calls c.air-ended.new.outlet.system;
+            then_handle = c.air-ended.new.outlet.handle;
             played = (
               told.0,
               frame_placed c.args.airing.task.rate target told.0 _ _ end.ended.result
                   c.placed-result.result.0 came told.1,
-              placed target _ (λ ended. EndsReading ended last.lines end.beside.lines.all) _ _ _ _ _
-                  end.ended.result c.placed-result.result.0 came
-                  (plays_as _ _ (whoever _ _ _ _ _ _ last) _ _ _ _ _ _ told.2.2) hands.lines,
+              placed target _ (λ ended. EndsReading ended hands.2.0 end.beside.lines.all) _ _ _ _ _
+                  end.ended.result c.placed-result.result.0 came hands.2.1.1 hands.2.1.0,
             );
             told = sent.0;
             fault = sent.1;
             cause = sent.2;
             reason = sent.3;
-            ended = subst (EndsSending (destination_of c.args.opened) c.air-end.new.outlet.handle
+            ended = subst (EndsSending (destination_of c.args.opened) c.air-ended.new.outlet.handle
                 (fault_of c.placed-result.result.0) sent.0) (sym c.into_calls.ensures) sent.4;
           },
         ),

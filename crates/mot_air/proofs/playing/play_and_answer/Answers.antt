@@ -1,6 +1,6 @@
 use Rattle.std.proofs.Common.{◌≡◌, ◌∙◌, ◌-◌, Option, [], ap, false, subst, sym}
-use Rattle.mot_air.specs.Telling.{EndsLines, EndsReading, lines_at, watch_in}
-use Rattle.mot_air.proofs.Retold.{ended_out, handed_out, lines_alone, lines_retold, plays_as}
+use Rattle.mot_air.specs.Telling.{EndsReading, lines_at, watch_in}
+use Rattle.mot_air.proofs.Retold.{handed_out, lines_alone, lines_retold, plays_as}
 use Rattle.mot_air.proofs.playing.play_and_answer.Goals as goal
 use Rattle.mot_files.specs.declared.call_log.CallLog.{CallLog}
 use Rattle.mot_folder.specs.Looked.{so_far, watch}
@@ -8,8 +8,6 @@ use Rattle.mot_line_folder.specs.Spool.{SpoolView}
 use Rattle.mot_playout.specs.Attempts.{fault_of}
 use Rattle.mot_shelf.specs.Reader.{reader_path, view}
 use Rattle.mot_shelf.specs.View.{folder_at}
-use Rattle.mot_status.specs.Teller.{starts}
-use Rattle.mot_update.specs.Watching.{looks_known}
 
 -- the calls that are handed out
 read_out : (ending other : Option _) (lines : SpoolView) (log out : CallLog) → ending ≡ other
@@ -29,38 +27,31 @@ returns-in-Some g c =
     let out = c.looking.result in
     let place = c.args.lines.place in
     rw (c.in-Some.is) (
-      record {
-        folder = view g.S.System.calls told.0.update.folder.shelf;
-        lines = told.0.lines;
-        teller = told.0.teller;
-      },
-      record {
-        folder = ap (λ (u : _). g.S.System.calls u.folder.shelf.system) told.1
-            ∙ c.looking.ensures.folder;
-        lines = read_out (fault_of ended.result) (fault_of out.ended.result) told.0.lines
-            c.play_answering-ended.result.3 out.beside.lines
-            (ap (λ (e : _). fault_of e.result) (sym c.looking.ensures.ended))
-            (sym c.looking.ensures.lines) told.2;
-      },
-      handed_out g.D.Disk.state _ how before after start ended out.ended c.looking.ensures.ended
-          (plays_as _ _ (lines_retold _ how c.looks_at-update.result (record {
-            folder = view g.S.System.calls c.in-Some.followed.shelf;
-            lines = lines_at place.path.now (g.F.System.calls place.system);
-            teller = starts g.F.System.calls (g.L.Write.contents c.args.log) c.args.telling;
-          })
-          (λ (u : _). watch (reader_path u.folder.shelf) u.folder.types.now u.folder.allows_empty u.every
-          u.within)
-          (λ (u : _). so_far u.left (view g.S.System.calls u.folder.shelf) u.any_refused
-          (looks_known u.count u.folder.report.events.items u.before.items)
-          u.folder.files.known.items)
-          (watch_in how (reader_path c.in-Some.followed.shelf) c.in-Some.followed.types.now
-          c.in-Some.followed.allows_empty)
-          out.any_refused c.looks_at-update.ensures.watch c.looks_at-update.ensures.none
-          (c.args.lines.every - 1) c.args.lines.hand told.0
-          (ap (λ (u : _). u.any_refused) told.1 ∙ sym c.looking.ensures.refused))
-          how (fault_of ended.result) before after start (g.D.Disk.state ended.disk) told.3),
-      ended_out ended out.ended (λ f. EndsLines f how.turns told.0.teller
-          (g.L.Write.contents c.play_answering-ended.result.2)) c.looking.ensures.ended told.4,
+      view g.S.System.calls told.0.update.folder.shelf,
+      ap (λ (u : _). g.S.System.calls u.folder.shelf.system) told.1 ∙ c.looking.ensures.folder,
+      (
+        told.0.lines,
+        (
+          read_out (fault_of ended.result) (fault_of out.ended.result) told.0.lines
+              c.play_answering-ended.result.2 out.beside.lines
+              (ap (λ (e : _). fault_of e.result) (sym c.looking.ensures.ended))
+              (sym c.looking.ensures.lines) told.2,
+          handed_out g.D.Disk.state _ how before after start ended out.ended c.looking.ensures.ended
+              (plays_as _ _ (lines_retold how c.looks_at-update.result
+              (view g.S.System.calls c.in-Some.followed.shelf)
+              (lines_at place.path.now (g.F.System.calls place.system))
+              (λ (u : _). watch (reader_path u.folder.shelf) u.folder.types.now u.folder.allows_empty
+              u.every u.within)
+              (λ (u : _). so_far u.left (view g.S.System.calls u.folder.shelf) u.any_refused
+              u.folder.files.known.items)
+              (watch_in how (reader_path c.in-Some.followed.shelf) c.in-Some.followed.types.now
+              c.in-Some.followed.allows_empty)
+              out.any_refused c.looks_at-update.ensures.watch c.looks_at-update.ensures.none
+              (c.args.lines.every - 1) c.args.lines.hand told.0
+              (ap (λ (u : _). u.any_refused) told.1 ∙ sym c.looking.ensures.refused))
+              how (fault_of ended.result) before after start (g.D.Disk.state ended.disk) told.3),
+        ),
+      ),
     )
 
 pub returns-in-None : goal.returns-in-None
@@ -74,21 +65,20 @@ returns-in-None g c =
     let out = c.unwatched.result in
     let place = c.args.lines.place in
     rw (c.in-None.is) (
-      record { folder = folder_at [] false []; lines = told.0.lines; teller = told.0.teller },
-      record {
-        folder = sym c.unwatched.ensures.folder;
-        lines = read_out (fault_of ended.result) (fault_of out.ended.result) told.0.lines
-            c.play_answering-ended-in-None.result.3 out.beside.lines
-            (ap (λ (e : _). fault_of e.result) (sym c.unwatched.ensures.ended))
-            (sym c.unwatched.ensures.lines) told.2;
-      },
-      handed_out g.D.Disk.state _ how before after start ended out.ended c.unwatched.ensures.ended
-          (plays_as _ _ (lines_alone _ how _ (record {
-            folder = folder_at [] false [];
-            lines = lines_at place.path.now (g.F.System.calls place.system);
-            teller = starts g.F.System.calls (g.L.Write.contents c.args.log) c.args.telling;
-          }) (sym c.unwatched.ensures.refused) (c.args.lines.every - 1) c.args.lines.hand told.0)
-          how (fault_of ended.result) before after start (g.D.Disk.state ended.disk) told.3),
-      ended_out ended out.ended (λ f. EndsLines f how.turns told.0.teller
-          (g.L.Write.contents c.play_answering-ended-in-None.result.2)) c.unwatched.ensures.ended told.4,
+      folder_at [] false [],
+      sym c.unwatched.ensures.folder,
+      (
+        told.0.lines,
+        (
+          read_out (fault_of ended.result) (fault_of out.ended.result) told.0.lines
+              c.play_answering-ended-in-None.result.2 out.beside.lines
+              (ap (λ (e : _). fault_of e.result) (sym c.unwatched.ensures.ended))
+              (sym c.unwatched.ensures.lines) told.2,
+          handed_out g.D.Disk.state _ how before after start ended out.ended c.unwatched.ensures.ended
+              (plays_as _ _ (lines_alone how _ (folder_at [] false [])
+              (lines_at place.path.now (g.F.System.calls place.system))
+              (sym c.unwatched.ensures.refused) (c.args.lines.every - 1) c.args.lines.hand told.0)
+              how (fault_of ended.result) before after start (g.D.Disk.state ended.disk) told.3),
+        ),
+      ),
     )

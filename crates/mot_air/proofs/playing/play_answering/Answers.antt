@@ -1,11 +1,10 @@
 use Rattle.std.proofs.Common.{◌∙◌, ◌-◌, ap, subst, sym}
 use Rattle.mot_air.specs.Inner.Fed.{disk_of, ending_of}
-use Rattle.mot_air.specs.Telling.{EndsLines, EndsReading, lines_at}
-use Rattle.mot_air.proofs.Retold.{answered_retold, fed_out, plays_as, seen, told_out}
+use Rattle.mot_air.specs.Telling.{EndsReading, lines_at}
+use Rattle.mot_air.proofs.Retold.{answered_retold, fed_out, plays_as, seen}
 use Rattle.mot_air.proofs.playing.play_answering.Goals as goal
 use Rattle.mot_line_folder.specs.Spool.{spool_system, spool_view}
 use Rattle.mot_line_folder.specs.Spooling.{GaveLines}
-use Rattle.mot_status.specs.Teller.{teller}
 
 pub returns : goal.returns
 returns g c =
@@ -16,11 +15,10 @@ returns g c =
     let after = g.O.Outlet.writes c.feed_lines-fed.new.outlet in
     let start = g.D.Disk.state c.args.disk in
     let last = c.feed_lines-fed.new.lines in
-    let view = teller g.F.System.calls g.L.Write.contents in
     let see = spool_view g.F.System.calls in
     let made = c.lines_between-lines.ensures in
     let place = c.args.lines.place in (
-      seen last view see,
+      seen last see,
       sym (c.into_parts-spool.ensures.update ∙ c.end_lines-ended.ensures.update),
       subst (λ e. EndsReading e (see last.reader) c.into_calls.result.all)
           (sym c.end_lines-ended.ensures.ended.ending)
@@ -30,17 +28,10 @@ returns g c =
           c.into_parts-spool.ensures.reader))
           c.end_lines-ended.ensures.lines),
       fed_out g.D.Disk.state _ how before after start fed ended c.end_lines-ended.ensures.ended
-          (plays_as _ _ (answered_retold c.lines_between-lines.result last view GaveLines see
-          _ g.U.Facts.known g.U.Update.tells how
-          (c.args.lines.every - 1) c.args.update
+          (plays_as _ _ (answered_retold c.lines_between-lines.result last GaveLines see
+          g.U.Update.tells how (c.args.lines.every - 1) c.args.update
           (lines_at place.path.now (g.F.System.calls place.system)) c.args.lines.hand made.every made.due made.unread made.hand
-          (ap (λ (r : _). r.update) made.reported)
-          (ap (λ (r : _). view r.watch) made.reported ∙ c.new-watch.ensures.starts))
+          (ap (λ (r : _). r.update) made.reported))
           how (ending_of fed) before after start (g.D.Disk.state (disk_of fed))
           c.feed_lines-fed.ensures),
-      told_out g.L.Write.contents fed ended _ c.into_log.result
-          (λ f b. EndsLines f how.turns (view last.reported.watch) b)
-          c.end_lines-ended.ensures.ended
-          (c.into_log.ensures ∙ ap (λ (w : _). w.log.writer) c.into_parts-spool.ensures.watch)
-          c.end_lines-ended.ensures.told,
     )

@@ -25,7 +25,7 @@ loop-line-init g c =
         refl,
         λ input is. (
           is ∙ ap (λ l. bytes_in_hand (rest_of l)) (sym (append-nil input)),
-          more_none state g.T.Tells.hears g.T.Tells.misses server input (input ++ []) c.args.log.now
+          more_none state server input (input ++ [])
               (λ honest. g.met.D.Disk.sound server.disk honest) (ap whole_lines (append-nil input)),
         ),
       );
@@ -60,8 +60,8 @@ loop-line-preserved g c =
             let end = joined input so_far.0 line in (
               c.clear.ensures ∙ ap bytes_in_hand (sym (rest_of-end (xs ++ line)))
                   ∙ ap (λ l. bytes_in_hand (rest_of l)) end,
-              more_one state g.T.Tells.hears g.T.Tells.misses old mid new input xs (input ++ ((so_far.0 ++ line) ++ 10 ∷ []))
-                  (rest_of (xs ++ line)) [] None _ _ _ one.keeps.was_honest
+              more_one state old mid new input xs (input ++ ((so_far.0 ++ line) ++ 10 ∷ []))
+                  (rest_of (xs ++ line)) [] None one.keeps.was_honest
                   (ap whole_lines (sym end) ∙ whole_lines-end (xs ++ line)
                   ∙ ap (λ l. l ++ rest_of (xs ++ line) ∷ [])
                   (whole_lines-within xs line c.in-Some.ensures.first)) (λ e. refl) before.1
@@ -92,8 +92,8 @@ returns-in_err-answer_line-clause-answered g c =
     ap (λ l. l ++ rest) (joined input so_far.0 line)
     ∙ append_assoc input ((so_far.0 ++ line) ++ 10 ∷ []) rest ∙ ap (λ l. input ++ l) taken in
     let lines = lines_at_end (xs ++ line) rest (input ++ c.args.chunk.now) whole in
-    more_one state g.T.Tells.hears g.T.Tells.misses old mid new input xs (input ++ c.args.chunk.now) (rest_of (xs ++ line)) lines.0
-    (Some refusal) _ _ _ one.keeps.was_honest
+    more_one state old mid new input xs (input ++ c.args.chunk.now) (rest_of (xs ++ line)) lines.0
+    (Some refusal) one.keeps.was_honest
     (lines.1 ∙ ap (λ l. l ++ rest_of (xs ++ line) ∷ lines.0)
     (whole_lines-within xs line c.in-Some.ensures.first)) (λ e. absurd (not_none refusal e))
     before.1 (one.answered (rest_of (xs ++ line)) added))
@@ -103,8 +103,8 @@ returns-clause-answered g c = λ input hand.
     let state = g.D.Disk.state in
     let so_far = c.loop-line.invariant.taken in
     let xs : List ℕ = input ++ so_far.0 in
-    more_rest state g.T.Tells.hears g.T.Tells.misses c.args.server.now c.loop-line.server input xs (input ++ c.args.chunk.now)
-    _ _ (ap whole_lines (sym (append_assoc input so_far.0 c.loop-line.rest.now
+    more_rest state c.args.server.now c.loop-line.server input xs (input ++ c.args.chunk.now)
+    (ap whole_lines (sym (append_assoc input so_far.0 c.loop-line.rest.now
     ∙ ap (λ l. input ++ l) so_far.1))
     ∙ whole_lines-within xs c.loop-line.rest.now c.in_default.ensures.none)
     (so_far.2 input hand).1

@@ -1,8 +1,7 @@
 use Rattle.std.proofs.Common.{◌≡◌, ◌++◌, ℕ, List, length, None}
 use Rattle.std.specs.Prelude.{⊤}
 use Rattle.disk_model.specs.Disk.{KeepsLength}
-use Rattle.mot_events.specs.Told.{HearsAll}
-use Rattle.mot_feed_lines.specs.Answering.{AnswersMore}
+use Rattle.mot_feed_lines.specs.Inner.Request.{AnswersMore}
 use Rattle.mot_update.specs.Between.{IsUpdating}
 use Rattle.mot_journal.specs.Image.{Standing}
 use Rattle.mot_lines.specs.Hand.{bytes_in_hand}
@@ -14,7 +13,7 @@ use Rattle.mot_feed_lines.proofs.answering.answer_chunk.Given as goal
 abbrev pub invariant-loop-line : goal.invariant-loop-line
 invariant-loop-line g l =
     let state = g.D.Disk.state in
-    let tells = g.T.Tells in record {
+    record {
       keeps : KeepsLength (state l.initial.server.disk) (state l.server.disk);
       calm : StaysCalm l.initial.server l.server (state l.initial.server.disk)
           (state l.server.disk);
@@ -25,8 +24,7 @@ invariant-loop-line g l =
       taken : (front : List ℕ) × (front ++ l.rest ≡ l.chunk)
           × ((input : List ℕ) → l.initial.intake.hand ≡ bytes_in_hand (rest_of input)
           → (l.intake.hand ≡ bytes_in_hand (rest_of (input ++ front)))
-          × AnswersMore state l.initial.server l.server input (input ++ front) None
-          (HearsAll tells.hears tells.misses) l.initial.log l.log);
+          × AnswersMore state l.initial.server l.server input (input ++ front) None);
     }
 
 abbrev pub decreases-loop-line : goal.decreases-loop-line

@@ -1,12 +1,11 @@
-use Rattle.std.proofs.Common.{◌≡◌, ◌∙◌, ◌||◌, ◌+◌, ℕ, Bool, true, false, not, Option}
-use Rattle.std.proofs.Common.{None, [], Err, Ok, Result, min}
-use Rattle.std.specs.Prelude.{OnOk}
+use Rattle.std.proofs.Common.{◌≡◌, ◌∙◌, ◌||◌, ℕ, Bool, true, false, not, Option}
+use Rattle.std.proofs.Common.{None, []}
 use Rattle.std.proofs.Common.{ap, refl, sym}
 use Rattle.disk_model.specs.Disk.{State}
 use Rattle.disk_model.proofs.Laws.{unchanged_none}
 use Rattle.mot_folder.specs.declared.report.Report.{Report}
 use Rattle.mot_folder.specs.Looked.{HasLookedAtFolder, LooksSoFar, TellsWatch, Watch, is_look_due}
-use Rattle.mot_folder.specs.Looked.{known_after, no_look, one_look, packets_left}
+use Rattle.mot_folder.specs.Looked.{no_look, one_look, packets_left}
 use Rattle.mot_folder.specs.Looked.{packets_left_behind, so_far}
 use Rattle.mot_folder.specs.Looked.{watch}
 use Rattle.mot_folder.proofs.looking.LooksUpdate.update.Goals as goal
@@ -19,9 +18,8 @@ use Rattle.mot_shelf.specs.Given.{nothing}
 use Rattle.mot_shelf.specs.Gives.{GaveSo}
 use Rattle.mot_shelf.specs.Reader.{view}
 use Rattle.mot_update.specs.Between.{IsUpdating, may_look}
-use Rattle.mot_update.specs.Watching.{looks_known}
 use Rattle.mot_update.specs.declared.moment.Moment.{Moment}
-use Rattle.mot_update.proofs.Laws.{has_read, not_none}
+use Rattle.mot_update.proofs.Laws.{has_read}
 
 twice_not : (b : Bool) → b ≡ not (not b)
 twice_not true = refl
@@ -30,15 +28,11 @@ twice_not false = refl
 -- looks so far, and one more
 so_is : (before behind : LooksSoFar) (report : Report) {left : ℕ} → behind.left ≡ left
     → behind.refused ≡ (before.refused || report.any_refused)
-    → behind.known ≡ known_after before.known report.events.items
-    → behind ≡ so_far left behind.folder (before.refused || not (not report.any_refused))
-    (known_after before.known report.events.items) behind.files
-so_is before behind report {left} paced kept told =
-    ap (λ n. so_far n behind.folder behind.refused behind.known behind.files) paced
-    ∙ ap (λ (b : Bool). so_far left behind.folder b behind.known behind.files)
+    → behind ≡ so_far left behind.folder (before.refused || not (not report.any_refused)) behind.files
+so_is before behind report {left} paced kept =
+    ap (λ n. so_far n behind.folder behind.refused behind.files) paced
+    ∙ ap (λ (b : Bool). so_far left behind.folder b behind.files)
     (kept ∙ ap (λ (b : Bool). before.refused || b) (twice_not report.any_refused))
-    ∙ ap (λ k. so_far left behind.folder (before.refused || not (not report.any_refused)) k
-    behind.files) told
 
 -- a look runs commands, and tells of them
 updating_by : {D : Type 0} (old new : ServerView D) (start now : State) (s : Standing)
@@ -47,13 +41,11 @@ updating_by : {D : Type 0} (old new : ServerView D) (start now : State) (s : Sta
     → after ≡ w → is_look_due before.left (may_look moment) ≡ true
     → behind.left ≡ packets_left report.any_left w.every
     → behind.refused ≡ (before.refused || report.any_refused)
-    → behind.known ≡ known_after before.known report.events.items
-    → (fault ≡ None → report.any_left_out ≡ false)
     → GaveSo before.folder behind.folder (λ given. HasLookedAtFolder old new start now s w.types
     w.allows w.path given report fault before.files behind.files)
     → IsUpdating (TellsWatch w after moment before behind) old new start now s fault
 updating_by old new start now s w after moment before behind report fault same due paced
-    kept told whole gave =
+    kept gave =
     let looked = gave.2 in
     record {
       commands = looked.commands;
@@ -62,15 +54,9 @@ updating_by old new start now s w after moment before behind report fault same d
       told = (
         same,
         one_look due report.any_left gave.0 looked.names looked.wanted (not report.any_refused)
-            looked.entries report.events.items behind.files (λ none. looked.told (whole none))
-            gave.1 (so_is before behind report paced kept told) looked.look,
+            looked.entries behind.files gave.1 (so_is before behind report paced kept) looked.look,
       );
     }
-
--- what holds of a success holds where there is no fault
-whole_if : (result : Result Unit Refusal) (P : Type 0) → OnOk result P → fault_of result ≡ None → P
-whole_if (Ok u) P whole none = whole
-whole_if (Err refusal) P whole none = absurd (not_none refusal none)
 
 -- whether a look is due
 due_is : (left : ℕ) (moment : Moment) (may due : Bool) → may ≡ may_look moment
@@ -106,8 +92,7 @@ returns-then-not-look_is_due-clause-run g c = λ s holds honest.
         no_look (due_is c.args.self.now.left c.args.moment
             c.may_look.result false c.may_look.ensures c.if-not-look_is_due.ensures.due)
             (ap (λ n. so_far n (view g.S.System.calls c.args.self.now.folder.shelf) c.args.self.now.any_refused
-            (looks_known c.args.self.now.count c.args.self.now.folder.report.events.items
-            c.args.self.now.before.items) c.args.self.now.folder.files.known.items)
+            c.args.self.now.folder.files.known.items)
             (c.if-not-look_is_due.ensures.counts
             ∙ ap (λ b. packets_left_behind c.args.self.now.within b c.args.self.now.left)
             c.may_look.ensures))
@@ -123,8 +108,7 @@ returns-clause-run g c = λ s holds honest.
     let looked = c.look_at_folder-result.ensures.looked s holds honest in
     updating_by old new (state old.disk) (state new.disk) s _ _ c.args.moment
     (so_far c.args.self.now.left (view g.S.System.calls c.args.self.now.folder.shelf) c.args.self.now.any_refused
-    (looks_known c.args.self.now.count c.args.self.now.folder.report.events.items
-    c.args.self.now.before.items) c.args.self.now.folder.files.known.items) _
+    c.args.self.now.folder.files.known.items) _
     c.look_at_folder-result.new.folder.report
     (fault_of c.look_at_folder-result.result)
     (ap (λ p. watch p c.args.self.now.folder.types.now c.args.self.now.folder.allows_empty
@@ -134,11 +118,6 @@ returns-clause-run g c = λ s holds honest.
     c.if-not-look_is_due.ensures.due)
     c.packets_left-self.ensures
     refl
-    (ap (λ n. looks_known n c.look_at_folder-result.new.folder.report.events.items
-    c.turn_over-was_listed.new.before.items) c.saturating_add-self.ensures
-    ∙ ap (looks_known (min (c.args.self.now.count + 1) 18446744073709551615)
-    c.look_at_folder-result.new.folder.report.events.items) c.turn_over-was_listed.ensures.before)
-    (whole_if c.look_at_folder-result.result _ c.look_at_folder-result.ensures.whole)
     looked
 
 pub returns-clause-looked : goal.returns-clause-looked
