@@ -17,8 +17,6 @@ import prose
 
 top = pathlib.Path(__file__).resolve().parent.parent
 README_LINES = 100
-# Pages on which a sentence may stand again: the list of changes, and tables that a tool makes.
-REPEATING = ("CHANGELOG.md", "docs/believed.md")
 # The crates that are no part of the product.
 TESTS = ("mot_memory_files", "mot_tests", "simulate", "public_names")
 FOLDERS = ("docs", "tools", "tests", "campaigns", "bench", "packaging", "examples")
@@ -54,6 +52,15 @@ def paths(page):
     for path in re.findall(r"`((?:mot_\w+|disk_\w+|motcar)/(?:src|specs|proofs)/[\w./-]*\w)`", page.read_text()):
         if not (top / "crates" / path).exists():
             wrong.append(f"{page.name}: no crates/{path}")
+    for path in re.findall(r"`([\w/]+\.(?:antt|rt))`", page.read_text()):
+        if not any(f"/{it}".endswith(f"/{path}") for it in sources()):
+            wrong.append(f"{page.name}: no crate has {path}")
+
+
+@functools.cache
+def sources():
+    """The files of all crates."""
+    return [str(it) for it in top.glob("crates/*/**/*.*t")]
 
 
 def functions(crate):
@@ -176,9 +183,9 @@ def rows_of_crates():
 
 
 def repeats():
-    """Where twelve words in a row stand on two pages."""
+    """Where eight words of a sentence in a row stand on two pages."""
     seen, found = {}, {}
-    for page in (it for it in PAGES if str(it.relative_to(top)) not in REPEATING):
+    for page in PAGES:
         name = str(page.relative_to(top))
         for number, run in prose.runs(page.read_text()):
             other, at = seen.setdefault(run, (name, number))

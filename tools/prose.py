@@ -8,7 +8,7 @@ WORDS_OF_A_SENTENCE = 35
 LINES_OF_A_PARAGRAPH = 8
 WORDS_OF_A_CELL = 60
 WORDS_OF_A_TITLE = 4
-WORDS_OF_A_REPEAT = 12
+WORDS_OF_A_REPEAT = 8
 
 # Each with what to write instead. A pattern with `^` is looked for at the beginning of a sentence, and after `;`;
 STUMBLES = [
@@ -79,16 +79,21 @@ def long_cells(text):
     return [(number, words_in(it)) for number, it in cells if words_in(it) > WORDS_OF_A_CELL and not is_list_of_code(it)]
 
 
+def is_name(word):
+    """Code, a number, or a word of capitals, as ETSI."""
+    return bool(re.search(r"[\x00\d]", word)) or (len(word) > 1 and word.isupper())
+
+
 def runs(text):
-    """Each run of so many words within a sentence as would be a repeat on another page, with its line."""
+    """Each run of so many words within a sentence as would be a repeat on another page, with its line. A run that is
+    names by more than half, as a standard's or those of functions, is no sentence."""
     for number, lines, _ in units(text):
         for sentence in sentences(plain("\n".join(lines))):
-            words = [it for it in (re.sub(r"[^\w\x00]", "", it).lower() for it in sentence.split()) if it]
+            words = [it for it in (re.sub(r"[^\w\x00]", "", it) for it in sentence.split()) if it]
             for at in range(len(words) - WORDS_OF_A_REPEAT + 1):
                 run = words[at:at + WORDS_OF_A_REPEAT]
-                # (names of functions one after the other are no sentence)
-                if not is_list_of_code(" ".join(run)):
-                    yield number, " ".join(run)
+                if 2 * sum(map(is_name, run)) <= len(run):
+                    yield number, " ".join(run).lower()
 
 
 def faults(name, text):
