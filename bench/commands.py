@@ -8,13 +8,11 @@ For 1, 40 and 250 objects, on disks with slack in their slots and on full ones, 
 `replace NAME 2 3 image/png HEX` of 1,024 bytes to `motcar serve`, to the C program, which makes the same writes and
 syncs and has to leave the same replies and the same disk, and the same bodies to SQLite, as one update of one row
 each, with its default journal and with a write-ahead log (both with synchronous=FULL). Prints the medians of the
-rates, the medians of the rounds' own ratios, above 1 where the program is the faster one, and where valgrind is there
-how many instructions a command takes.
+rates, and the medians of the rounds' own ratios, above 1 where the program is the faster one.
 """
 import os
 import pathlib
 import random
-import re
 import shutil
 import sqlite3
 import statistics
@@ -80,19 +78,6 @@ class Carousel:
         rows.close()
         return took
 
-    def instructions(self, *words):
-        """How many a command takes: of two runs, what the second half of the longer one costs."""
-        counted = []
-        for count in (LINES // 10, LINES // 5):
-            self.write_lines(count)
-            shutil.copy(self.made, self.disk)
-            counting = ["valgrind", "--tool=callgrind", "--callgrind-out-file=/dev/null", *words, self.disk]
-            with open(self.given, "rb") as lines:
-                ended = subprocess.run(counting, stdin=lines, capture_output=True, text=True)
-            counted.append(int(re.search(r"Collected : (\d+)", ended.stderr)[1]))
-        self.write_lines(LINES)
-        return (counted[1] - counted[0]) / (LINES // 10)
-
 
 def measure(carousel, reference, rounds):
     """The times of each in each round."""
@@ -109,18 +94,16 @@ def measure(carousel, reference, rounds):
     for number in range(rounds):
         for name in list(runs)[:: 1 if number % 2 else -1]:
             took[name].append(runs[name]())
-    counted = {"motcar serve": serve, "C, the same writes and syncs": commands} if shutil.which("valgrind") else {}
-    return took, {name: carousel.instructions(*words) for name, words in counted.items()}
+    return took
 
 
-def print_rates(took, counted):
-    """The median rates, the medians and quartiles of the rounds' own ratios, and the instructions."""
+def print_rates(took):
+    """The median rates, and the medians and quartiles of the rounds' own ratios."""
     ours = took["motcar serve"]
     for name, times in took.items():
         low, ratio, high = statistics.quantiles([theirs / mine for theirs, mine in zip(times, ours)], n=4)
         rate = LINES / statistics.median(times)
-        taken = f"{counted[name]:15,.0f}" if name in counted else ""
-        print(f"{name:30} {rate:10,.0f} {ratio:16.2f}  {low:.2f} to {high:.2f} {taken}")
+        print(f"{name:30} {rate:10,.0f} {ratio:16.2f}  {low:.2f} to {high:.2f}")
 
 
 def main():
@@ -133,8 +116,8 @@ def main():
         print(f"commands of {BODY} bytes on {kind.stdout.strip()}")
         for objects, most in DISKS:
             title = f"{objects} objects of at most {most}"
-            print(f"\n{title:30} commands/s   motcar's ratio  quartiles      instructions")
-            print_rates(*measure(Carousel(room, objects, most, choices), reference, given.rounds))
+            print(f"\n{title:30} commands/s   motcar's ratio  quartiles")
+            print_rates(measure(Carousel(room, objects, most, choices), reference, given.rounds))
 
 
 main()

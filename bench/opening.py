@@ -5,13 +5,11 @@
 
 Each of 101 rounds runs, from their start to their end: `motcar check` on disks of 250 objects, whose bodies have 1
 byte and 262,144; the C program, which reads the same bytes of the first of them, with the syncs of an opening and
-without; and `sqlite3`, which prints as many rows of a table. Prints the medians of their times, the median of the
-rounds' own ratios to `motcar check` on the first disk, and where valgrind is there how many instructions each takes.
+without; and `sqlite3`, which prints as many rows of a table. Prints the medians of their times, and of the
+rounds' own ratios to `motcar check` on the first disk.
 """
 import os
 import random
-import re
-import shutil
 import sqlite3
 import statistics
 import subprocess
@@ -33,15 +31,6 @@ def seconds(command):
     if status:
         raise SystemExit(f"{command} ended with {status}")
     return took
-
-
-def instructions(command):
-    """How many it takes, or nothing where there is no valgrind."""
-    if not shutil.which("valgrind"):
-        return None
-    counting = ["valgrind", "--tool=callgrind", "--callgrind-out-file=/dev/null", *command]
-    ended = subprocess.run(counting, capture_output=True, text=True)
-    return int(re.search(r"Collected : (\d+)", ended.stderr)[1])
 
 
 def fill(room, size, choices):
@@ -87,11 +76,10 @@ def main():
             for name in list(runs)[:: 1 if number % 2 else -1]:
                 took[name].append(seconds(runs[name]))
         first = took["motcar check, bodies of 1 byte"]
-        print(f"{'from start to end':40}    ms   motcar's time to it   instructions")
+        print(f"{'from start to end':40}    ms   motcar's time to it")
         for name, times in took.items():
             ratio = statistics.median(ours / theirs for ours, theirs in zip(first, times))
-            taken = instructions(runs[name]) or 0
-            print(f"{name:40} {statistics.median(times) * 1_000:5.2f} {ratio:21.2f} {taken:14,}")
+            print(f"{name:40} {statistics.median(times) * 1_000:5.2f} {ratio:21.2f}")
 
 
 main()
