@@ -26,7 +26,7 @@ class ByHand(AirCase):
         self.expect("a file of its name replaces it, one of another does not",
                     (0, b"done object 4 directory 5\ndone object 6 directory 7\n", b""),
                     self.motcar("put", self.place, "page.html", "logo.png"))
-        self.expect("so they are listed", (0, b"carousel 0 7 7 2\nobject 6 1 2 3 70 logo.png image/png\n"
+        self.expect("so they are listed", (0, b"carousel 0 7 7 2\nobject 6 1 2 3 779 logo.png image/png\n"
                                               b"object 4 0 1 2 6 page.html text/html\n", b""), self.listed())
         self.expect("as `serve` lists them", self.listed(), self.serve(self.place, "list\n"))
 

@@ -9,6 +9,31 @@ from . import dab, disk
 from .air import AirCase, needs_strace, samples, send, traced, until
 from .program import run
 
+# name, type and help of each family, in the order of the text
+FAMILIES = """\
+motcar_packets_total counter Packets that were taken.
+motcar_turns_total counter Turns that have ended.
+motcar_looks_total counter Looks at the folder.
+motcar_changes_total counter Commands that were done.
+motcar_refusals_total counter Refusals that were logged.
+motcar_line_refusals_total counter Refusals of lines of files, and of these files.
+motcar_mass_withdrawals_total counter How often more than half of the objects went.
+motcar_objects gauge Objects of the carousel.
+motcar_directory_id gauge Transport id of the directory.
+motcar_directory_checksum gauge Checksum of the bytes of the directory.
+motcar_turn_packets gauge Packets of a turn.
+motcar_turn_bytes gauge Bytes of the packets of a turn.
+motcar_free_bytes gauge Bytes that are free for bodies.
+motcar_gap_bytes gauge The longest body that has room.
+motcar_objects_limit gauge Objects that the disk holds.
+motcar_data_bytes gauge Bytes that the disk has for bodies.
+motcar_last_change_seconds gauge Seconds from 1970 to the last change; 0 if there was none.
+motcar_folder_listed gauge Whether the folder was listed.
+motcar_info gauge The version of the program.
+motcar_refused_total counter Refusals that were logged, by their reasons.
+motcar_file_refused gauge A file that the last look refused, and why.
+motcar_object gauge An object on air, and how many bytes it has."""
+
 
 class Status(AirCase):
     """A folder of which one file is taken and four are refused."""
@@ -56,6 +81,13 @@ class Samples(Status):
         self.expect("with help and a kind for each family", [], others)
         self.expect("for any reader", 0o644, self.path.stat().st_mode & 0o777)
         self.expect("and nothing is left beside it", False, (self.room / "status.new").exists())
+
+    def test_what_the_families_are(self):
+        """Each family has its name, its type and its help, in this order; samples come after it alone."""
+        self.shown()
+        found = re.findall(r"# HELP (\w+) (.*)\n# TYPE (\w+) (\w+)\n", self.path.read_text())
+        self.expect("the families", FAMILIES.splitlines(), [f"{name} {kind} {words}" for name, words, _, kind in found])
+        self.expect("a name in both lines", [it[0] for it in found], [it[2] for it in found])
 
     def test_the_log_beside_it(self):
         status, told = self.shown()

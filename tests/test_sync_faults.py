@@ -51,14 +51,12 @@ class Faults(AirCase):
     def test_why_a_file_is_not_read(self):
         disk, folder, there = self.three()
         words = [self.program, "sync", "--at-once", disk, folder]
-        calls = [("openat", error, 1) for error in ERRORS] + [("statx", error, 3) for error in (*ERRORS, "ENOENT")]
+        calls = [("openat", error, 1) for error in ERRORS]
+        calls += [("statx", error, number) for number in (2, 3) for error in (*ERRORS, "ENOENT")]
         for call, error, number in [*calls, ("read", "EIO", 1), ("read", "ESTALE", 1)]:
             ended = run(traced(words, f"inject={call}:error={error}:when={number}", paths=[folder / "1.png"]))
             wanted = 1, f"read 1.png refused 22 ReadFault: {words_of(error)}\n".encode(), b""
             self.expect(f"why a file is not read: {call}, {error}", wanted, ended)
-        for error in (*ERRORS, "ENOENT"):
-            ended = run(traced(words, f"inject=statx:error={error}:when=2", paths=[folder / "1.png"]))
-            self.expect(f"a file without a stamp is read: {error}", (0, b"", b""), ended)
         self.expect("withdraws nothing", there, self.objects(disk))
 
     def rewritten(self, folder, there, text):
@@ -118,12 +116,12 @@ class Races(AirCase):
         self.expect(row, (1, b"read 1.png changed, next look\n", self.there), (status, told, self.objects(self.place)))
 
     def opening(self, change):
-        """The file is looked up to be listed, for its stamp, and then to be read; its opening waits."""
-        return self.look_with(change, "trace=statx,openat", f"inject=openat:{DELAY}", calls=3)
+        """The file is looked up to be listed, and then to be read; its opening waits."""
+        return self.look_with(change, "trace=statx,openat", f"inject=openat:{DELAY}", calls=2)
 
     def reading(self, change):
-        """All bytes were read; the look at the file behind that waits, which is the fifth."""
-        return self.look_with(change, "trace=read,statx", f"inject=statx:{DELAY}:when=5", calls=5)
+        """All bytes were read; the look at the file after that waits, which is the fourth."""
+        return self.look_with(change, "trace=read,statx", f"inject=statx:{DELAY}:when=4", calls=4)
 
     def test_a_link_that_takes_its_place(self):
         secret, link = self.room / "secret", self.room / "link"
@@ -140,9 +138,9 @@ class Races(AirCase):
     def test_a_pipe_that_takes_its_place(self):
         pipe = self.room / "pipe"
         os.mkfifo(pipe)
-        # It was listed, and has its stamp; the look-up before its opening waits.
-        waits = "trace=statx", f"inject=statx:{DELAY}:when=3"
-        ended = self.look_with(lambda: os.rename(pipe, self.path), *waits, calls=2)
+        # It was listed; the look-up before its opening waits.
+        waits = "trace=statx", f"inject=statx:{DELAY}:when=2"
+        ended = self.look_with(lambda: os.rename(pipe, self.path), *waits, calls=1)
         self.expect_changed("a pipe that takes a file's place", ended)
 
     def test_a_file_that_changes(self):

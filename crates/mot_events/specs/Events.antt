@@ -1,8 +1,6 @@
 -- The words of events, what a look met of a name, and whether it went by the folder's list.
-use Rattle.std.specs.Prelude.{ℕ, Bool, true, false, not, List, [], codes}
+use Rattle.std.specs.Prelude.{ℕ, Bool, true, false, not, List, codes}
 use Rattle.std.specs.List.{list_any}
-use Rattle.mot_events.specs.declared.event.Asked.{Asked}
-use Rattle.mot_events.specs.declared.event.Asked.TheVariants as asked
 use Rattle.mot_events.specs.declared.event.Deed.{Deed}
 use Rattle.mot_events.specs.declared.event.Deed.TheVariants as deed
 use Rattle.mot_events.specs.declared.event.LookEvent.{LookEvent}
@@ -24,18 +22,6 @@ skip_word skip.Folder = codes "folder"
 skip_word skip.Link = codes "link"
 skip_word skip.Special = codes "special"
 skip_word skip.NotUtf8 = codes "not UTF-8"
-
--- the first word of a line, with a space after it
-abbrev pub asked_word : Asked → List ℕ
-asked_word asked.Put = codes "put "
-asked_word asked.Replace = codes "replace "
-asked_word asked.Withdraw = codes "withdraw "
-asked_word asked.Period = codes "period "
-asked_word asked.List = codes "list "
-asked_word asked.Next = codes "next "
-asked_word asked.Turn = codes "turn "
-asked_word asked.Raw = codes "raw "
-asked_word asked.Other = []
 
 -- what a look met of this name
 abbrev pub event_of : List ℕ → Met → LookEvent

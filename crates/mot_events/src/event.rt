@@ -1,8 +1,9 @@
 //! What happened, as data. An event is made once, where what it says is known.
 ghost use Rattle.std.specs.Prelude.{◌≡◌};
-ghost use Rattle.mot_events.specs.Events.{asked_word, deed_word, is_look, skip_word};
+ghost use Rattle.mot_events.specs.Events.{deed_word, is_look, skip_word};
 
 use crate::words::Words;
+use mot_lines::Verb;
 use mot_numbers::Refusal;
 use mot_objects::Done;
 use mot_suffixes::OtherImage;
@@ -155,48 +156,6 @@ impl LookEvent {
     }
 }
 
-/// The first word of a line of a file.
-#[derive(Clone, Copy, PartialEq, Eq)]
-pub enum Asked {
-    /// Puts an object.
-    Put,
-    /// Replaces an object.
-    Replace,
-    /// Withdraws an object.
-    Withdraw,
-    /// Sets the period.
-    Period,
-    /// Asks for the carousel.
-    List,
-    /// Asks for packets.
-    Next,
-    /// Asks for a turn.
-    Turn,
-    /// Asks for the packets of a group.
-    Raw,
-    /// It is no command.
-    Other,
-}
-
-impl Asked {
-    /// The word and a space, or nothing.
-    pub fn word(self) -> &'static str
-        ensures { result.now ≡ asked_word self }
-    {
-        match self {
-            Asked::Put => "put ",
-            Asked::Replace => "replace ",
-            Asked::Withdraw => "withdraw ",
-            Asked::Period => "period ",
-            Asked::List => "list ",
-            Asked::Next => "next ",
-            Asked::Turn => "turn ",
-            Asked::Raw => "raw ",
-            Asked::Other => "",
-        }
-    }
-}
-
 /// A line of the reply to a line of a file.
 #[derive(Clone, Copy)]
 pub enum Reply<'a> {
@@ -215,18 +174,14 @@ pub enum Event<'a> {
     Look(&'a LookEvent),
     /// A look ended.
     Looked,
-    /// A packet was taken.
-    Packet,
-    /// A turn ended.
-    Turn,
     /// Of files of lines, the one of this name is left or is the last, or the folder of this path
     /// can't be read.
     LinesRefused(&'a [u8], Refusal, &'a Why),
     /// The folder of lines of this path can be read again.
     LinesReadable(&'a [u8]),
-    /// The line of this number of the file of this name, with this command about this subject, got
-    /// this line of a reply.
-    Answered(&'a [u8], u64, Asked, &'a [u8], Reply<'a>),
+    /// The line of this number of the file of this name, with this command, if it is one, about this
+    /// subject, got this line of a reply.
+    Answered(&'a [u8], u64, Option<Verb>, &'a [u8], Reply<'a>),
     /// Playing began: the program's version, the disk's path, its objects, and the packets of a
     /// turn, unless there was no memory to count these.
     Began(&'a str, &'a [u8], u64, Option<u64>),

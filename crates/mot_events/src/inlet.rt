@@ -15,7 +15,7 @@ pub trait Inlet {
     ghost gave: { View → View → List ℕ → Type 0 };
 
     /// The next bytes, and how many they are: 0 where there are none now. They are of one file:
-    /// `count` begins anew with it. What is wrong with a file is told.
+    /// `count` begins again with it. What is wrong with a file is told.
     fn read<T: Tells>(&mut self, room: &mut [u8], count: &mut LineCount, log: &mut T) -> usize
         ensures fits { result ≤ length room.new }
         ensures gave { gave (view self.old) (view self.new) (take result room.new) };

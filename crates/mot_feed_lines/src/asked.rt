@@ -1,65 +1,24 @@
 //! What a line asks for, as the log tells it.
-use memchr::memchr;
-use mot_events::Asked;
+use mot_lines::{Verb, cut_word};
 
 /// The most bytes of a subject that are told.
 const SUBJECT: usize = 255;
 
-/// How many bytes of a letter may come behind its first one.
+/// How many bytes of a letter may come after its first one.
 const WITHIN: usize = 3;
 
-/// The command of a line, and what it is about: nothing, if that is not told.
-pub(crate) fn command_of(line: &[u8]) -> (Asked, &[u8]) {
+/// The command of a line, if it is one, and what it is about: nothing, if that is not told.
+pub(crate) fn command_of(line: &[u8]) -> (Option<Verb>, &[u8]) {
     let (word, rest) = cut_word(line);
-    let asked = asked_of(word);
-    (asked, subject_of(asked, rest))
+    let verb = Verb::of(word);
+    (verb, subject_of(verb, rest))
 }
 
-/// What the command is about, of the words behind it.
-fn subject_of(asked: Asked, rest: &[u8]) -> &[u8] {
-    if !has_subject(asked) {
-        return b"";
-    }
-    let (word, _) = cut_word(rest);
-    front_of(word)
-}
-
-/// The first word of a line, and what follows the space behind it.
-fn cut_word(line: &[u8]) -> (&[u8], &[u8]) {
-    match memchr(b' ', line) {
-        Some(at) => (&line[..at], &line[at + 1..]),
-        None => (line, b""),
-    }
-}
-
-/// The command that a first word is.
-fn asked_of(word: &[u8]) -> Asked {
-    if word == b"put".as_slice() {
-        Asked::Put
-    } else if word == b"replace".as_slice() {
-        Asked::Replace
-    } else if word == b"withdraw".as_slice() {
-        Asked::Withdraw
-    } else if word == b"period".as_slice() {
-        Asked::Period
-    } else if word == b"list".as_slice() {
-        Asked::List
-    } else if word == b"next".as_slice() {
-        Asked::Next
-    } else if word == b"turn".as_slice() {
-        Asked::Turn
-    } else if word == b"raw".as_slice() {
-        Asked::Raw
-    } else {
-        Asked::Other
-    }
-}
-
-/// Whether the second word of such a line says what it is about.
-fn has_subject(asked: Asked) -> bool {
-    match asked {
-        Asked::Put | Asked::Replace | Asked::Withdraw | Asked::Period => true,
-        _ => false,
+/// What the command is about, of the words after it.
+fn subject_of(verb: Option<Verb>, rest: Option<&[u8]>) -> &[u8] {
+    match (verb, rest) {
+        (Some(verb), Some(rest)) if verb.has_subject() => front_of(cut_word(rest).0),
+        _ => b"",
     }
 }
 

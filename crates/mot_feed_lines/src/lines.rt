@@ -83,7 +83,7 @@ impl<R: Inlet + Drop, U: Update + Facts + Drop, T: Watch + Drop> Lines<R, U, T> 
 }
 
 impl<R: Inlet + Drop, U: Update + Facts + Drop, T: Watch + Drop> Update for Lines<R, U, T> {
-    // What the other update tells; and, where a read was due, what the lines do behind it.
+    // What the other update tells; and, where a read was due, what the lines do after it.
     ghost tells = { λ old new moment. TellsOnTime R.gave
         old.between new.between old.left new.left old.intake.hand new.intake.hand
         (R.view old.reader) (R.view new.reader)

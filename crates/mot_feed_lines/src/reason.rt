@@ -1,7 +1,6 @@
 //! Why a line is refused, beside the number of the refusal.
-use crate::asked::command_of;
-use mot_events::{Asked, Why};
-use mot_lines::Line;
+use mot_events::Why;
+use mot_lines::{Line, Verb, cut_word};
 use mot_numbers::Refusal;
 
 /// The refusal of a line that asks for nothing here: it was refused as it was read, or it asks for
@@ -27,30 +26,15 @@ fn why_in(line: &[u8]) -> Why {
     if ends_with_return(line) {
         return Why::Return;
     }
-    let (asked, _) = command_of(line);
-    why_for(asked, word_count(line))
-}
-
-/// Why a line of so many words is wrong that asks for this.
-fn why_for(asked: Asked, count: u64) -> Why {
-    let wanted = words_asked(asked);
-    if wanted == 0 {
-        Why::NoCommand
-    } else if count == wanted {
+    let (word, _) = cut_word(line);
+    let Some(verb) = Verb::of(word) else {
+        return Why::NoCommand;
+    };
+    let (count, wanted) = (word_count(line), verb.word_count());
+    if count == wanted {
         Why::Unsaid
     } else {
         Why::WordCount(count, wanted)
-    }
-}
-
-/// How many words a command has, its first among them; 0 for what is no command.
-fn words_asked(asked: Asked) -> u64 {
-    match asked {
-        Asked::Put | Asked::Replace => 6,
-        Asked::Raw => 4,
-        Asked::Withdraw | Asked::Period | Asked::Next => 2,
-        Asked::List | Asked::Turn => 1,
-        Asked::Other => 0,
     }
 }
 

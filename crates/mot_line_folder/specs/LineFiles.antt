@@ -1,7 +1,7 @@
 -- Which file is taken for one of lines, and whether it still has its name.
 use Rattle.std.specs.Prelude.{◌≡◌, ◌≢◌, ◌≤◌, ◌⊎◌, ◌↔◌, ◌||◌, ℕ, Bool, true, false, IsTrue, nat_eq, if◌then◌else◌, List}
 use Rattle.std.specs.Prelude.{[], ◌∷◌, ◌++◌, Result, Ok, Err, Option, None, Some, codes, suc, take}
-use Rattle.std.specs.Prelude.{◌-◌, All, IsUtf8, drop, get_or, length}
+use Rattle.std.specs.Prelude.{◌-◌, All, IsUtf8, drop, get_or, is_some, length}
 use Rattle.std.specs.Str.{str_eq_ignore_ascii_case}
 use Rattle.mot_files.specs.Call.{Call, closed, looked, looked_at, opened, peeked, removed}
 use Rattle.mot_files.specs.Reading.{IsSame}
@@ -14,6 +14,7 @@ use Rattle.mot_files.specs.declared.system.Seen.{Seen}
 use Rattle.mot_line_folder.specs.declared.line_file.Found.{Found}
 use Rattle.mot_line_folder.specs.declared.line_file.Found.TheVariants.{Gone, Left, Lines}
 use Rattle.mot_line_folder.specs.declared.said.Stamp.{Stamp}
+use Rattle.mot_lines.specs.Verb.{verb_of}
 use Rattle.mot_numbers.specs.declared.refusal.Refusal.{Refusal}
 use Rattle.mot_numbers.specs.declared.refusal.Refusal.TheVariants.{BadLine, ReadFault}
 use Rattle.mot_line_folder.specs.declared.line_file.Reason.{Reason}
@@ -47,16 +48,9 @@ abbrev pub word_len : List ℕ → ℕ
 word_len [] = 0
 word_len (x ∷ xs) = (if nat_eq x 32 || nat_eq x 10 then 0 else suc (word_len xs))
 
--- the first words of lines
-abbrev pub IsWord : List ℕ → Type 0
-IsWord word = (((word ≡ codes "put") ⊎ (word ≡ codes "replace"))
-    ⊎ ((word ≡ codes "withdraw") ⊎ (word ≡ codes "period")))
-    ⊎ (((word ≡ codes "list") ⊎ (word ≡ codes "next"))
-    ⊎ ((word ≡ codes "turn") ⊎ (word ≡ codes "raw")))
-
 -- the first bytes of a file of lines: none, or those of a first word
 abbrev pub Begins : List ℕ → Type 0
-Begins start = (start ≡ []) ⊎ IsWord (take (word_len start) start)
+Begins start = (start ≡ []) ⊎ IsTrue (is_some (verb_of (take (word_len start) start)))
 
 -- so many first bytes of a file of this length tell its first word: nine, which are one more than
 -- the longest word has, or all

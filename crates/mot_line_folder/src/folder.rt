@@ -46,6 +46,6 @@ pub struct LineFolder<'a, S: System + Drop> {
     pub place: LinePlace<'a, S>,
     /// What has come of the next line.
     pub hand: Hand,
-    /// Behind how many packets it is read once; 0 counts as 1.
+    /// After how many packets it is read once; 0 counts as 1.
     pub every: u32,
 }

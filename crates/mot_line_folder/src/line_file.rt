@@ -1,12 +1,13 @@
 //! A file of lines, and what stands at a name that should be one.
 ghost use Rattle.std.specs.Prelude.{◌≡◌, ◌≤◌, ◌⊎◌, ◌↔◌, IfOk, IsTrue, length, string_bytes};
 ghost use Rattle.mot_line_folder.specs.LineFiles.{Begins, IsFound, IsLookedInto, IsNamed, IsWholeFront};
-ghost use Rattle.mot_line_folder.specs.LineFiles.{IsWord, Removes, Stamps, TakesAway, fault_found};
+ghost use Rattle.mot_line_folder.specs.LineFiles.{Removes, Stamps, TakesAway, fault_found};
 ghost use Rattle.mot_line_folder.specs.LineFiles.{fault_named, unless_gone, word_len};
 ghost use Rattle.mot_line_folder.specs.LineReads.{ReadsLines};
 
 use crate::said::Stamp;
 use mot_files::{Fault, Handle, How, Seen, System, is_regular, is_same};
+use mot_lines::Verb;
 
 /// A byte more than the longest first word of lines has.
 const LONGEST: usize = 9;
@@ -229,7 +230,7 @@ fn is_whole_front(count: usize, len: u64) -> bool
 fn begins(start: &[u8]) -> bool
     ensures { IsTrue result ↔ Begins start.now }
 {
-    start.is_empty() || is_word(&start[..word_len(start)])
+    start.is_empty() || Verb::of(&start[..word_len(start)]).is_some()
 }
 
 /// How many bytes come before a space or the end of the line.
@@ -245,18 +246,4 @@ fn word_len(start: &[u8]) -> usize
         at += 1;
     }
     at
-}
-
-/// Whether it is the first word of a line.
-fn is_word(word: &[u8]) -> bool
-    ensures { IsTrue result ↔ IsWord word.now }
-{
-    word == b"put".as_slice()
-        || word == b"replace".as_slice()
-        || word == b"withdraw".as_slice()
-        || word == b"period".as_slice()
-        || word == b"list".as_slice()
-        || word == b"next".as_slice()
-        || word == b"turn".as_slice()
-        || word == b"raw".as_slice()
 }

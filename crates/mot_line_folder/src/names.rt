@@ -136,7 +136,7 @@ impl Names {
         }
     }
 
-    /// Goes on behind this name, if there are more than were kept; else all were given.
+    /// Goes on after this name, if there are more than were kept; else all were given.
     fn go_on(&mut self, name: &[u8]) -> io::Result<()>
         ensures same { self.new.waiting ≡ self.old.waiting }
         ensures goes_on { OnOk result (GoesOn vec_items self.old.has_more name.now self.new.behind) }

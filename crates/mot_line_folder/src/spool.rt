@@ -142,7 +142,7 @@ impl<'a, S: System + Drop> Spool<'a, S> {
         self.finder.tell_fault(lines.name.as_str(), fault);
     }
 
-    /// Begins the count of lines anew, if the bytes are the first of a file.
+    /// Begins the count of lines again, if the bytes are the first of a file.
     fn begin_count(&mut self, count: &mut LineCount)
         ensures same { self.new ≡ record self.old { is_next = false } }
         ensures begins { self.old.is_next ≡ true → IfSome self.old.«open» (λ lines.

@@ -31,7 +31,7 @@ use Rattle.mot_lines.specs.Listing.{mime_word}
 use Rattle.mot_lines.specs.Words.{decimal_value, number_of_word, words_of}
 use Rattle.mot_lines.proofs.Input.{some_piece}
 use Rattle.mot_lines.proofs.Numbers.{number_of_digits}
-use Rattle.mot_lines.proofs.Requests.{line_of-short, request_of-period, request_of-put}
+use Rattle.mot_lines.proofs.Requests.{line_of-short, request_of-first}
 use Rattle.mot_numbers.specs.declared.refusal.Refusal.{Refusal}
 use Rattle.mot_objects.specs.Carousel.{Object}
 use Rattle.mot_objects.specs.Content.{ContentNumbers}
@@ -272,7 +272,7 @@ module _ (o : Object) (is : KeepsRules o) where
   put-asks : line_of (put_words o) ≡ Ok (Command (put_again o))
   put-asks =
       line_of-short (put_words o) put-short ∙ ap request_of put-words
-      ∙ request_of-put (codes "put") (other_words o) refl refl ∙ put-described
+      ∙ request_of-first (codes "put") (other_words o) ∙ put-described
 
 -- ---- the words of a period line
 
@@ -304,7 +304,7 @@ module _ (n : ℕ) (few : n ≤ 16777215) where
   period-asks : line_of (period_words n) ≡ Ok (Command (Period n))
   period-asks =
       line_of-short (period_words n) period-short ∙ ap request_of period-words
-      ∙ request_of-period (codes "period") (decimal n ∷ []) refl refl refl refl refl ∙ period-set
+      ∙ request_of-first (codes "period") (decimal n ∷ []) ∙ period-set
 
 -- ---- lines
 

@@ -8,9 +8,12 @@ use Rattle.mot_lines.specs.Fields.{kind_in, number_to, segment_in, name_in, cont
 use Rattle.mot_lines.specs.Fields.{body_in, period_in}
 use Rattle.mot_lines.specs.Line.{raw_of, description_of, put_of, replace_of, withdraw_of}
 use Rattle.mot_numbers.specs.Refusal.{◌>>=◌}
-use Rattle.mot_lines.specs.Line.{period_of, alone_of, next_of, request_of, line_of}
+use Rattle.mot_lines.specs.Line.{period_of, alone_of, asked_by, next_of, request_of, line_of}
+use Rattle.mot_lines.specs.Verb.{verb_of}
 use Rattle.mot_lines.specs.declared.line.Line.{Line}
 use Rattle.mot_lines.specs.declared.line.Line.TheVariants as asks
+use Rattle.mot_lines.specs.declared.line.verb.Verb.{Verb}
+use Rattle.mot_lines.specs.declared.line.verb.Verb.TheVariants as verb
 use Rattle.mot_lines.specs.declared.line.TheConstants.{MAX_LINE, MAX_PACKETS}
 use Rattle.mot_lines.specs.Words.{number_of_word, words_of}
 use Rattle.mot_numbers.specs.Reading.{is_empty}
@@ -131,18 +134,21 @@ next [] = λ e. cc
 next (n ∷ []) = bound _ _ (up_to MAX_PACKETS (number_of_word n)) (λ it. value _)
 next (n ∷ more ∷ words) = λ e. cc
 
+asked : (v : Option Verb) (words : List (List ℕ)) → IsNoFault (asked_by v words)
+asked (Some verb.Raw) words = raw words
+asked (Some verb.Put) words = put words
+asked (Some verb.Replace) words = replace words
+asked (Some verb.Withdraw) words = withdraw words
+asked (Some verb.Period) words = period-line words
+asked (Some verb.List) words = alone asks.List words
+asked (Some verb.Next) words = next words
+asked (Some verb.Turn) words = alone asks.Turn words
+asked None words = λ e. cc
+
 request : (words : List (List ℕ)) → IsNoFault (request_of words)
 unfolding request_of
 request [] = λ e. cc
-request (first ∷ words) =
-    either (bytes_eq first (codes "raw")) _ _ (raw words)
-    (either (bytes_eq first (codes "put")) _ _ (put words)
-    (either (bytes_eq first (codes "replace")) _ _ (replace words)
-    (either (bytes_eq first (codes "withdraw")) _ _ (withdraw words)
-    (either (bytes_eq first (codes "period")) _ _ (period-line words)
-    (either (bytes_eq first (codes "list")) _ _ (alone asks.List words)
-    (either (bytes_eq first (codes "next")) _ _ (next words)
-    (either (bytes_eq first (codes "turn")) _ _ (alone asks.Turn words) (λ e. cc))))))))
+request (first ∷ words) = asked (verb_of first) words
 
 -- no line is refused for a fault of the disk
 pub line : (bytes : List ℕ) → IsNoFault (line_of bytes)

@@ -1,7 +1,7 @@
 -- What lines ask for.
 use Rattle.std.proofs.Common.{◌≡◌, ◌∙◌, ℕ, ◌+◌, ◌<◌, ◌≤◌, Bool, true, false, List, [], ◌∷◌, length}
 use Rattle.std.proofs.Common.{Ok, Err, refl, sym, ap, arith}
-use Rattle.std.specs.Prelude.{bytes_eq, codes, nat_le}
+use Rattle.std.specs.Prelude.{nat_le}
 use Rattle.std.proofs.lemmas.Bool.{lt-leb, le-leb, leb-true, leb-false}
 use Rattle.std.proofs.lemmas.List.{length-take, take_all}
 use Rattle.mot_lines.specs.declared.line.TheConstants.{MAX_LINE}
@@ -10,9 +10,8 @@ use Rattle.hex.specs.Hex.{decode_of}
 use Rattle.mot_lines.specs.declared.line.Line.TheVariants.{Raw}
 use Rattle.mot_lines.specs.Fields.{kind_in, number_to, segment_in}
 use Rattle.mot_lines.specs.Words.{number_of_word, words_of}
-use Rattle.mot_lines.specs.Line.{raw_of, put_of, replace_of, withdraw_of, period_of, alone_of}
-use Rattle.mot_lines.specs.Line.{next_of, request_of, line_of}
-use Rattle.mot_lines.specs.declared.line.Line.TheVariants as asks
+use Rattle.mot_lines.specs.Line.{asked_by, line_of, raw_of, request_of}
+use Rattle.mot_lines.specs.Verb.{verb_of}
 use Rattle.mot_numbers.specs.declared.group_kind.GroupKind.{GroupKind}
 use Rattle.mot_numbers.specs.declared.refusal.Refusal.{Refusal}
 use Rattle.mot_numbers.specs.declared.refusal.Refusal.TheVariants.{BadLine}
@@ -69,64 +68,8 @@ in_hand-cases line false e =
 pub line_of-in_hand : (line : List ℕ) → line_of (bytes_in_hand line) ≡ line_of line
 line_of-in_hand line = in_hand-cases line (nat_le (length line) MAX_LINE) refl
 
-module _ (first : List ℕ) (words : List (List ℕ)) where
-  -- a first word `raw` asks for what the others do as a raw line
-  pub request_of-raw : bytes_eq first (codes "raw") ≡ true
-      → request_of (first ∷ words) ≡ raw_of words
-  unfolding request_of
-  request_of-raw e = rw e refl
-
-  module _ (raw : bytes_eq first (codes "raw") ≡ false) where
-    -- a first word `put` asks for what the others do as a put
-    pub request_of-put : bytes_eq first (codes "put") ≡ true
-        → request_of (first ∷ words) ≡ put_of words
-    unfolding request_of
-    request_of-put e = rw (raw, e) refl
-
-    module _ (put : bytes_eq first (codes "put") ≡ false) where
-      -- a first word `replace` asks for what the others do as a replace
-      pub request_of-replace : bytes_eq first (codes "replace") ≡ true
-          → request_of (first ∷ words) ≡ replace_of words
-      unfolding request_of
-      request_of-replace e = rw (raw, put, e) refl
-
-      module _ (replace : bytes_eq first (codes "replace") ≡ false) where
-        -- a first word `withdraw` asks for what the others do as a withdraw
-        pub request_of-withdraw : bytes_eq first (codes "withdraw") ≡ true
-            → request_of (first ∷ words) ≡ withdraw_of words
-        unfolding request_of
-        request_of-withdraw e = rw (raw, put, replace, e) refl
-
-        module _ (withdraw : bytes_eq first (codes "withdraw") ≡ false) where
-          -- a first word `period` asks for what the others do as a period
-          pub request_of-period : bytes_eq first (codes "period") ≡ true
-              → request_of (first ∷ words) ≡ period_of words
-          unfolding request_of
-          request_of-period e = rw (raw, put, replace, withdraw, e) refl
-
-          module _ (period : bytes_eq first (codes "period") ≡ false) where
-            -- a first word `list` asks for the list
-            pub request_of-list : bytes_eq first (codes "list") ≡ true
-                → request_of (first ∷ words) ≡ alone_of asks.List words
-            unfolding request_of
-            request_of-list e = rw (raw, put, replace, withdraw, period, e) refl
-
-            module _ (list : bytes_eq first (codes "list") ≡ false) where
-              -- a first word `next` asks for as many packets as the others say
-              pub request_of-next : bytes_eq first (codes "next") ≡ true
-                  → request_of (first ∷ words) ≡ next_of words
-              unfolding request_of
-              request_of-next e = rw (raw, put, replace, withdraw, period, list, e) refl
-
-              module _ (next : bytes_eq first (codes "next") ≡ false) where
-                -- a first word `turn` asks for a turn
-                pub request_of-turn : bytes_eq first (codes "turn") ≡ true
-                    → request_of (first ∷ words) ≡ alone_of asks.Turn words
-                unfolding request_of
-                request_of-turn e = rw (raw, put, replace, withdraw, period, list, next, e) refl
-
-                -- any other first word asks for nothing
-                pub request_of-other : bytes_eq first (codes "turn") ≡ false
-                    → request_of (first ∷ words) ≡ Err BadLine
-                unfolding request_of
-                request_of-other e = rw (raw, put, replace, withdraw, period, list, next, e) refl
+-- the words of a line ask for what the first one says
+pub request_of-first : (first : List ℕ) (words : List (List ℕ))
+    → request_of (first ∷ words) ≡ asked_by (verb_of first) words
+unfolding request_of
+request_of-first first words = refl

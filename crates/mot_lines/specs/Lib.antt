@@ -6,4 +6,5 @@ pub mod Line
 pub mod Lines
 pub mod Listing
 pub mod Text
+pub mod Verb
 pub mod Words

@@ -1,15 +1,18 @@
 -- What a line asks for.
 use Rattle.std.specs.Prelude.{⊤, ℕ, ◌≡◌, ◌⊎◌, nat_le, if◌then◌else◌, List, [], ◌∷◌, length, Result}
-use Rattle.std.specs.Prelude.{Ok, Err, codes, bytes_eq}
+use Rattle.std.specs.Prelude.{Ok, Err, Option, Some, None}
 use Rattle.hex.specs.Hex.{decode_of}
 use Rattle.mot_lines.specs.Fields.{kind_in, number_to, segment_in, name_in, content_in, mime_in}
 use Rattle.mot_lines.specs.Fields.{body_in, period_in}
+use Rattle.mot_lines.specs.Verb.{verb_of}
 use Rattle.mot_lines.specs.Words.{words_of, number_of_word}
 use Rattle.mot_lines.specs.declared.line.TheConstants.{MAX_LINE, MAX_PACKETS}
 use Rattle.mot_lines.specs.declared.line.description.Description.{Description}
 use Rattle.mot_lines.specs.declared.line.Line.{Line}
 use Rattle.mot_lines.specs.declared.line.Line.TheVariants.{Raw, Command}
 use Rattle.mot_lines.specs.declared.line.Line.TheVariants as asks
+use Rattle.mot_lines.specs.declared.line.verb.Verb.{Verb}
+use Rattle.mot_lines.specs.declared.line.verb.Verb.TheVariants as verb
 use Rattle.mot_numbers.specs.Refusal.{◌>>=◌}
 use Rattle.mot_numbers.specs.declared.refusal.Refusal.{Refusal}
 use Rattle.mot_numbers.specs.declared.refusal.Refusal.TheVariants.{OutOfMemory, BadLine}
@@ -70,19 +73,22 @@ next_of (number ∷ []) = do
   Ok (asks.Next n)
 next_of words = Err BadLine
 
+-- what the words after the first one ask for
+abbrev pub asked_by : Option Verb → List (List ℕ) → Result Line Refusal
+asked_by (Some verb.Raw) words = raw_of words
+asked_by (Some verb.Put) words = put_of words
+asked_by (Some verb.Replace) words = replace_of words
+asked_by (Some verb.Withdraw) words = withdraw_of words
+asked_by (Some verb.Period) words = period_of words
+asked_by (Some verb.List) words = alone_of asks.List words
+asked_by (Some verb.Next) words = next_of words
+asked_by (Some verb.Turn) words = alone_of asks.Turn words
+asked_by None words = Err BadLine
+
 -- words ask for what their first one says
 unfoldable pub request_of : List (List ℕ) → Result Line Refusal
 request_of [] = Err BadLine
-request_of (first ∷ words) =
-    if bytes_eq first (codes "raw") then raw_of words
-    else if bytes_eq first (codes "put") then put_of words
-    else if bytes_eq first (codes "replace") then replace_of words
-    else if bytes_eq first (codes "withdraw") then withdraw_of words
-    else if bytes_eq first (codes "period") then period_of words
-    else if bytes_eq first (codes "list") then alone_of asks.List words
-    else if bytes_eq first (codes "next") then next_of words
-    else if bytes_eq first (codes "turn") then alone_of asks.Turn words
-    else Err BadLine
+request_of (first ∷ words) = asked_by (verb_of first) words
 
 -- what a line of at most 530,000 bytes asks for, or why it is refused
 unfoldable pub line_of : List ℕ → Result Line Refusal

@@ -9,7 +9,9 @@ mod text;
 
 pub use export::export_laws;
 pub use hand::Hand;
-pub use line::{Description, Line, MAX_LINE, MAX_PACKETS, four_words, parse_content, parse_line};
+pub use line::{
+    Description, Line, MAX_LINE, MAX_PACKETS, Verb, cut_word, four_words, parse_content, parse_line,
+};
 pub use line_end::cut_at_line_end;
 pub use mot_groups::SegmentBytes;
 pub use text::{

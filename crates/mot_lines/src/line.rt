@@ -1,13 +1,14 @@
 //! A line of the input, read.
-ghost use Rattle.std.specs.Prelude.{◌≡◌, ◌∷◌};
+ghost use Rattle.std.specs.Prelude.{◌≡◌};
 ghost use Rattle.mot_lines.specs.Line.{raw_of, put_of, replace_of, withdraw_of, period_of};
-ghost use Rattle.mot_lines.specs.Line.{alone_of, next_of, request_of, line_of};
+ghost use Rattle.mot_lines.specs.Line.{alone_of, asked_by, next_of, line_of};
 ghost use Rattle.mot_lines.specs.Line.{IsParsed};
 ghost use Rattle.mot_lines.specs.Inner.Words.{OrOutOfMemory};
-ghost use Rattle.mot_lines.specs.Inner.Words.{words_after};
+ghost use Rattle.mot_lines.specs.Words.{words_after};
 
 mod description;
 mod fields;
+mod verb;
 mod words;
 
 use crate::SegmentBytes;
@@ -18,8 +19,9 @@ use fields::{parse_count, parse_kind, parse_name, parse_period, parse_segment, p
 use mot_numbers::{GroupKind, Refusal, TransportId};
 use mot_objects::Command;
 use std::alloc::Global;
-pub use words::four_words;
-use words::{cut_word, is_word, one_word, three_words};
+pub use verb::Verb;
+use words::{one_word, three_words};
+pub use words::{cut_word, four_words};
 
 /// The longest line, in bytes without its end.
 pub const MAX_LINE: usize = 530_000;
@@ -62,31 +64,23 @@ pub fn parse_line(alloc: Global, line: &[u8]) -> Result<Line, Refusal>
         return Err(Refusal::BadLine);
     }
     let (first, rest) = cut_word(line);
-    parse_request(alloc, first, rest)
+    parse_request(alloc, Verb::of(first), rest)
 }
 
 /// What a line asks for, by its first word and those after it.
-fn parse_request(alloc: Global, first: &[u8], words: Option<&[u8]>) -> Result<Line, Refusal>
-    ensures { IsParsed result (request_of (first.now ∷ words_after words.entry)) }
+fn parse_request(alloc: Global, verb: Option<Verb>, words: Option<&[u8]>) -> Result<Line, Refusal>
+    ensures { IsParsed result (asked_by verb (words_after words.entry)) }
 {
-    if is_word(first, b"raw") {
-        parse_raw(alloc, words)
-    } else if is_word(first, b"put") {
-        parse_put(alloc, words)
-    } else if is_word(first, b"replace") {
-        parse_replace(alloc, words)
-    } else if is_word(first, b"withdraw") {
-        parse_withdraw(alloc, words)
-    } else if is_word(first, b"period") {
-        parse_set_period(words)
-    } else if is_word(first, b"list") {
-        parse_list(words)
-    } else if is_word(first, b"next") {
-        parse_next(words)
-    } else if is_word(first, b"turn") {
-        parse_turn(words)
-    } else {
-        Err(Refusal::BadLine)
+    match verb {
+        Some(Verb::Raw) => parse_raw(alloc, words),
+        Some(Verb::Put) => parse_put(alloc, words),
+        Some(Verb::Replace) => parse_replace(alloc, words),
+        Some(Verb::Withdraw) => parse_withdraw(alloc, words),
+        Some(Verb::Period) => parse_set_period(words),
+        Some(Verb::List) => parse_list(words),
+        Some(Verb::Next) => parse_next(words),
+        Some(Verb::Turn) => parse_turn(words),
+        None => Err(Refusal::BadLine),
     }
 }
 

@@ -7,19 +7,17 @@ use Rattle.mot_log.specs.Status.{sample_of, samples_from}
 use Rattle.mot_events.specs.declared.event.LookEvent.{LookEvent}
 
 -- those behind a further event
-pub samples_more : (disk : List ℕ) (before events : List LookEvent) (e : LookEvent)
-    → samples_from disk before (events ++ e ∷ [])
-    ≡ samples_from disk before events ++ sample_of disk (before ++ events) e.name e.met
-samples_more disk before [] e =
-    append-nil (sample_of disk before e.name e.met)
-    ∙ ap (λ (l : List LookEvent). sample_of disk l e.name e.met) (sym (append-nil before))
-samples_more disk before (f ∷ events) e =
-    let first = sample_of disk before f.name f.met in
-    let more = samples_from disk (before ++ f ∷ []) events in
-    let last = λ (l : List LookEvent). sample_of disk l e.name e.met in
-    ap (λ (l : List ℕ). first ++ l) (samples_more disk (before ++ f ∷ []) events e
-    ∙ ap (λ (l : List LookEvent). more ++ last l) (append_assoc before (f ∷ []) events))
-    ∙ sym (append_assoc first more (last (before ++ f ∷ events)))
+pub samples_more : (disk text : List ℕ) (before events : List LookEvent) (e : LookEvent)
+    → samples_from disk text before (events ++ e ∷ [])
+    ≡ sample_of disk (samples_from disk text before events) (before ++ events) e.name e.met
+samples_more disk text before [] e =
+    ap (λ (l : List LookEvent). sample_of disk text l e.name e.met) (sym (append-nil before))
+samples_more disk text before (f ∷ events) e =
+    let first = sample_of disk text before f.name f.met in
+    let more = samples_from disk first (before ++ f ∷ []) events in
+    samples_more disk first (before ++ f ∷ []) events e
+    ∙ ap (λ (l : List LookEvent). sample_of disk more l e.name e.met)
+    (append_assoc before (f ∷ []) events)
 
 -- the first ones, and a further one
 pub take_next : {A : Type 0} (xs : List A) (i : ℕ) (d : A) → i < length xs

@@ -1,11 +1,10 @@
 -- Counts of what happened.
-use Rattle.std.specs.Prelude.{ℕ, ◌+◌, min, List, replicate}
+use Rattle.std.specs.Prelude.{ℕ, ◌+◌, min, Bool, if◌then◌else◌, List, replicate}
 use Rattle.std.specs.List.{slice_index, slice_set}
 use Rattle.mot_log.specs.declared.counters.Counters.{Counters}
 use Rattle.mot_log.specs.declared.tally.Tally.{Tally}
 use Rattle.mot_log.specs.declared.tally.Tally.TheVariants.{Change, Doubt, Going, Kept, Look}
-use Rattle.mot_log.specs.declared.tally.Tally.TheVariants.{LineRefusal, News, Packet, Refusal}
-use Rattle.mot_log.specs.declared.tally.Tally.TheVariants.{Stop, Turn}
+use Rattle.mot_log.specs.declared.tally.Tally.TheVariants.{LineRefusal, News, Refusal, Stop}
 use Rattle.mot_numbers.specs.Refusal.{number_of}
 use Rattle.mot_numbers.specs.declared.refusal.Refusal as refusal
 
@@ -48,5 +47,10 @@ counted c Going = record c { goings = one_more c.goings }
 counted c Doubt = c
 counted c News = c
 counted c Look = record c { looks = one_more c.looks }
-counted c Packet = record c { packets = one_more c.packets }
-counted c Turn = record c { turns = one_more c.turns }
+
+-- a packet counts, and so does the turn that ends with it
+abbrev pub packet_counted : Counters → (ends_turn : Bool) → Counters
+packet_counted c ends_turn = record c {
+  packets = one_more c.packets;
+  turns = if ends_turn then one_more c.turns else c.turns;
+}

@@ -1,5 +1,4 @@
 pub mod Counters
-pub mod Inner
 pub mod Log
 pub mod Look
 pub mod Shown

@@ -10,8 +10,7 @@ use Rattle.mot_log.specs.declared.tally.Level.{Level}
 use Rattle.mot_log.specs.declared.tally.Level.TheVariants.{Error, Info, Warning}
 use Rattle.mot_log.specs.declared.tally.Tally.{Tally}
 use Rattle.mot_log.specs.declared.tally.Tally.TheVariants.{Change, Doubt, Going, Kept, Look}
-use Rattle.mot_log.specs.declared.tally.Tally.TheVariants.{LineRefusal, News, Packet, Refusal}
-use Rattle.mot_log.specs.declared.tally.Tally.TheVariants.{Stop, Turn}
+use Rattle.mot_log.specs.declared.tally.Tally.TheVariants.{LineRefusal, News, Refusal, Stop}
 use Rattle.mot_numbers.specs.declared.refusal.Refusal.TheVariants.{WriteFault}
 
 -- more than half of the objects go, which are so many: no more than three are no warning
@@ -36,10 +35,8 @@ tally_of_reply (reply.Shown text) = News
 abbrev pub tally_of : Event → Tally
 tally_of (event.Look look) = tally_of_met look.now.met
 tally_of event.Looked = Look
-tally_of event.Packet = Packet
-tally_of event.Turn = Turn
 tally_of (event.LinesRefused name refusal why) = LineRefusal refusal
-tally_of (event.Answered file number asked subject answer) = tally_of_reply answer
+tally_of (event.Answered file number verb subject answer) = tally_of_reply answer
 tally_of (event.StatusRefused path why) = Refusal WriteFault
 tally_of (event.Stopped refusal) = Stop refusal
 tally_of other = News
@@ -63,6 +60,4 @@ level_text Info = codes "<6>"
 -- what is only counted has no line
 abbrev pub has_line : Tally → Bool
 has_line Look = false
-has_line Packet = false
-has_line Turn = false
 has_line other = true

@@ -2,7 +2,7 @@
 use Rattle.std.specs.Prelude.{ℕ, Bool, if◌then◌else◌, nat_eq, List, [], ◌∷◌, ◌++◌}
 use Rattle.std.specs.Prelude.{None, Option, Some, codes, length, take}
 use Rattle.std.specs.Fmt.{decimal}
-use Rattle.mot_events.specs.Events.{asked_word, deed_word, skip_word}
+use Rattle.mot_events.specs.Events.{deed_word, skip_word}
 use Rattle.mot_log.specs.Shown.{shown_name}
 use Rattle.mot_log.specs.Tally.{has_line, level_of, level_text, tally_of}
 use Rattle.mot_events.specs.declared.event.Deed.{Deed}
@@ -17,6 +17,8 @@ use Rattle.mot_events.specs.declared.event.Why.{Why}
 use Rattle.mot_events.specs.declared.event.Why.TheVariants as why
 use Rattle.mot_log.specs.declared.tally.Tally.{Tally}
 use Rattle.mot_lines.specs.Text.{taken_words}
+use Rattle.mot_lines.specs.Verb.{verb_word}
+use Rattle.mot_lines.specs.declared.line.verb.Verb.{Verb}
 use Rattle.mot_numbers.specs.Refusal.{name_of, number_of}
 use Rattle.mot_numbers.specs.declared.refusal.Refusal.{Refusal}
 use Rattle.mot_numbers.specs.declared.refusal.Refusal.TheVariants.{OutOfMemory, WriteFault}
@@ -25,6 +27,11 @@ use Rattle.mot_objects.specs.declared.command.Done.{Done}
 use Rattle.mot_suffixes.specs.declared.images.ImageType.{ImageType}
 use Rattle.mot_suffixes.specs.declared.images.ImageType.TheVariants.{Bmp, Gif, Jpeg, Png}
 use Rattle.mot_suffixes.specs.declared.images.OtherImage.{OtherImage}
+
+-- the first word of a line, if it is a command
+abbrev pub verb_words : Option Verb → List ℕ
+verb_words None = []
+verb_words (Some verb) = verb_word verb ++ codes " "
 
 -- what a command is about, if that is said
 abbrev pub subject_words : List ℕ → List ℕ
@@ -149,15 +156,13 @@ status_written_text path = codes "status " ++ shown_name path ++ codes " written
 abbrev pub text_of : Event → List ℕ
 text_of (event.Look look) = met_text look.now.name look.now.met
 text_of event.Looked = []
-text_of event.Packet = []
-text_of event.Turn = []
 text_of (event.LinesRefused name refusal why) =
     codes "lines " ++ shown_name name.now ++ codes " " ++ refused_words refusal why.now
 text_of (event.LinesReadable folder) =
     codes "lines " ++ shown_name folder.now ++ codes " readable"
-text_of (event.Answered file number asked subject answer) =
+text_of (event.Answered file number verb subject answer) =
     codes "lines " ++ shown_name file.now ++ codes ":" ++ decimal number ++ codes " "
-    ++ asked_word asked ++ subject_words subject.now ++ reply_text answer
+    ++ verb_words verb ++ subject_words subject.now ++ reply_text answer
 text_of (event.Began version disk objects packets) =
     began_text version.now disk.now objects packets
 text_of (event.Ended turns packets) = ended_text turns packets

@@ -1,7 +1,8 @@
 //! Counts of what happened.
 ghost use Rattle.std.specs.Prelude.{◌≡◌};
 ghost use Rattle.std.specs.List.{slice_index};
-ghost use Rattle.mot_log.specs.Counters.{counted, none_counted, refusal_counted};
+ghost use Rattle.mot_log.specs.Counters.{counted, none_counted, packet_counted};
+ghost use Rattle.mot_log.specs.Counters.{refusal_counted};
 ghost use Rattle.mot_numbers.specs.Refusal.{number_of};
 
 use crate::tally::Tally;
@@ -13,7 +14,7 @@ const NUMBERS: usize = 24;
 /// Counts of what happened. Each stays at the greatest number that it can have.
 #[derive(Drop)]
 pub struct Counters {
-    /// Packets.
+    /// Packets that were taken.
     pub packets: u64,
     /// Turns.
     pub turns: u64,
@@ -48,6 +49,17 @@ impl Counters {
         }
     }
 
+    /// Counts a packet, and the turn that may have ended with it.
+    #[inline(always)]
+    pub fn count_packet(&mut self, ends_turn: bool)
+        ensures { self.new ≡ packet_counted self.old ends_turn }
+    {
+        self.packets = self.packets.saturating_add(1);
+        if ends_turn {
+            self.turns = self.turns.saturating_add(1);
+        }
+    }
+
     /// Counts what happened.
     #[inline(always)]
     pub fn count(&mut self, tally: Tally)
@@ -65,8 +77,6 @@ impl Counters {
             Tally::Going => self.goings = self.goings.saturating_add(1),
             Tally::Doubt | Tally::News => {}
             Tally::Look => self.looks = self.looks.saturating_add(1),
-            Tally::Packet => self.packets = self.packets.saturating_add(1),
-            Tally::Turn => self.turns = self.turns.saturating_add(1),
         }
     }
 

@@ -57,13 +57,6 @@ impl<W: Write + Drop> EventLog<W> {
         }
     }
 
-    /// What takes the lines.
-    pub fn into_writer(self) -> W
-        ensures { result ≡ self.writer }
-    {
-        self.writer
-    }
-
     /// Writes the line of an event, and flushes; whether that was done.
     #[inline(never)]
     fn write_line(&mut self, event: &Event<'_>) -> bool

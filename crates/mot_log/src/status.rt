@@ -1,17 +1,15 @@
-//! The text of the status.
-ghost use Rattle.std.specs.Prelude.{◌≡◌, ◌++◌, [], IfOk, OnOk, bytes_eq, flat_map, if◌then◌else◌};
+//! The text of the status, in the exposition format of Prometheus.
+ghost use Rattle.std.specs.Prelude.{◌≡◌, [], IfOk, OnOk, bytes_eq, fold, if◌then◌else◌};
 ghost use Rattle.std.specs.List.{list_any};
 ghost use Rattle.mot_log.specs.Shown.{shown_name};
-ghost use Rattle.mot_log.specs.Status.{count_rows, count_sample, figure_rows, file_sample};
-ghost use Rattle.mot_log.specs.Status.{is_alike, is_deed};
-ghost use Rattle.mot_log.specs.Status.{listed_row, listed_value, object_sample, objects_text};
-ghost use Rattle.mot_log.specs.Status.{refusal_sample, refusals_text, refused_text, row_text};
-ghost use Rattle.mot_log.specs.Status.{rows_text, sample_of, sample_once, samples_from};
-ghost use Rattle.mot_log.specs.Status.{sample_of_object, status_text, version_text};
+ghost use Rattle.mot_log.specs.Status.{count_rows, figure_rows, file_sample, is_alike, is_deed};
+ghost use Rattle.mot_log.specs.Status.{listed_value, object_sample, refusal_sample, sample_of};
+ghost use Rattle.mot_log.specs.Status.{sample_once, samples_from, status_text, version_sample};
+ghost use Rattle.mot_log.specs.Status.{with_refusals, with_rows};
 
-use crate::sample::{Family, Label, Row, add_head, add_row, add_rows, add_sample};
-use crate::{Counters, add_name, add_reason, add_refusal};
-use itoa::Buffer;
+use crate::sample::{add_label, add_row, begin_disk, end_sample};
+use crate::text::add;
+use crate::{Counters, add_name, add_number, add_reason, add_refusal};
 use mot_events::{Deed, LookEvent, Met, Why, is_listed};
 use mot_numbers::Refusal;
 use mot_objects::Object;
@@ -46,113 +44,139 @@ pub struct Figures<'a> {
     pub last_change: u64,
 }
 
-const PACKETS: Family = Family {
-    name: "motcar_packets_total",
-    kind: "counter",
-    help: "Packets that were taken.",
-};
+// The table of families. Each row is the text in front of a sample's labels: what the family is, and
+// the name. The last four have the name in front of each of their samples.
 
-const TURNS: Family = Family {
-    name: "motcar_turns_total",
-    kind: "counter",
-    help: "Turns that have ended.",
-};
+const PACKETS: &str = "\
+# HELP motcar_packets_total Packets that were taken.
+# TYPE motcar_packets_total counter
+motcar_packets_total";
 
-const LOOKS: Family = Family {
-    name: "motcar_looks_total",
-    kind: "counter",
-    help: "Looks at the folder.",
-};
+const TURNS: &str = "\
+# HELP motcar_turns_total Turns that have ended.
+# TYPE motcar_turns_total counter
+motcar_turns_total";
 
-const CHANGES: Family = Family {
-    name: "motcar_changes_total",
-    kind: "counter",
-    help: "Commands that were done.",
-};
+const LOOKS: &str = "\
+# HELP motcar_looks_total Looks at the folder.
+# TYPE motcar_looks_total counter
+motcar_looks_total";
 
-const REFUSALS: Family = Family {
-    name: "motcar_refusals_total",
-    kind: "counter",
-    help: "Refusals that were logged.",
-};
+const CHANGES: &str = "\
+# HELP motcar_changes_total Commands that were done.
+# TYPE motcar_changes_total counter
+motcar_changes_total";
 
-const LINE_REFUSALS: Family = Family {
-    name: "motcar_line_refusals_total",
-    kind: "counter",
-    help: "Refusals of lines of files, and of these files.",
-};
+const REFUSALS: &str = "\
+# HELP motcar_refusals_total Refusals that were logged.
+# TYPE motcar_refusals_total counter
+motcar_refusals_total";
 
-const OBJECTS: Family = Family {
-    name: "motcar_objects",
-    kind: "gauge",
-    help: "Objects of the carousel.",
-};
+const LINE_REFUSALS: &str = "\
+# HELP motcar_line_refusals_total Refusals of lines of files, and of these files.
+# TYPE motcar_line_refusals_total counter
+motcar_line_refusals_total";
 
-const DIRECTORY: Family = Family {
-    name: "motcar_directory_id",
-    kind: "gauge",
-    help: "Transport id of the directory.",
-};
+const GOINGS: &str = "\
+# HELP motcar_mass_withdrawals_total How often more than half of the objects went.
+# TYPE motcar_mass_withdrawals_total counter
+motcar_mass_withdrawals_total";
 
-const CHECKSUM: Family = Family {
-    name: "motcar_directory_checksum",
-    kind: "gauge",
-    help: "Checksum of the bytes of the directory.",
-};
+const OBJECTS: &str = "\
+# HELP motcar_objects Objects of the carousel.
+# TYPE motcar_objects gauge
+motcar_objects";
 
-const TURN_PACKETS: Family = Family {
-    name: "motcar_turn_packets",
-    kind: "gauge",
-    help: "Packets of a turn.",
-};
+const DIRECTORY: &str = "\
+# HELP motcar_directory_id Transport id of the directory.
+# TYPE motcar_directory_id gauge
+motcar_directory_id";
 
-const TURN_BYTES: Family = Family {
-    name: "motcar_turn_bytes",
-    kind: "gauge",
-    help: "Bytes of the packets of a turn.",
-};
+const CHECKSUM: &str = "\
+# HELP motcar_directory_checksum Checksum of the bytes of the directory.
+# TYPE motcar_directory_checksum gauge
+motcar_directory_checksum";
 
-const FREE: Family = Family {
-    name: "motcar_free_bytes",
-    kind: "gauge",
-    help: "Bytes that are free for bodies.",
-};
+const TURN_PACKETS: &str = "\
+# HELP motcar_turn_packets Packets of a turn.
+# TYPE motcar_turn_packets gauge
+motcar_turn_packets";
 
-const GAP: Family = Family {
-    name: "motcar_gap_bytes",
-    kind: "gauge",
-    help: "The longest body that has room.",
-};
+const TURN_BYTES: &str = "\
+# HELP motcar_turn_bytes Bytes of the packets of a turn.
+# TYPE motcar_turn_bytes gauge
+motcar_turn_bytes";
 
-const GOINGS: Family = Family {
-    name: "motcar_mass_withdrawals_total",
-    kind: "counter",
-    help: "How often more than half of the objects went.",
-};
+const FREE: &str = "\
+# HELP motcar_free_bytes Bytes that are free for bodies.
+# TYPE motcar_free_bytes gauge
+motcar_free_bytes";
 
-const OBJECTS_LIMIT: Family = Family {
-    name: "motcar_objects_limit",
-    kind: "gauge",
-    help: "Objects that the disk holds.",
-};
+const GAP: &str = "\
+# HELP motcar_gap_bytes The longest body that has room.
+# TYPE motcar_gap_bytes gauge
+motcar_gap_bytes";
 
-const DATA: Family = Family {
-    name: "motcar_data_bytes",
-    kind: "gauge",
-    help: "Bytes that the disk has for bodies.",
-};
+const OBJECTS_LIMIT: &str = "\
+# HELP motcar_objects_limit Objects that the disk holds.
+# TYPE motcar_objects_limit gauge
+motcar_objects_limit";
 
-const LAST_CHANGE: Family = Family {
-    name: "motcar_last_change_seconds",
-    kind: "gauge",
-    help: "Seconds from 1970 to the last change; 0 if there was none.",
-};
+const DATA: &str = "\
+# HELP motcar_data_bytes Bytes that the disk has for bodies.
+# TYPE motcar_data_bytes gauge
+motcar_data_bytes";
 
-const LISTED: Family = Family {
-    name: "motcar_folder_listed",
-    kind: "gauge",
-    help: "Whether the folder was listed.",
-};
+const LAST_CHANGE: &str = "\
+# HELP motcar_last_change_seconds Seconds from 1970 to the last change; 0 if there was none.
+# TYPE motcar_last_change_seconds gauge
+motcar_last_change_seconds";
+
+const LISTED: &str = "\
+# HELP motcar_folder_listed Whether the folder was listed.
+# TYPE motcar_folder_listed gauge
+motcar_folder_listed";
+
+const VERSION: &str = "\
+# HELP motcar_info The version of the program.
+# TYPE motcar_info gauge
+motcar_info";
+
+const REFUSED: &str = "\
+# HELP motcar_refused_total Refusals that were logged, by their reasons.
+# TYPE motcar_refused_total counter
+";
+
+const FILES_REFUSED: &str = "\
+# HELP motcar_file_refused A file that the last look refused, and why.
+# TYPE motcar_file_refused gauge
+";
+
+const ON_AIR: &str = "\
+# HELP motcar_object An object on air, and how many bytes it has.
+# TYPE motcar_object gauge
+";
+
+/// The refusals that a log can have.
+const COUNTED: [Refusal; 17] = [
+    Refusal::BadLine,
+    Refusal::BadName,
+    Refusal::BadType,
+    Refusal::BadMime,
+    Refusal::BadBody,
+    Refusal::EmptyBody,
+    Refusal::BodyTooLong,
+    Refusal::BadNumber,
+    Refusal::NameTaken,
+    Refusal::NoSuchName,
+    Refusal::TooManyObjects,
+    Refusal::NoRoom,
+    Refusal::OutOfMemory,
+    Refusal::DeviceFault,
+    Refusal::Halted,
+    Refusal::ReadFault,
+    Refusal::WriteFault,
+];
 
 /// Makes the text that of these figures, of what happened, and of what the last look met: with a
 /// sample for each file that it refused, of files that are shown alike for the first; and one for
@@ -166,60 +190,50 @@ pub fn write_status(
 ) -> Result<(), AllocError>
     ensures { OnOk result (text.new.items ≡ status_text figures.now counters.now events.now) }
 {
+    let mut disk = Vec::new(alloc);
+    begin_disk(&mut disk, figures.disk)?;
+    let disk = disk.as_slice();
     text.clear();
-    add_counts(text, figures.disk, counters)?;
-    add_figures(text, figures.disk, figures)?;
-    add_listed(text, figures.disk, events)?;
-    add_version(text, figures.disk, figures.version.as_bytes())?;
-    add_refusals(text, alloc, figures.disk, counters)?;
-    add_refused(text, alloc, figures.disk, events)?;
-    add_objects(text, alloc, figures.disk, figures.objects)
+    add_counts(text, disk, counters)?;
+    add_figures(text, disk, figures)?;
+    add_row(text, LISTED, disk, listed_value(events))?;
+    add_version(text, disk, figures.version)?;
+    add_refusals(text, disk, counters)?;
+    add(text, FILES_REFUSED)?;
+    add_samples(text, alloc, disk, events)?;
+    add(text, ON_AIR)?;
+    add_objects(text, alloc, disk, figures.objects)
 }
 
 /// Adds what happened.
-fn add_counts(text: &mut Vec<u8>, disk: &str, counters: &Counters) -> Result<(), AllocError>
+fn add_counts(text: &mut Vec<u8>, disk: &[u8], counters: &Counters) -> Result<(), AllocError>
     ensures { OnOk result (text.new.items
-        ≡ text.old.items ++ rows_text disk.now (count_rows counters.now)) }
+        ≡ with_rows disk.now text.old.items (count_rows counters.now)) }
 {
-    let rows = [
-        Row(PACKETS, counters.packets),
-        Row(TURNS, counters.turns),
-        Row(LOOKS, counters.looks),
-        Row(CHANGES, counters.changes),
-        Row(REFUSALS, counters.refusals),
-        Row(LINE_REFUSALS, counters.line_refusals),
-        Row(GOINGS, counters.goings),
-    ];
-    add_rows(text, disk, &rows)
+    add_row(text, PACKETS, disk, counters.packets)?;
+    add_row(text, TURNS, disk, counters.turns)?;
+    add_row(text, LOOKS, disk, counters.looks)?;
+    add_row(text, CHANGES, disk, counters.changes)?;
+    add_row(text, REFUSALS, disk, counters.refusals)?;
+    add_row(text, LINE_REFUSALS, disk, counters.line_refusals)?;
+    add_row(text, GOINGS, disk, counters.goings)
 }
 
 /// Adds the figures.
-fn add_figures(text: &mut Vec<u8>, disk: &str, figures: &Figures<'_>) -> Result<(), AllocError>
+fn add_figures(text: &mut Vec<u8>, disk: &[u8], figures: &Figures<'_>) -> Result<(), AllocError>
     ensures { OnOk result (text.new.items
-        ≡ text.old.items ++ rows_text disk.now (figure_rows figures.now)) }
+        ≡ with_rows disk.now text.old.items (figure_rows figures.now)) }
 {
-    let rows = [
-        Row(OBJECTS, figures.objects.len() as u64),
-        Row(DIRECTORY, figures.directory),
-        Row(CHECKSUM, figures.checksum),
-        Row(TURN_PACKETS, figures.turn_packets),
-        Row(TURN_BYTES, figures.turn_bytes),
-        Row(FREE, figures.free),
-        Row(GAP, figures.gap),
-        Row(OBJECTS_LIMIT, figures.objects_limit),
-        Row(DATA, figures.data_bytes),
-        Row(LAST_CHANGE, figures.last_change),
-    ];
-    add_rows(text, disk, &rows)
-}
-
-/// Adds whether the last look went by the folder's list.
-fn add_listed(text: &mut Vec<u8>, disk: &str, events: &[LookEvent]) -> Result<(), AllocError>
-    ensures { OnOk result (text.new.items
-        ≡ text.old.items ++ row_text disk.now (listed_row (listed_value events.now))) }
-{
-    let value = listed_value(events);
-    add_row(text, disk, &Row(LISTED, value))
+    add_row(text, OBJECTS, disk, figures.objects.len() as u64)?;
+    add_row(text, DIRECTORY, disk, figures.directory)?;
+    add_row(text, CHECKSUM, disk, figures.checksum)?;
+    add_row(text, TURN_PACKETS, disk, figures.turn_packets)?;
+    add_row(text, TURN_BYTES, disk, figures.turn_bytes)?;
+    add_row(text, FREE, disk, figures.free)?;
+    add_row(text, GAP, disk, figures.gap)?;
+    add_row(text, OBJECTS_LIMIT, disk, figures.objects_limit)?;
+    add_row(text, DATA, disk, figures.data_bytes)?;
+    add_row(text, LAST_CHANGE, disk, figures.last_change)
 }
 
 /// 1 if the last look went by the folder's list, or else 0.
@@ -229,56 +243,37 @@ fn listed_value(events: &[LookEvent]) -> u64
     if is_listed(events) { 1 } else { 0 }
 }
 
-/// Adds the refusals, by their numbers.
-fn add_refusals(
-    text: &mut Vec<u8>,
-    alloc: Global,
-    disk: &str,
-    counters: &Counters,
-) -> Result<(), AllocError>
-    ensures { OnOk result (text.new.items ≡ text.old.items ++ refusals_text disk.now counters.now) }
+/// Adds which program it is.
+fn add_version(text: &mut Vec<u8>, disk: &[u8], version: &str) -> Result<(), AllocError>
+    ensures { OnOk result (text.new.items ≡ version_sample disk.now text.old.items version.now) }
 {
-    add_head(
-        text,
-        "motcar_refused_total",
-        "counter",
-        "Refusals that were logged, by their reasons.",
-    )?;
-    let refusals = [
-        Refusal::BadLine,
-        Refusal::BadName,
-        Refusal::BadType,
-        Refusal::BadMime,
-        Refusal::BadBody,
-        Refusal::EmptyBody,
-        Refusal::BodyTooLong,
-        Refusal::BadNumber,
-        Refusal::NameTaken,
-        Refusal::NoSuchName,
-        Refusal::TooManyObjects,
-        Refusal::NoRoom,
-        Refusal::OutOfMemory,
-        Refusal::DeviceFault,
-        Refusal::Halted,
-        Refusal::ReadFault,
-        Refusal::WriteFault,
-    ];
-    add_each_refusal(text, alloc, disk, counters, &refusals)
+    add(text, VERSION)?;
+    text.extend_from_slice(disk)?;
+    add_label(text, ",version=\"", version.as_bytes())?;
+    end_sample(text, 1)
+}
+
+/// Adds how often each refusal came.
+fn add_refusals(text: &mut Vec<u8>, disk: &[u8], counters: &Counters) -> Result<(), AllocError>
+    ensures { OnOk result (text.new.items
+        ≡ with_refusals disk.now counters.now text.old.items) }
+{
+    add(text, REFUSED)?;
+    add_each_refusal(text, disk, counters, &COUNTED)
 }
 
 /// Adds how often each of these refusals came.
 fn add_each_refusal(
     text: &mut Vec<u8>,
-    alloc: Global,
-    disk: &str,
+    disk: &[u8],
     counters: &Counters,
     refusals: &[Refusal],
 ) -> Result<(), AllocError>
-    ensures { OnOk result (text.new.items ≡ text.old.items
-        ++ flat_map (refusal_sample disk.now counters.now) refusals.now) }
+    ensures { OnOk result (text.new.items
+        ≡ fold (refusal_sample disk.now counters.now) text.old.items refusals.now) }
 {
     for refusal in refusals {
-        add_refusal_sample(text, alloc, disk, counters, *refusal)?;
+        add_refusal_sample(text, disk, counters, *refusal)?;
     }
     Ok(())
 }
@@ -286,63 +281,30 @@ fn add_each_refusal(
 /// Adds how often this refusal came.
 fn add_refusal_sample(
     text: &mut Vec<u8>,
-    alloc: Global,
-    disk: &str,
+    disk: &[u8],
     counters: &Counters,
     refusal: Refusal,
 ) -> Result<(), AllocError>
-    ensures { OnOk result (text.new.items ≡ text.old.items
-        ++ refusal_sample disk.now counters.now refusal) }
-{
-    let mut reason = Vec::new(alloc);
-    add_refusal(&mut reason, refusal)?;
-    add_count_sample(text, disk, reason.as_slice(), counters.of(refusal))
-}
-
-/// Adds how often a refusal of these words came.
-fn add_count_sample(
-    text: &mut Vec<u8>,
-    disk: &str,
-    reason: &[u8],
-    count: u64,
-) -> Result<(), AllocError>
     ensures { OnOk result (text.new.items
-        ≡ text.old.items ++ count_sample disk.now reason.now count) }
+        ≡ refusal_sample disk.now counters.now text.old.items refusal) }
 {
-    let labels = [Label {
-        name: "reason",
-        value: reason,
-    }];
-    add_sample(text, disk, "motcar_refused_total", &labels, count)
-}
-
-/// Adds the files that the last look refused.
-fn add_refused(
-    text: &mut Vec<u8>,
-    alloc: Global,
-    disk: &str,
-    events: &[LookEvent],
-) -> Result<(), AllocError>
-    ensures { OnOk result (text.new.items ≡ text.old.items ++ refused_text disk.now events.now) }
-{
-    add_head(
-        text,
-        "motcar_file_refused",
-        "gauge",
-        "A file that the last look refused, and why.",
-    )?;
-    add_samples(text, alloc, disk, events)
+    add(text, "motcar_refused_total")?;
+    text.extend_from_slice(disk)?;
+    add(text, ",reason=\"")?;
+    add_refusal(text, refusal)?;
+    add(text, "\"")?;
+    end_sample(text, counters.of(refusal))
 }
 
 /// Adds a sample for each file that was refused.
 fn add_samples(
     text: &mut Vec<u8>,
     alloc: Global,
-    disk: &str,
+    disk: &[u8],
     events: &[LookEvent],
 ) -> Result<(), AllocError>
     ensures { OnOk result (text.new.items
-        ≡ text.old.items ++ samples_from disk.now [] events.now) }
+        ≡ samples_from disk.now text.old.items [] events.now) }
 {
     for place in 0..events.len() {
         add_sample_of(text, alloc, disk, &events[..place], &events[place])?;
@@ -354,12 +316,12 @@ fn add_samples(
 fn add_sample_of(
     text: &mut Vec<u8>,
     alloc: Global,
-    disk: &str,
+    disk: &[u8],
     before: &[LookEvent],
     event: &LookEvent,
 ) -> Result<(), AllocError>
-    ensures { OnOk result (text.new.items ≡ text.old.items
-        ++ sample_of disk.now before.now event.now.name event.now.met) }
+    ensures { OnOk result (text.new.items
+        ≡ sample_of disk.now text.old.items before.now event.now.name event.now.met) }
 {
     match &event.met {
         Met::Refused(deed, refusal, why) if !deed.is_look() => {
@@ -374,15 +336,15 @@ fn add_sample_of(
 fn add_file(
     text: &mut Vec<u8>,
     alloc: Global,
-    disk: &str,
+    disk: &[u8],
     before: &[LookEvent],
     name: &[u8],
     deed: Deed,
     refusal: Refusal,
     why: &Why,
 ) -> Result<(), AllocError>
-    ensures { OnOk result (text.new.items ≡ text.old.items
-        ++ sample_once disk.now before.now name.now deed refusal why.now) }
+    ensures { OnOk result (text.new.items
+        ≡ sample_once disk.now text.old.items before.now name.now deed refusal why.now) }
 {
     let mut shown = Vec::new(alloc);
     add_name(&mut shown, name)?;
@@ -391,13 +353,7 @@ fn add_file(
     }
     let mut reason = Vec::new(alloc);
     add_reason(&mut reason, refusal, why)?;
-    add_file_sample(
-        text,
-        disk,
-        deed.word().as_bytes(),
-        shown.as_slice(),
-        reason.as_slice(),
-    )
+    add_file_sample(text, disk, deed, shown.as_slice(), reason.as_slice())
 }
 
 /// Whether one of these is a refusal of this deed, of a name that is shown so.
@@ -439,75 +395,32 @@ fn is_shown(alloc: Global, name: &[u8], shown: &[u8]) -> Result<bool, AllocError
 /// Adds the sample of a file.
 fn add_file_sample(
     text: &mut Vec<u8>,
-    disk: &str,
-    command: &[u8],
+    disk: &[u8],
+    deed: Deed,
     name: &[u8],
     reason: &[u8],
 ) -> Result<(), AllocError>
     ensures { OnOk result (text.new.items
-        ≡ text.old.items ++ file_sample disk.now command.now name.now reason.now) }
+        ≡ file_sample disk.now text.old.items deed name.now reason.now) }
 {
-    let labels = [
-        Label {
-            name: "command",
-            value: command,
-        },
-        Label {
-            name: "name",
-            value: name,
-        },
-        Label {
-            name: "reason",
-            value: reason,
-        },
-    ];
-    add_sample(text, disk, "motcar_file_refused", &labels, 1)
-}
-
-/// Adds which program it is.
-fn add_version(text: &mut Vec<u8>, disk: &str, version: &[u8]) -> Result<(), AllocError>
-    ensures { OnOk result (text.new.items ≡ text.old.items ++ version_text disk.now version.now) }
-{
-    add_head(text, "motcar_info", "gauge", "The version of the program.")?;
-    add_sample(
-        text,
-        disk,
-        "motcar_info",
-        &[Label {
-            name: "version",
-            value: version,
-        }],
-        1,
-    )
-}
-
-/// Adds the objects.
-fn add_objects(
-    text: &mut Vec<u8>,
-    alloc: Global,
-    disk: &str,
-    objects: &[Object],
-) -> Result<(), AllocError>
-    ensures { OnOk result (text.new.items ≡ text.old.items ++ objects_text disk.now objects.now) }
-{
-    add_head(
-        text,
-        "motcar_object",
-        "gauge",
-        "An object on air, and how many bytes it has.",
-    )?;
-    add_each_object(text, alloc, disk, objects)
+    add(text, "motcar_file_refused")?;
+    text.extend_from_slice(disk)?;
+    add(text, ",command=\"")?;
+    add(text, deed.word())?;
+    add_label(text, "\",name=\"", name)?;
+    add_label(text, ",reason=\"", reason)?;
+    end_sample(text, 1)
 }
 
 /// Adds a sample for each of these objects.
-fn add_each_object(
+fn add_objects(
     text: &mut Vec<u8>,
     alloc: Global,
-    disk: &str,
+    disk: &[u8],
     objects: &[Object],
 ) -> Result<(), AllocError>
     ensures { OnOk result (text.new.items
-        ≡ text.old.items ++ flat_map (object_sample disk.now) objects.now) }
+        ≡ fold (object_sample disk.now) text.old.items objects.now) }
 {
     for object in objects {
         add_object(text, alloc, disk, object)?;
@@ -519,51 +432,20 @@ fn add_each_object(
 fn add_object(
     text: &mut Vec<u8>,
     alloc: Global,
-    disk: &str,
+    disk: &[u8],
     object: &Object,
 ) -> Result<(), AllocError>
-    ensures { OnOk result (text.new.items ≡ text.old.items ++ object_sample disk.now object.now) }
+    ensures { OnOk result (text.new.items ≡ object_sample disk.now text.old.items object.now) }
 {
     let mut shown = Vec::new(alloc);
     add_name(&mut shown, object.name.as_bytes())?;
-    let mut ids = Buffer::new();
-    let mut versions = Buffer::new();
-    add_object_sample(
-        text,
-        disk,
-        shown.as_slice(),
-        ids.format(u64::from(object.tid.get())).as_bytes(),
-        versions.format(u64::from(object.version)).as_bytes(),
-        u64::from(object.length.get()),
-    )
-}
-
-/// Adds the sample of an object: of its name, as it is shown, its id and its version in digits, and
-/// the length of its body.
-fn add_object_sample(
-    text: &mut Vec<u8>,
-    disk: &str,
-    name: &[u8],
-    id: &[u8],
-    version: &[u8],
-    length: u64,
-) -> Result<(), AllocError>
-    ensures { OnOk result (text.new.items
-        ≡ text.old.items ++ sample_of_object disk.now name.now id.now version.now length) }
-{
-    let labels = [
-        Label {
-            name: "name",
-            value: name,
-        },
-        Label {
-            name: "id",
-            value: id,
-        },
-        Label {
-            name: "version",
-            value: version,
-        },
-    ];
-    add_sample(text, disk, "motcar_object", &labels, length)
+    add(text, "motcar_object")?;
+    text.extend_from_slice(disk)?;
+    add_label(text, ",name=\"", shown.as_slice())?;
+    add(text, ",id=\"")?;
+    add_number(text, u64::from(object.tid.get()))?;
+    add(text, "\",version=\"")?;
+    add_number(text, u64::from(object.version))?;
+    add(text, "\"")?;
+    end_sample(text, u64::from(object.length.get()))
 }

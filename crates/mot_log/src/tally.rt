@@ -31,10 +31,6 @@ pub enum Tally {
     News,
     /// A look.
     Look,
-    /// A packet.
-    Packet,
-    /// A turn.
-    Turn,
 }
 
 /// The level of a line for systemd.
@@ -70,8 +66,6 @@ impl Tally {
     {
         match self {
             Tally::Look => false,
-            Tally::Packet => false,
-            Tally::Turn => false,
             _ => true,
         }
     }
@@ -99,8 +93,6 @@ impl Tally {
         match event {
             Event::Look(look) => Tally::of_met(&look.met),
             Event::Looked => Tally::Look,
-            Event::Packet => Tally::Packet,
-            Event::Turn => Tally::Turn,
             Event::LinesRefused(_, refusal, _) => Tally::LineRefusal(*refusal),
             Event::Answered(_, _, _, _, reply) => Tally::of_reply(reply),
             Event::StatusRefused(_, _) => Tally::Refusal(Refusal::WriteFault),

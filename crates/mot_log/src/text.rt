@@ -5,15 +5,15 @@ ghost use Rattle.mot_log.specs.Shown.{ascii_byte, shown_name};
 ghost use Rattle.mot_log.specs.Text.{deed_words, done_words, met_line, met_text, note_words};
 ghost use Rattle.mot_log.specs.Text.{image_word, image_words, program_words, some_image_word};
 ghost use Rattle.mot_log.specs.Text.{reason_words, sizes_words, turn_words};
-ghost use Rattle.mot_events.specs.Events.{asked_word};
 ghost use Rattle.mot_log.specs.Text.{refusal_words, refused_words, reply_text};
-ghost use Rattle.mot_log.specs.Text.{subject_words, text_of, why_words};
+ghost use Rattle.mot_log.specs.Text.{subject_words, text_of, verb_words, why_words};
 ghost use Rattle.mot_lines.specs.Text.{taken_words};
 ghost use Rattle.mot_numbers.specs.declared.refusal.Refusal.TheVariants.{WriteFault, OutOfMemory};
 ghost use Rattle.mot_suffixes.specs.Shown.{shown};
 
 use itoa::Buffer;
-use mot_events::{Asked, Deed, Event, LookEvent, Met, Reply, Why};
+use mot_events::{Deed, Event, LookEvent, Met, Reply, Why};
+use mot_lines::Verb;
 use mot_numbers::{Refusal, TransportId};
 use mot_objects::{Done, MAX_BODY};
 use mot_suffixes::{ImageType, OtherImage, next_shown};
@@ -27,12 +27,10 @@ pub fn add_text(text: &mut Vec<u8>, event: &Event<'_>) -> Result<(), AllocError>
     match event {
         Event::Look(look) => add_met(text, look),
         Event::Looked => Ok(()),
-        Event::Packet => Ok(()),
-        Event::Turn => Ok(()),
         Event::LinesRefused(name, refusal, why) => add_lines_refused(text, name, *refusal, why),
         Event::LinesReadable(folder) => add_around(text, "lines ", folder, " readable"),
-        Event::Answered(file, number, asked, subject, reply) => {
-            add_answered(text, file, *number, *asked, subject, reply)
+        Event::Answered(file, number, verb, subject, reply) => {
+            add_answered(text, file, *number, *verb, subject, reply)
         }
         Event::Began(version, disk, objects, packets) => {
             add_began(text, version, disk, *objects, *packets)
@@ -197,20 +195,31 @@ fn add_answered(
     text: &mut Vec<u8>,
     file: &[u8],
     number: u64,
-    asked: Asked,
+    verb: Option<Verb>,
     subject: &[u8],
     reply: &Reply<'_>,
 ) -> Result<(), AllocError>
     ensures { OnOk result (text.new.items ≡ text.old.items ++ (codes "lines "
         ++ shown_name file.now ++ codes ":" ++ decimal number ++ codes " "
-        ++ asked_word asked ++ subject_words subject.now ++ reply_text reply.now)) }
+        ++ verb_words verb ++ subject_words subject.now ++ reply_text reply.now)) }
 {
     add_around(text, "lines ", file, ":")?;
     add_number(text, number)?;
     add(text, " ")?;
-    add(text, asked.word())?;
+    add_verb(text, verb)?;
     add_subject(text, subject)?;
     add_reply(text, reply)
+}
+
+/// Adds the first word of a line, if it is a command.
+fn add_verb(text: &mut Vec<u8>, verb: Option<Verb>) -> Result<(), AllocError>
+    ensures { OnOk result (text.new.items ≡ text.old.items ++ verb_words verb) }
+{
+    let Some(verb) = verb else {
+        return Ok(());
+    };
+    add(text, verb.word())?;
+    add(text, " ")
 }
 
 /// Adds what a command is about, if that is said.

@@ -5,7 +5,7 @@ use crate::figures::{VERSION, figures_of};
 use crate::told::{hand, tell_written};
 use crate::turn::{Measured, measure};
 use disk_model::Disk;
-use mot_destinations::StatusFile;
+use mot_endpoints::StatusFile;
 use mot_events::{Event, LookEvent, Tells};
 use mot_files::System;
 use mot_listening::TurnSize;
@@ -86,20 +86,6 @@ impl<'a, S: System + Drop, W: Write + Drop> Reporter<'a, S, W> {
         }
     }
 
-    /// What took the log.
-    pub fn into_log(self) -> W {
-        self.log.into_writer()
-    }
-
-    /// Tells that a packet was taken, and whether a turn has ended with it.
-    #[inline(always)]
-    fn tell_packet(&mut self, ended: bool) {
-        self.log.tell(&Event::Packet);
-        if ended {
-            self.log.tell(&Event::Turn);
-        }
-    }
-
     /// Tells which disk is played, by which program.
     #[inline(never)]
     fn tell_start<D: Disk>(&mut self, server: &Server<D>, alloc: Global) {
@@ -128,6 +114,24 @@ impl<'a, S: System + Drop, W: Write + Drop> Reporter<'a, S, W> {
         self.last_change = ask_time(&mut self.status, grew, self.last_change);
     }
 
+    /// Tells what the last look met, if there was one since the last call; notes when the last
+    /// change was made; and writes the status, if that is due.
+    #[inline(never)]
+    fn tell_news<D: Disk, U: Facts>(
+        &mut self,
+        server: &Server<D>,
+        alloc: Global,
+        update: &U,
+        is_due: bool,
+    ) {
+        self.tell_looked(update);
+        self.note_changes();
+        if is_due {
+            self.next = next_after(self.log.counters.packets);
+            self.tell_status(server, alloc, update.events());
+        }
+    }
+
     /// Writes the status, if a file of it is given, and tells of a fault of it once.
     #[inline(never)]
     fn tell_status<D: Disk>(&mut self, server: &Server<D>, alloc: Global, events: &[LookEvent]) {
@@ -153,7 +157,7 @@ impl<'a, S: System + Drop, W: Write + Drop> Reporter<'a, S, W> {
         events: &[LookEvent],
     ) {
         if self.has_begun {
-            self.tell_packet(true);
+            self.log.counters.count_packet(true);
         }
         let packets = self.log.counters.packets;
         self.log.tell(&Event::Ended(turns, packets));
@@ -175,12 +179,12 @@ impl<'a, S: System + Drop, W: Write + Drop> Tells for Reporter<'a, S, W> {
 }
 
 impl<'a, S: System + Drop, W: Write + Drop> Watch for Reporter<'a, S, W> {
-    /// Tells what is due before an update: at the first that playing begins, and at each other one
-    /// that a packet was taken since the last.
+    /// At the first update tells that playing begins; at each other one counts the packet that was
+    /// taken since the last.
     #[inline(always)]
     fn begin<D: Disk>(&mut self, server: &Server<D>, alloc: Global, moment: Moment) {
         if self.has_begun {
-            self.tell_packet(ends_turn(moment));
+            self.log.counters.count_packet(ends_turn(moment));
         } else {
             self.tell_start(server, alloc);
         }
@@ -190,13 +194,10 @@ impl<'a, S: System + Drop, W: Write + Drop> Watch for Reporter<'a, S, W> {
     /// status after a look and after each 1,000 packets.
     #[inline(always)]
     fn end<D: Disk, U: Facts>(&mut self, server: &Server<D>, alloc: Global, update: &U) {
-        let packets = self.log.counters.packets;
-        let is_due = is_due(self.next, packets, update.looks() != self.looks);
-        self.next = next_if(is_due, self.next, packets);
-        self.tell_looked(update);
-        self.note_changes();
-        if is_due {
-            self.tell_status(server, alloc, update.events());
+        let counters = &self.log.counters;
+        let is_due = counters.packets >= self.next || update.looks() != self.looks;
+        if is_due || counters.changes != self.changes {
+            self.tell_news(server, alloc, update, is_due);
         }
     }
 }
@@ -223,16 +224,6 @@ fn turn_packets(size: Option<Measured>) -> Option<u64> {
         Some(measured) => Some(measured.turn.packets),
         None => None,
     }
-}
-
-/// Whether the status is written after so many packets: after a look it always is.
-fn is_due(next: u64, packets: u64, is_new: bool) -> bool {
-    is_new || packets >= next
-}
-
-/// After how many packets the status is written again, if it is written after so many, or is not.
-fn next_if(is_due: bool, next: u64, packets: u64) -> u64 {
-    if is_due { next_after(packets) } else { next }
 }
 
 /// After how many packets the status is written again, once it was written after so many.

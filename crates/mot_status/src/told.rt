@@ -1,5 +1,5 @@
 //! A try to write the status, and what the log has of it.
-use mot_destinations::{PacketsFault, StatusFile};
+use mot_endpoints::{PacketsFault, StatusFile};
 use mot_events::{Event, LookEvent, Tells};
 use mot_files::System;
 use mot_log::{Counters, EventLog, Figures, write_status};

@@ -1,16 +1,10 @@
 -- What helps to cut a line into words.
 use Rattle.std.specs.Prelude.{ℕ, ◌≡◌, ◌≢◌, List, [], ◌∷◌, length, Option, Some, None}
 use Rattle.std.specs.Borrow.{Bor}
-use Rattle.mot_lines.specs.Words.{words_of}
 use Rattle.std.specs.Prelude.{◌⊎◌, Result}
 use Rattle.std.specs.Prelude.{Err}
 use Rattle.mot_numbers.specs.declared.refusal.Refusal.{Refusal}
 use Rattle.mot_numbers.specs.declared.refusal.Refusal.TheVariants.{OutOfMemory}
-
--- the words of what follows a word, if something does
-abbrev pub words_after : Option (Bor (List ℕ)) → List (List ℕ)
-words_after None = []
-words_after (Some rest) = words_of rest.now
 
 -- these are the words, or there are not three
 abbrev pub AreThree : Option (Bor (List ℕ) × Bor (List ℕ) × Bor (List ℕ)) → List (List ℕ) → Type 0

@@ -1,7 +1,8 @@
 //! Words and numbers.
 ghost use Rattle.std.specs.Prelude.{◌≡◌, ◌≢◌, ◌∷◌, [], IfNone, IfSome, bytes_eq, length};
 ghost use Rattle.mot_lines.specs.Words.{words_of, number_of_word};
-ghost use Rattle.mot_lines.specs.Inner.Words.{words_after, IsOne, AreThree, AreFive};
+ghost use Rattle.mot_lines.specs.Inner.Words.{IsOne, AreThree, AreFive};
+ghost use Rattle.mot_lines.specs.Words.{words_after};
 
 use memchr::memchr;
 
@@ -74,7 +75,7 @@ pub(super) fn three_words(words: Option<&[u8]>) -> Option<(&[u8], &[u8], &[u8])>
 }
 
 /// The first word, and what follows the space after it.
-pub(super) fn cut_word(bytes: &[u8]) -> (&[u8], Option<&[u8]>)
+pub fn cut_word(bytes: &[u8]) -> (&[u8], Option<&[u8]>)
     ensures { words_of bytes.now ≡ result.0.now ∷ words_after result.1 }
 {
     match memchr(b' ', bytes) {

@@ -1,4 +1,4 @@
-use Rattle.std.proofs.Common.{◌++◌, ◌∙◌, ◌∷◌, List, [], ap, append_assoc, sym, take, ℕ}
+use Rattle.std.proofs.Common.{◌++◌, ◌∙◌, ◌∷◌, List, [], ap, sym, take, ℕ}
 use Rattle.mot_log.specs.Status.{sample_of, samples_from}
 use Rattle.mot_events.specs.declared.event.LookEvent.{LookEvent}
 use Rattle.mot_log.proofs.Samples.{samples_more, take_next}
@@ -11,11 +11,9 @@ loop-place-preserved c =
     let events = c.args.events.now in
     let disk = c.args.disk.now in
     let old = c.args.text.now.items in
-    let sample = sample_of disk (take i events) e.name e.met in
     c.in_ok-add_sample_of.ensures
-    ∙ ap (λ (l : List ℕ). l ++ sample) c.loop-place.invariant
-    ∙ append_assoc old (samples_from disk [] (take i events)) sample
-    ∙ ap (λ (l : List ℕ). old ++ l) (sym (samples_more disk [] (take i events) e))
-    ∙ ap (λ (l : List LookEvent). old ++ samples_from disk [] l)
+    ∙ ap (λ (l : List ℕ). sample_of disk l (take i events) e.name e.met) c.loop-place.invariant
+    ∙ sym (samples_more disk old [] (take i events) e)
+    ∙ ap (λ (l : List LookEvent). samples_from disk old [] l)
     (sym (take_next events i e c.loop-place-test.true
     ∙ ap (λ (x : LookEvent). take i events ++ x ∷ []) (sym c.index-events-place.is)))

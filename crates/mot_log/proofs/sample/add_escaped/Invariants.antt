@@ -1,6 +1,6 @@
 use Rattle.std.proofs.Common.{◌≡◌, ◌++◌, flat_map, take}
 use Rattle.mot_log.specs.Status.{label_byte}
-use Rattle.mot_log.proofs.sample.add_value.Given as goal
+use Rattle.mot_log.proofs.sample.add_escaped.Given as goal
 
 abbrev pub invariant-loop-byte : goal.invariant-loop-byte
 invariant-loop-byte l =
