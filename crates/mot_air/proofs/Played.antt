@@ -10,11 +10,11 @@ use Rattle.mot_air.specs.Playing.{HasAired, IsServed, Plays, Tale, look_of_feed,
 use Rattle.mot_air.specs.declared.manner.Manner.{Manner}
 use Rattle.mot_air.specs.Playing.{tale_of}
 use Rattle.mot_air.specs.Commands.{PlaysInto, Sends}
-use Rattle.mot_destinations.specs.declared.packets.Destination.{Destination}
+use Rattle.mot_endpoints.specs.declared.packets.Destination.{Destination}
 use Rattle.mot_files.specs.Call.{Call}
 use Rattle.mot_files.specs.declared.system.Handle.{Handle}
 use Rattle.mot_update.proofs.Laws.{ends_off, opened_leaves}
-use Rattle.mot_destinations.specs.declared.packets.Target.{Target}
+use Rattle.mot_endpoints.specs.declared.packets.Target.{Target}
 use Rattle.mot_feed.specs.Ends.{NobodyStarves}
 use Rattle.mot_feed.specs.Feeding.{AreOf, AreTold, Event, FedPacketsAreContinuous}
 use Rattle.mot_feed.specs.Feeding.{Feeds, Happen, HasFed, IsFeedFault, RulesAreKept, Stage}

@@ -9,16 +9,16 @@ use Rattle.mot_air.specs.Directory.{IsFrame, directory_of, early_of, look_of}
 use Rattle.mot_air.specs.Playing.{Plays, Tale}
 use Rattle.mot_air.specs.declared.manner.Manner.{Manner}
 use Rattle.mot_air.specs.Telling.{EndsReading, Hands, lines_at, tale_with, watch_in, watched}
-use Rattle.mot_destinations.specs.declared.packets.Target.{Target}
-use Rattle.mot_destinations.specs.declared.packets.Target.TheVariants.{File, Output}
+use Rattle.mot_endpoints.specs.declared.packets.Target.{Target}
+use Rattle.mot_endpoints.specs.declared.packets.Target.TheVariants.{File, Output}
 use Rattle.mot_endpoints.specs.Lines.{IsUnlined}
 use Rattle.mot_endpoints.specs.Opened.{Need, if_given}
 use Rattle.std.specs.Borrow.{Bor}
-use Rattle.mot_destinations.specs.Packets.{IsReason, IsTakenAway, IsTarget, OpensInto, TakesItsPlace}
-use Rattle.mot_destinations.specs.Packets.{target_in, writes_to}
-use Rattle.mot_destinations.specs.declared.fault.Cause.{Cause}
-use Rattle.mot_destinations.specs.declared.fault.PacketsFault.{PacketsFault}
-use Rattle.mot_destinations.specs.declared.packets.Destination.{Destination}
+use Rattle.mot_endpoints.specs.Packets.{IsReason, IsTakenAway, IsTarget, OpensInto, TakesItsPlace}
+use Rattle.mot_endpoints.specs.Packets.{target_in, writes_to}
+use Rattle.mot_endpoints.specs.declared.fault.Cause.{Cause}
+use Rattle.mot_endpoints.specs.declared.fault.PacketsFault.{PacketsFault}
+use Rattle.mot_endpoints.specs.declared.packets.Destination.{Destination}
 use Rattle.mot_endpoints.specs.LinePlaces.{ChecksLines}
 use Rattle.mot_endpoints.specs.declared.lines.Others.{Others}
 use Rattle.mot_files.specs.Call.{Call}

@@ -22,7 +22,7 @@ ghost use Rattle.mot_playout.specs.Attempts.{fault_of};
 use crate::Ended;
 use crate::manner::Manner;
 use disk_model::Disk;
-use mot_destinations::Cause;
+use mot_endpoints::Cause;
 use mot_events::Inlet;
 use mot_feed::feed_every;
 use mot_feed_lines::{Lines, Reported};
@@ -261,7 +261,7 @@ fn play_answering<D: Disk, U: Update + Facts + Drop, F: System + Drop, O: Outlet
     (ended, update, spool.into_system().into_calls())
 }
 
-/// Opens the disk and feeds it into the outlet with lines behind updates that are watched.
+/// Opens the disk and feeds it into the outlet with lines after updates that are watched.
 fn feed_lines<D: Disk, R: Inlet + Drop, U: Update + Facts + Drop, T: Watch + Drop, O: Outlet>(
     alloc: Global,
     disk: D,
@@ -303,7 +303,7 @@ fn looks_at<'a, S: System + Drop>(
     looks
 }
 
-/// The lines of the files in a folder, answered behind these updates, which are watched.
+/// The lines of the files in a folder, answered after these updates, which are watched.
 fn lines_between<'a, F: System + Drop, U: Update + Facts + Drop, T: Watch + Drop>(
     alloc: Global,
     lines: LineFolder<'a, F>,

@@ -78,7 +78,7 @@ pub(crate) fn directory_of(matches: &ArgMatches<'_>) -> Option<TransportId>
         → GiveDirectory (rows_of (found_of matches.now)) directory → ⊥) }
 {
     let after = field(number_of(matches, "after")?, 0)?;
-    // Behind the last id comes the first.
+    // After the last id comes the first.
     TransportId::new(after % 65_535 + 1)
 }
 

@@ -1,1 +1,3 @@
 mod Lifts
+mod Moments
+mod Steps

@@ -19,8 +19,8 @@ use Rattle.mot_copy_command.specs.Command.MakesCopy.{made as copy_made, taken_aw
 use Rattle.mot_copy_command.specs.Command.IsUncopied.{no_file}
 use Rattle.mot_copy_command.specs.Copying.{Copies, TellsCopy}
 use Rattle.mot_copy_command.specs.Copying.TellsCopy.{made, refused}
-use Rattle.mot_copy_command.specs.Inner.{CopiesView, OfView}
-use Rattle.mot_copying.specs.Copied.{IsNotCopied}
+use Rattle.mot_copy_command.specs.Inner.Views.{CopiesView, OfView}
+use Rattle.mot_copy_command.specs.Copied.{IsNotCopied}
 use Rattle.mot_update.specs.Opening.{OfStanding}
 use Rattle.mot_files.specs.Call.{Call, made_disk, opened_disk, removed}
 use Rattle.mot_files.specs.declared.system.Fault.{Fault}

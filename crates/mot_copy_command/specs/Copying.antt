@@ -2,9 +2,9 @@
 use Rattle.std.specs.Prelude.{◌≡◌, ℕ, List, Option, Some, codes, true, false}
 use Rattle.std.specs.Io.KnownBytes.{Keeps}
 use Rattle.disk_model.specs.Disk.{IsStill, KeepsLength, State, Throughout}
-use Rattle.mot_copying.specs.Copied.{HasRestOf, IsCopyOf, IsNotCopied, NoneOrCopyOf}
-use Rattle.mot_copying.specs.declared.copying.NotCopied.{NotCopied}
-use Rattle.mot_copying.specs.declared.copying.NotCopied.TheVariants.{Refused, Unreadable}
+use Rattle.mot_copy_command.specs.Copied.{HasRestOf, IsCopyOf, IsNotCopied, NoneOrCopyOf}
+use Rattle.mot_copy_command.specs.declared.copying.NotCopied.{NotCopied}
+use Rattle.mot_copy_command.specs.declared.copying.NotCopied.TheVariants.{Refused, Unreadable}
 use Rattle.mot_journal.specs.Geometry.{has_magic}
 use Rattle.mot_journal.specs.Image.{Standing}
 use Rattle.mot_numbers.specs.Geometry.{length_of}

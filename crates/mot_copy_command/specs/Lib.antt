@@ -1,3 +1,4 @@
 pub mod Command
+pub mod Copied
 pub mod Copying
 pub mod Inner

@@ -1,315 +1,229 @@
-//! What `copy` does.
-ghost use Rattle.mot_playout.specs.Attempts.{fault_of};
-ghost use Rattle.std.specs.Prelude.{◌≡◌, IfNone, IfSome, IsSome, None, Some, false, true};
-ghost use Rattle.disk_model.specs.Disk.{OnlyReads};
-ghost use Rattle.disk_store.specs.File.{file_state};
-ghost use Rattle.disk_store.specs.Second.{IsLeftOf};
-ghost use Rattle.mot_cli.specs.Options.{geometry_over};
-ghost use Rattle.mot_copy_command.specs.Command.{ComesToCopy, CopiesFile, CopiesTo, IsRefused};
-ghost use Rattle.mot_copy_command.specs.Command.{MakesCopy, OpensOrMakesCopy, OpensTwo};
-ghost use Rattle.mot_copy_command.specs.Copying.{Copies, refusal_of};
-ghost use Rattle.mot_copy_command.specs.Inner.{CopiesView, OfView};
-ghost use Rattle.mot_numbers.specs.Geometry.{IsValid};
-ghost use Rattle.mot_numbers.specs.declared.geometry.Geometry.{Geometry as GeometryOf};
-ghost use Rattle.mot_numbers.specs.declared.refusal.Refusal.TheVariants.{DeviceFault};
-ghost use Rattle.mot_outcome.specs.Outcome.{Finishes};
+//! Making a copy: the bodies, then all but the magic, then the magic.
+ghost use Rattle.std.specs.Prelude.{◌≡◌, ◌+◌, ◌<◌, ◌≤◌, ◌^◌, ℕ, List, length, take, drop, false, Ok};
+ghost use Rattle.std.specs.Prelude.{OnOk, IfErr, IsOk};
+ghost use Rattle.disk_model.specs.Disk.{Keeps, OnlyReads, Throughout};
+ghost use Rattle.mot_copy_command.specs.Copied.{IsCopyOf, NoneOrCopyOf, MakesCopy, RefusesSizes};
+ghost use Rattle.mot_copy_command.specs.Copied.{HasRestOf};
+ghost use Rattle.mot_copy_command.specs.Inner.Steps.{ChangesOnly, IsFault};
+ghost use Rattle.mot_copy_command.specs.Inner.Steps.{IsFilled, NoneOrFilled};
+ghost use Rattle.mot_journal.specs.declared.layout.Layout.TheVariants.{Two};
+ghost use Rattle.mot_journal.specs.Geometry.{has_magic};
+ghost use Rattle.mot_journal.specs.Image.{Standing, area_of, catalogue_of};
+ghost use Rattle.mot_journal.specs.Slot.{AreSound, slot_count};
+ghost use Rattle.mot_numbers.specs.Geometry.{IsValid, area_start as start_of_area, length_of};
+ghost use Rattle.mot_repository.specs.Copy.{bytes_in_row, bytes_of_extents};
+ghost use Rattle.mot_repository.specs.OnDisk.{body_on, extent_at};
+ghost use Rattle.mot_repository.specs.Repository.{HasStanding};
 
+use crate::records::records_of_copy;
 use disk_model::Disk;
-use disk_store::{
-    BegunFile, FileDiskFrom, Second, SecondDisk, Start, Unopened, WasThere, with_second,
-};
-use mot_cli::CopyTask;
-use mot_copying::{NotCopied, copy};
-use mot_destinations::{Cause, NewDiskFault};
-use mot_devices::use_of;
-use mot_endpoints::{Host, Machine};
-use mot_journal::Reason;
-use mot_numbers::{Geometry, Refusal, TransportId};
-use mot_outcome::{Finished, UsedDisk, clear_unfit, write_number};
+use mot_journal::{Geometry, Record, area_start, make_disk, reads_magic};
+use mot_numbers::{Refusal, TransportId};
 use mot_repository::Repository;
-use mot_update::Ended;
 use std::alloc::Global;
-use std::io::Write;
 
-/// What copying came to, with the disk that was copied; that of the copy, if its file was opened or
-/// made; and why it was refused, if more is known than the refusal says.
-type Copying<S> = (
-    Ended<BegunFile<S, WasThere>, ()>,
-    Option<SecondDisk<S>>,
-    Option<Cause>,
-);
+/// The most bytes of a body that are copied at once.
+const PIECE: usize = 4_096;
 
-/// Copies the disk of a file to that of another, which is opened, or made if it can't be, and removed
-/// again if nothing was copied to it. That is not done for sizes that no disk has, or if it is a
-/// device in use or a file of another disk. Prints how many bytes the copy has.
-pub fn copy_file<S: Start, W: Write, M: Machine<File = S::File> + Drop>(
-    host: &mut Host<M>,
+/// Why no copy was made.
+#[derive(Clone, Copy, Debug, PartialEq, Eq)]
+pub enum NotCopied {
+    /// The new disk can't have it (`BadGeometry`, `DiskTooSmall`, `TooManyObjects`, `NoRoom`), there
+    /// is no memory (`OutOfMemory`), the new disk has the magic (`AlreadyFormatted`), or it failed
+    /// (`DeviceFault`). Only after the last was anything written on it.
+    Refused(Refusal),
+    /// The old disk failed as a body was read.
+    Unreadable,
+}
+
+/// Makes a new disk of this geometry, in layout 2, that stands for the same carousel as an open
+/// repository: its bodies lie one after the other. New ids come after `after` if it is given, or else
+/// after the old disk's last. With another segment size each object takes one, and then the
+/// directory; else all objects keep theirs, and the directory takes one unless ids go on after its
+/// own. The magic is written last, so that a crash leaves no magic or the copy. The old disk is only
+/// read. It takes no memory for bodies.
+pub fn copy<D: Disk, E: Disk>(
     alloc: Global,
-    task: &CopyTask<'_>,
-    start: S,
-    writer: &mut W,
-) -> Finished<S, ()>
-    ensures ended { Finishes (λ r. r ≡ DeviceFault) (λ ending used.
-        CopiesFile task.now.sizes task.now.after ending used
-        (W.contents writer.old) (W.contents writer.new))
-        result (W.contents writer.old) (W.contents writer.new) }
-    ensures files { OpensTwo (fault_of result.result) task.now.disk.now task.now.new.now result.disk
-        (M.System.calls host.old.system) (M.System.calls host.new.system) }
-{
-    let (start, second) = with_second(start);
-    let disk = match host.disk(task.disk, start) {
-        Ok(disk) => disk,
-        Err(unopened) => return Finished::unopened(unopened),
-    };
-    let (ended, to, cause) = copy_disk(host, alloc, task, disk, second, writer);
-    Finished {
-        result: ended.result,
-        disk: UsedDisk::OfCopy(ended.disk.disk, to),
-        cause,
-        reason: ended.reason,
-    }
-}
-
-/// Copies a disk that is open.
-fn copy_disk<S: Start, W: Write, M: Machine<File = S::File> + Drop>(
-    host: &mut Host<M>,
-    alloc: Global,
-    task: &CopyTask<'_>,
-    disk: BegunFile<S, WasThere>,
-    second: Second<S>,
-    writer: &mut W,
-) -> Copying<S>
-    ensures ended { CopiesTo task.now.sizes task.now.after (fault_of result.0.result) result.1
-        (W.contents writer.old) (W.contents writer.new)
-        (file_state disk.disk) (file_state result.0.disk.disk) }
-    ensures files { ComesToCopy (fault_of result.0.result) task.now.new.now result.1
-        (M.System.calls host.old.system) (M.System.calls host.new.system) }
-{
-    let repository = match Repository::open(alloc, disk) {
-        Ok(repository) => repository,
-        Err(refused) => {
-            clear_unfit(host, refused.refusal);
-            return uncopied(refused.disk, refused.refusal, None, refused.reason);
-        }
-    };
-    let Some(geometry) = valid_sizes(task, repository.geometry()) else {
-        return uncopied(repository.into_disk(), Refusal::BadGeometry, None, None);
-    };
-    if let Some(found) = use_of(&mut host.system, alloc, task.new) {
-        let cause = Cause::NewDisk(NewDiskFault::from(found));
-        return uncopied(
-            repository.into_disk(),
-            Refusal::DeviceFault,
-            Some(cause),
-            None,
-        );
-    }
-    copy_open(host, alloc, repository, &geometry, task, second, writer)
-}
-
-/// The sizes of the copy, if a disk has such.
-fn valid_sizes(task: &CopyTask<'_>, base: Geometry) -> Option<Geometry>
-    ensures some { IfSome result (λ g. (geometry_over base task.now.sizes ≡ Some g) × IsValid g) }
-    ensures none { IfNone result ((g : GeometryOf)
-        → geometry_over base task.now.sizes ≡ Some g → IsValid g → ⊥) }
-{
-    let geometry = task.sizes.over(&base)?;
-    if geometry.is_valid() {
-        Some(geometry)
-    } else {
-        None
-    }
-}
-
-/// The end of a copying for which no other file was opened or made.
-fn uncopied<S: Start>(
-    from: BegunFile<S, WasThere>,
-    refusal: Refusal,
-    cause: Option<Cause>,
-    reason: Option<Reason>,
-) -> Copying<S>
-    ensures { result ≡ (record { disk = from; result = Err refusal; reason = reason }, None, cause) }
-{
-    let ended = Ended {
-        disk: from,
-        result: Err(refusal),
-        reason,
-    };
-    (ended, None, cause)
-}
-
-/// Copies an open disk to that of the file at the path of the task, which is opened or made.
-fn copy_open<S: Start, W: Write, M: Machine<File = S::File> + Drop>(
-    host: &mut Host<M>,
-    alloc: Global,
-    mut repository: Repository<BegunFile<S, WasThere>>,
-    geometry: &Geometry,
-    task: &CopyTask<'_>,
-    second: Second<S>,
-    writer: &mut W,
-) -> Copying<S>
-    requires { IsValid geometry.now }
-    ensures reads { OnlyReads (file_state repository.disk.disk)
-        (file_state result.0.disk.disk) }
-    ensures ended { CopiesView repository.view geometry.now task.now.after
-        (fault_of result.0.result) result.1 (W.contents writer.old) (W.contents writer.new)
-        (file_state repository.disk.disk) (file_state result.0.disk.disk) }
-    ensures files { OpensOrMakesCopy (fault_of result.0.result) task.now.new.now result.1
-        (M.System.calls host.old.system) (M.System.calls host.new.system) }
-{
-    match host.disk(task.new, second) {
-        Ok(mut to) => {
-            let made = tell_copy(
-                alloc,
-                &mut repository,
-                &mut to,
-                geometry,
-                task.after,
-                writer,
-            );
-            if is_refused(&made) {
-                host.clear_side();
-            }
-            end_of(repository, to.disk, made, geometry)
-        }
-        Err(unopened) => copy_to_new(host, alloc, repository, geometry, task, unopened, writer),
-    }
-}
-
-/// Copies an open disk to that of a new file. If nothing was copied, it is removed.
-fn copy_to_new<S: Start, W: Write, M: Machine<File = S::File> + Drop>(
-    host: &mut Host<M>,
-    alloc: Global,
-    mut repository: Repository<BegunFile<S, WasThere>>,
-    geometry: &Geometry,
-    task: &CopyTask<'_>,
-    unopened: Unopened<Second<S>>,
-    writer: &mut W,
-) -> Copying<S>
-    requires { IsValid geometry.now }
-    ensures reads { OnlyReads (file_state repository.disk.disk)
-        (file_state result.0.disk.disk) }
-    ensures ended { CopiesView repository.view geometry.now task.now.after
-        (fault_of result.0.result) result.1 (W.contents writer.old) (W.contents writer.new)
-        (file_state repository.disk.disk) (file_state result.0.disk.disk) }
-    ensures files { MakesCopy (fault_of result.0.result) task.now.new.now result.1
-        (M.System.calls host.old.system) (M.System.calls host.new.system) }
-{
-    let mut to = match host.make_disk(task.new, geometry.length(), unopened.start) {
-        Ok(to) => to,
-        Err(unmade) => {
-            let fault = NewDiskFault::Disk(unmade.behind(unopened.fault).fault);
-            let cause = Some(Cause::NewDisk(fault));
-            return uncopied(repository.into_disk(), Refusal::DeviceFault, cause, None);
-        }
-    };
-    let made = tell_copy(
-        alloc,
-        &mut repository,
-        &mut to,
-        geometry,
-        task.after,
-        writer,
-    );
-    if is_refused(&made) {
-        host.take_away(task.new);
-    }
-    end_of(repository, to.disk, made, geometry)
-}
-
-/// Whether copying was refused, and not only the telling of it.
-fn is_refused(made: &Result<(), Refusal>) -> bool
-    ensures refused { result ≡ true → IsRefused (fault_of made.now) }
-    ensures copied { result ≡ false → IsRefused (fault_of made.now) → ⊥ }
-{
-    match made {
-        Err(refusal) => *refusal != Refusal::WriteFault,
-        Ok(()) => false,
-    }
-}
-
-/// The end of a copying to this disk.
-fn end_of<S: Start>(
-    repository: Repository<BegunFile<S, WasThere>>,
-    to: FileDiskFrom<Second<S>>,
-    made: Result<(), Refusal>,
-    geometry: &Geometry,
-) -> Copying<S>
-    ensures from { result.0.disk ≡ repository.disk }
-    ensures to { IfSome result.1 (λ second. IsLeftOf second to) }
-    ensures some { IsSome result.1 }
-    ensures made { result.0.result ≡ made }
-{
-    let cause = cause_of(&made, &repository, geometry);
-    let reason = match made {
-        Ok(()) => None,
-        Err(refusal) => Reason::of_formatting(refusal, to.len(), geometry),
-    };
-    let ended = Ended {
-        disk: repository.into_disk(),
-        result: made,
-        reason,
-    };
-    (ended, Some(SecondDisk::of(to)), cause)
-}
-
-/// Why a copy has no room, with both numbers.
-fn cause_of<D: Disk>(
-    made: &Result<(), Refusal>,
-    repository: &Repository<D>,
-    geometry: &Geometry,
-) -> Option<Cause> {
-    let fault = match made {
-        Err(Refusal::TooManyObjects) => NewDiskFault::Objects {
-            count: repository.body_count(),
-            most: geometry.objects,
-        },
-        Err(Refusal::NoRoom) => NewDiskFault::Bodies {
-            length: length_of_bodies(repository),
-            room: geometry.area,
-        },
-        _ => return None,
-    };
-    Some(Cause::NewDisk(fault))
-}
-
-/// How many bytes all bodies have.
-fn length_of_bodies<D: Disk>(repository: &Repository<D>) -> u64 {
-    let mut length: u64 = 0;
-    let count = repository.body_count();
-    for place in 0..count {
-        length = length.saturating_add(u64::from(repository.body_length(place)));
-    }
-    length
-}
-
-/// Makes the copy, and prints how many bytes it has.
-fn tell_copy<D: Disk, E: Disk, W: Write>(
-    alloc: Global,
-    repository: &mut Repository<D>,
+    from: &mut Repository<D>,
     to: &mut E,
     geometry: &Geometry,
     after: Option<TransportId>,
-    writer: &mut W,
-) -> Result<(), Refusal>
-    ensures reads { OnlyReads (D.state repository.old.disk) (D.state repository.new.disk) }
-    ensures copies { Copies (OfView repository.old.view (D.state repository.old.disk)
-        (D.state repository.new.disk)) (D.state repository.old.disk).failures
-        (D.state repository.new.disk).failures geometry.now after (fault_of result)
-        (W.contents writer.old) (W.contents writer.new) (E.state to.old) (E.state to.new) }
+) -> Result<(), NotCopied>
+    ensures only_reads { OnlyReads (D.state from.old.disk) (D.state from.new.disk) }
+    ensures view { from.new.view ≡ from.old.view }
+    ensures makes { MakesCopy from.old.view geometry.now (D.state from.old.disk).failures
+        (D.state from.new.disk).failures (E.state to.old) (E.state to.new) result }
+    ensures sizes { RefusesSizes from.old.view geometry.now (E.state to.old).len result }
+
+    // At each moment a crash leaves no magic, or the copy.
+    ensures any_moment { (s : Standing) → HasStanding from.old.view s (D.state from.old.disk)
+        → (D.state from.new.disk).IsHonest → (E.state to.new).IsHonest
+        → ((image : List ℕ) → (E.state to.old).MayLeave image → has_magic image ≡ false)
+        → Throughout (E.state to.old) (E.state to.new) (NoneOrCopyOf geometry.now after s) }
+
+    // Once it is Ok, each crash leaves the copy.
+    ensures ok { (s : Standing) → HasStanding from.old.view s (D.state from.old.disk)
+        → (D.state from.new.disk).IsHonest → (E.state to.new).IsHonest
+        → OnOk result ((image : List ℕ) → (E.state to.new).MayLeave image
+        → IsCopyOf geometry.now after s image) }
 {
-    match copy(alloc, repository, to, geometry, after) {
-        Ok(()) => write_number(writer, b"copied ", geometry.length()),
-        Err(why) => Err(refusal_of(why)),
+    if !geometry.is_valid() {
+        return Err(NotCopied::Refused(Refusal::BadGeometry));
+    }
+    if to.len() < geometry.length() {
+        return Err(NotCopied::Refused(Refusal::DiskTooSmall));
+    }
+    match records_of_copy(from, alloc, geometry, after) {
+        Ok(records) => copy_over(from, to, geometry, &records),
+        Err(refusal) => Err(NotCopied::Refused(refusal)),
     }
 }
 
-/// The refusal of a copy that was not made.
-fn refusal_of(why: NotCopied) -> Refusal
-    ensures { result ≡ refusal_of why }
+/// Makes the disk with these records, if it has not the magic.
+fn copy_over<D: Disk, E: Disk>(
+    from: &mut Repository<D>,
+    to: &mut E,
+    geometry: &Geometry,
+    records: &[Record],
+) -> Result<(), NotCopied>
+    requires valid { IsValid geometry.now }
+    requires long_enough { length_of geometry.now ≤ (E.state to.old).len }
+    requires some { 0 < length records.now }
+    requires few { length records.now ≤ slot_count Two geometry.now }
+    requires sound { AreSound geometry.now Two records.now }
+    requires room { bytes_of_extents from.old.view.extents ≤ geometry.now.area }
+    ensures only_reads { OnlyReads (D.state from.old.disk) (D.state from.new.disk) }
+    ensures view { from.new.view ≡ from.old.view }
+    ensures makes { MakesCopy from.old.view geometry.now (D.state from.old.disk).failures
+        (D.state from.new.disk).failures (E.state to.old) (E.state to.new) result }
+    ensures any_moment { (D.state from.new.disk).IsHonest → (E.state to.new).IsHonest
+        → IsOk (catalogue_of geometry.now.objects records.now)
+        → ((image : List ℕ) → (E.state to.old).MayLeave image → has_magic image ≡ false)
+        → Throughout (E.state to.old) (E.state to.new) (NoneOrFilled geometry.now records.now
+        (bytes_of_extents from.old.view.extents) (bytes_in_row from.old.view.journal.geometry
+        from.old.view.extents (D.state from.old.disk).bytes)) }
+    ensures ok { (D.state from.new.disk).IsHonest → (E.state to.new).IsHonest
+        → IsOk (catalogue_of geometry.now.objects records.now)
+        → OnOk result ((image : List ℕ) → (E.state to.new).MayLeave image
+        → IsFilled geometry.now records.now (bytes_of_extents from.old.view.extents)
+        (bytes_in_row from.old.view.journal.geometry from.old.view.extents
+        (D.state from.old.disk).bytes) image) }
 {
-    match why {
-        NotCopied::Refused(refusal) => refusal,
-        NotCopied::Unreadable => Refusal::DeviceFault,
+    let Ok(is_formatted) = reads_magic(to) else {
+        return Err(NotCopied::Refused(Refusal::DeviceFault));
+    };
+    if is_formatted {
+        return Err(NotCopied::Refused(Refusal::AlreadyFormatted));
     }
+    fill(from, to, geometry, records)
+}
+
+/// Writes the bodies, and then makes the disk with these records.
+fn fill<D: Disk, E: Disk>(
+    from: &mut Repository<D>,
+    to: &mut E,
+    geometry: &Geometry,
+    records: &[Record],
+) -> Result<(), NotCopied>
+    requires valid { IsValid geometry.now }
+    requires long_enough { length_of geometry.now ≤ (E.state to.old).len }
+    requires some { 0 < length records.now }
+    requires few { length records.now ≤ slot_count Two geometry.now }
+    requires sound { AreSound geometry.now Two records.now }
+    requires room { bytes_of_extents from.old.view.extents ≤ geometry.now.area }
+    ensures only_reads { OnlyReads (D.state from.old.disk) (D.state from.new.disk) }
+    ensures view { from.new.view ≡ from.old.view }
+    ensures keeps { Keeps (E.state to.old) (E.state to.new) }
+    ensures fault { IfErr result (λ why. IsFault (D.state from.old.disk).failures
+        (D.state from.new.disk).failures (E.state to.old).failures (E.state to.new).failures why) }
+    ensures rest { (E.state to.old).IsHonest → Throughout (E.state to.old) (E.state to.new)
+        (HasRestOf geometry.now (E.state to.old)) }
+    ensures any_moment { (D.state from.new.disk).IsHonest → (E.state to.old).IsHonest
+        → IsOk (catalogue_of geometry.now.objects records.now)
+        → ((image : List ℕ) → (E.state to.old).MayLeave image → has_magic image ≡ false)
+        → Throughout (E.state to.old) (E.state to.new) (NoneOrFilled geometry.now records.now
+        (bytes_of_extents from.old.view.extents) (bytes_in_row from.old.view.journal.geometry
+        from.old.view.extents (D.state from.old.disk).bytes)) }
+    ensures ok { (D.state from.new.disk).IsHonest → (E.state to.old).IsHonest
+        → IsOk (catalogue_of geometry.now.objects records.now)
+        → OnOk result ((image : List ℕ) → (E.state to.new).MayLeave image
+        → IsFilled geometry.now records.now (bytes_of_extents from.old.view.extents)
+        (bytes_in_row from.old.view.journal.geometry from.old.view.extents
+        (D.state from.old.disk).bytes) image) }
+{
+    write_bodies(from, to, geometry)?;
+    let Ok(()) = make_disk(to, geometry, records) else {
+        return Err(NotCopied::Refused(Refusal::DeviceFault));
+    };
+    Ok(())
+}
+
+/// Writes the bodies one after the other from the beginning of the data area.
+fn write_bodies<D: Disk, E: Disk>(
+    from: &mut Repository<D>,
+    to: &mut E,
+    geometry: &Geometry,
+) -> Result<(), NotCopied>
+    requires valid { IsValid geometry.now }
+    requires long_enough { length_of geometry.now ≤ (E.state to.old).len }
+    requires room { bytes_of_extents from.old.view.extents ≤ geometry.now.area }
+    ensures only_reads { OnlyReads (D.state from.old.disk) (D.state from.new.disk) }
+    ensures view { from.new.view ≡ from.old.view }
+    ensures keeps { Keeps (E.state to.old) (E.state to.new) }
+    ensures fault { IfErr result (λ why. IsFault (D.state from.old.disk).failures
+        (D.state from.new.disk).failures (E.state to.old).failures (E.state to.new).failures why) }
+    ensures range { (E.state to.old).IsHonest → ChangesOnly (start_of_area geometry.now)
+        geometry.now.area (E.state to.old) (E.state to.new) }
+    ensures written { (E.state to.old).IsHonest → (D.state from.new.disk).IsHonest → OnOk result
+        (take (bytes_of_extents from.old.view.extents) (area_of geometry.now (E.state to.new).bytes)
+        ≡ bytes_in_row from.old.view.journal.geometry from.old.view.extents
+        (D.state from.old.disk).bytes) }
+{
+    let mut at = area_start(geometry);
+    let count = from.body_count();
+    for place in 0..count {
+        let length = from.body_length(place);
+        write_body(from, place, to, at)?;
+        at += u64::from(length);
+    }
+    Ok(())
+}
+
+/// Writes the body at this place, 4,096 bytes at once, from this position on.
+fn write_body<D: Disk, E: Disk>(
+    from: &mut Repository<D>,
+    place: usize,
+    to: &mut E,
+    at: u64,
+) -> Result<(), NotCopied>
+    requires place { place < length from.old.view.extents }
+    requires low { at < 2 ^ 62 }
+    requires fits { at + (extent_at from.old.view.extents place).1 ≤ (E.state to.old).len }
+    ensures only_reads { OnlyReads (D.state from.old.disk) (D.state from.new.disk) }
+    ensures view { from.new.view ≡ from.old.view }
+    ensures keeps { Keeps (E.state to.old) (E.state to.new) }
+    ensures fault { IfErr result (λ why. IsFault (D.state from.old.disk).failures
+        (D.state from.new.disk).failures (E.state to.old).failures (E.state to.new).failures why) }
+    ensures range { (E.state to.old).IsHonest → ChangesOnly at
+        (extent_at from.old.view.extents place).1 (E.state to.old) (E.state to.new) }
+    ensures written { (E.state to.old).IsHonest → (D.state from.new.disk).IsHonest → OnOk result
+        (take (extent_at from.old.view.extents place).1 (drop at (E.state to.new).bytes)
+        ≡ body_on from.old.view.journal.geometry from.old.view.extents place
+        (D.state from.old.disk).bytes) }
+{
+    let size = from.body_length(place) as usize;
+    let mut piece = [0u8; PIECE];
+    let mut done = 0;
+    while done < size {
+        let count = PIECE.min(size - done);
+        let part = &mut piece[..count];
+        let Ok(()) = from.read_body(place, done, part) else {
+            return Err(NotCopied::Unreadable);
+        };
+        let Ok(()) = to.write(at + done as u64, part) else {
+            return Err(NotCopied::Refused(Refusal::DeviceFault));
+        };
+        done += count;
+    }
+    Ok(())
 }

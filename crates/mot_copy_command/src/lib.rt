@@ -1,6 +1,11 @@
-//! The command that copies a disk, over any streams.
+//! A copy of a disk: the same carousel on a new disk of other sizes, and the command that makes it,
+//! over any streams.
 #![tactic(auto)]
 
+mod command;
 mod copying;
+mod records;
 
-pub use copying::copy_file;
+pub use command::copy_file;
+pub use copying::{NotCopied, copy};
+pub use records::records_of_copy;

@@ -4,7 +4,7 @@ ghost use Rattle.mot_devices.specs.Parts.{parts_of};
 
 use memchr::memchr;
 
-/// The first of the parts that this byte ends, and what stands behind its end; `None` if there is
+/// The first of the parts that this byte ends, and what stands after its end; `None` if there is
 /// none.
 pub(crate) fn cut(byte: u8, bytes: &[u8]) -> Option<(&[u8], &[u8])>
     ensures first { IfSome result (λ cut. parts_of byte bytes.now ≡ cut.0.now ∷ parts_of byte cut.1.now) }

@@ -1,6 +1,10 @@
 pub mod Inner
 pub mod LinePlaces
 pub mod Lines
+pub mod Names
 pub mod Opened
-pub mod Types
+pub mod Packets
+pub mod Placing
+pub mod Status
 pub mod Texts
+pub mod Types

@@ -4,9 +4,9 @@ use Rattle.std.specs.Prelude.{◌≡◌, ◌≢◌, ℕ, Bool, true, false, List
 use Rattle.std.specs.Prelude.{Option, None, Some, IsUtf8, codes, take}
 use Rattle.std.specs.Borrow.{Bor}
 use Rattle.std.specs.declared.io.Error.{Error}
-use Rattle.mot_destinations.specs.Names.{folder_of}
-use Rattle.mot_destinations.specs.Placing.{is_answer_of}
-use Rattle.mot_destinations.specs.declared.fault.LinesFault.{LinesFault}
+use Rattle.mot_endpoints.specs.Names.{folder_of}
+use Rattle.mot_endpoints.specs.Placing.{is_answer_of}
+use Rattle.mot_endpoints.specs.declared.fault.LinesFault.{LinesFault}
 use Rattle.mot_endpoints.specs.declared.lines.Others.{Others}
 use Rattle.mot_files.specs.Call.{Call, followed, resolved}
 use Rattle.mot_files.specs.declared.system.Fault.{Fault}

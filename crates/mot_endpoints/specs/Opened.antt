@@ -2,9 +2,9 @@
 use Rattle.std.specs.Prelude.{ℕ, ◌≡◌, List, [], ◌∷◌, ◌++◌, Option, Some, None, Err}
 use Rattle.std.specs.Prelude.{Bool, true, false}
 use Rattle.std.specs.Borrow.{Bor}
-use Rattle.mot_destinations.specs.Packets.{OpensPackets}
-use Rattle.mot_destinations.specs.declared.fault.Cause.{Cause}
-use Rattle.mot_destinations.specs.declared.fault.LinesFault.{LinesFault}
+use Rattle.mot_endpoints.specs.Packets.{OpensPackets}
+use Rattle.mot_endpoints.specs.declared.fault.Cause.{Cause}
+use Rattle.mot_endpoints.specs.declared.fault.LinesFault.{LinesFault}
 use Rattle.mot_endpoints.specs.LinePlaces.{ChecksLines}
 use Rattle.mot_endpoints.specs.Texts.{AsksFirst, IsTextOf}
 use Rattle.mot_endpoints.specs.declared.lines.Others.{Others}

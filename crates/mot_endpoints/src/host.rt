@@ -6,10 +6,10 @@ ghost use Rattle.disk_store.specs.Beginning.{IsFirst};
 ghost use Rattle.disk_store.specs.File.{file_state};
 ghost use Rattle.mot_endpoints.specs.LinePlaces.{ChecksLines};
 ghost use Rattle.mot_endpoints.specs.Opened.{TakesIn};
-ghost use Rattle.mot_destinations.specs.Packets.{IsTarget, OpensInto, OpensPackets};
-ghost use Rattle.mot_destinations.specs.Packets.{destination_of};
-ghost use Rattle.mot_destinations.specs.Packets.{target_of, writer_handle, writer_system};
-ghost use Rattle.mot_destinations.specs.Status.{status_disk, status_system};
+ghost use Rattle.mot_endpoints.specs.Packets.{IsTarget, OpensInto, OpensPackets};
+ghost use Rattle.mot_endpoints.specs.Packets.{destination_of};
+ghost use Rattle.mot_endpoints.specs.Packets.{target_of, writer_handle, writer_system};
+ghost use Rattle.mot_endpoints.specs.Status.{status_disk, status_system};
 ghost use Rattle.mot_files.specs.Call.{apart, call, made_disk, opened_disk, removed};
 ghost use Rattle.mot_files.specs.declared.system.Fault.{Fault};
 ghost use Rattle.mot_files.specs.declared.system.Part.TheVariants as Part;
@@ -17,11 +17,11 @@ ghost use Rattle.mot_shelf.specs.Reader.{view};
 ghost use Rattle.mot_shelf.specs.View.{folder_at};
 
 use crate::lines::{Others, check_folder};
+use crate::{Cause, LinesFault, OpenPackets, StatusFile, Target, open_packets};
 use disk_store::{
     BegunFile, DiskFiles, HostFiles, SideFile, Start, Unopened, WasMade, WasThere, make_file,
     open_file,
 };
-use mot_destinations::{Cause, LinesFault, OpenPackets, StatusFile, Target, open_packets};
 use mot_files::{CallLog, Event, Fault, HostSystem, Part, System};
 use mot_line_folder::LinePlace;
 use mot_shelf::FolderReader;

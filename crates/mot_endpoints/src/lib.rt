@@ -1,11 +1,21 @@
-//! The one handle on the files of a command; whether lines may come from a folder, and which suffixes
-//! a file adds.
+//! Where packets and the status of a disk on air go, where lines come from, which suffixes a file
+//! adds, and the one handle on the files of a command.
 #![tactic(auto)]
 
+mod beside;
+mod fault;
 mod host;
 mod lines;
+mod new_file;
+mod packets;
+mod status_file;
 mod types;
 
+pub use beside::{SUFFIX, folder_of, leads_to};
+pub use fault::{Cause, LinesFault, NewDiskFault, PacketsFault, TypesFault, Unbegun};
 pub use host::{Host, Machine};
 pub use lines::{Others, line_folder};
+pub use new_file::NewPlace;
+pub use packets::{Destination, OUTPUT, OpenPackets, Opening, PacketWriter, Target, open_packets};
+pub use status_file::StatusFile;
 pub use types::file_types;

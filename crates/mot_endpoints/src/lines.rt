@@ -11,7 +11,7 @@ ghost use Rattle.mot_files.specs.declared.system.Kind.TheVariants.{Folder};
 ghost use Rattle.mot_line_folder.specs.declared.folder.LineFolder.{LineFolder};
 
 use crate::host::{Host, Machine};
-use mot_destinations::{Cause, LinesFault, OUTPUT, Unbegun, folder_of, leads_to};
+use crate::{Cause, LinesFault, OUTPUT, Unbegun, folder_of, leads_to};
 use mot_files::{Fault, Kind, Seen, System};
 use mot_line_folder::LineFolder;
 use mot_lines::Hand;

@@ -11,7 +11,7 @@ ghost use Rattle.mot_files.specs.Reading.{IsSame};
 ghost use Rattle.mot_files.specs.declared.system.Seen.{Seen};
 
 use crate::host::{Host, Machine};
-use mot_destinations::{Cause, TypesFault, Unbegun};
+use crate::{Cause, TypesFault, Unbegun};
 use mot_files::{Fault, Handle, How, Seen, System, is_regular, is_same};
 use mot_numbers::Refusal;
 use mot_suffixes::{FileTypes, RefusedLine};

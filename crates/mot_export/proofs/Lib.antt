@@ -1,5 +1,6 @@
 pub mod Exported
 pub mod Filled
+pub mod FilledBehind
 pub mod Inspected
 pub mod Played
 pub mod Printed

@@ -6,14 +6,13 @@ use Rattle.std.specs.Fmt.{decimal}
 use Rattle.std.specs.List.{sum_by}
 use Rattle.std.specs.Io.KnownBytes.{Appends, Keeps}
 use Rattle.disk_model.specs.Disk.{State, OnlySyncs}
-use Rattle.disk_model.specs.Failures.{Rises}
 use Rattle.mot_journal.specs.Image.{DiskRecords, Standing, records_of}
 use Rattle.mot_journal.specs.Slot.{slot_count}
 use Rattle.mot_journal.specs.declared.layout.Layout.{Layout}
+use Rattle.mot_numbers.specs.Geometry.{packet_room}
 use Rattle.mot_numbers.specs.declared.geometry.Geometry.{Geometry}
 use Rattle.mot_numbers.specs.declared.numbers.TheConstants.{MAX_SEGMENT, MIN_SEGMENT}
 use Rattle.mot_numbers.specs.declared.refusal.Refusal.{Refusal}
-use Rattle.mot_numbers.specs.declared.refusal.Refusal.TheVariants.{BadNumber, DeviceFault}
 use Rattle.mot_numbers.specs.declared.refusal.Refusal.TheVariants.{OutOfMemory, WriteFault}
 use Rattle.mot_objects.specs.Carousel.{Object}
 use Rattle.mot_listening.specs.Waits.{longest_group, round_for, soon_for, turn_packets}
@@ -21,11 +20,13 @@ use Rattle.mot_player.specs.Laws.{IsAtTurnsBeginning}
 use Rattle.mot_player.specs.Place.{Place, directory_packets}
 use Rattle.mot_player.specs.Turn.{Turn, turn_of_carousel}
 use Rattle.mot_listening.specs.Lengths.{frame_size, lengths_of_turn}
+use Rattle.mot_listening.specs.TurnSize.{size_of_turn}
+use Rattle.mot_listening.specs.declared.turn.TurnSize.{TurnSize}
 use Rattle.mot_export.specs.Filling.{frames_of, tenths_of}
 use Rattle.mot_export.specs.declared.filling.Frames.{Frames}
 use Rattle.mot_update.specs.Opening.{IsOpenable, IsUnopened, OfStanding, first_place}
 use Rattle.mot_carousel.specs.Gap.{IsLongestGap}
-use Rattle.mot_playout.specs.Playing.{HasPlayedTurn, IsGoing}
+use Rattle.mot_playout.specs.Playing.{HasPlayedTurn}
 use Rattle.mot_session.specs.Served.{WritesFront}
 
 -- a word and a number
@@ -106,18 +107,15 @@ lengths_text rates size in_24 in_48 in_72 in_96 =
     ++ filled_line (codes "longer") (filled_above size)
     ++ flat_map (λ (rate : ℕ). seconds_line rate in_24 in_48 in_72 in_96) rates
 
--- a turn of so many packets and bytes
-abbrev pub turn_text : ℕ → ℕ → List ℕ
-turn_text packets bytes =
-    codes "turn " ++ decimal packets ++ codes " packets " ++ decimal bytes ++ codes " bytes" ++ 10
-    ∷ []
+-- the packets and bytes of a turn
+abbrev pub turn_text : TurnSize → List ℕ
+turn_text size =
+    codes "turn " ++ decimal size.packets ++ codes " packets " ++ decimal size.bytes
+    ++ codes " bytes" ++ 10 ∷ []
 
--- the bytes of all bodies, and of all packets
+-- the bytes of all bodies
 abbrev pub bytes_of_bodies : List Object → ℕ
 bytes_of_bodies objects = sum_by (λ (o : Object). length o.body) objects
-
-abbrev pub bytes_of_all : List (List ℕ) → ℕ
-bytes_of_all packets = sum_by length packets
 
 -- the lines about a turn in packets of each length
 abbrev pub turn_lengths_text : List ℕ → ℕ → Turn → List ℕ
@@ -154,18 +152,17 @@ TurnsHaveTheirPackets =
     → IsAtTurnsBeginning place → HasPlayedTurn place packets new
     → length packets ≡ turn_packets place
 
--- all that is told, with the longest gap, the packets of a turn, those of its directory, and the
--- rates of sub-channels
-abbrev pub inspection_text : Standing → Layout → (records gap : ℕ) → List (List ℕ)
-    → (directory : ℕ) → List ℕ → List ℕ
-inspection_text s layout records gap packets directory rates =
+-- all that is told, with the longest gap, the packets of the directory, and the rates of
+-- sub-channels
+abbrev pub inspection_text : Standing → Layout → (records gap directory : ℕ) → List ℕ → List ℕ
+inspection_text s layout records gap directory rates =
+    let turn = turn_of_carousel s.carousel s.geometry.segment in
+    let size = size_of_turn (packet_room s.geometry) s.geometry.segment turn in
     sizes_text s.geometry
     ++ use_text s.geometry layout (length s.carousel.objects) (bytes_of_bodies s.carousel.objects)
     gap records
-    ++ turn_text (length packets) (bytes_of_all packets)
-    ++ turn_lengths_text rates s.geometry.segment
-    (turn_of_carousel s.carousel s.geometry.segment)
-    ++ waits_text (longest_group (first_place s)) directory (length packets)
+    ++ turn_text size ++ turn_lengths_text rates s.geometry.segment turn
+    ++ waits_text (longest_group (first_place s)) directory size.packets
 
 -- In these the disk was in a state start and is in a state now, and the writer's known bytes were
 -- old and are new.
@@ -177,20 +174,12 @@ pub record TellsOfDisk (rates : List ℕ) (s : Standing) (bytes : List ℕ)
   pub read : records_of bytes ≡ Ok journal
   pub gap : ℕ
   pub longest : IsLongestGap s.extents s.geometry.area gap
-  pub packets : List (List ℕ)
-  pub place : Place
-  pub turn : HasPlayedTurn (first_place s) packets place
-  pub printed : is_printed (inspection_text s journal.layout (length journal.records) gap packets
+  pub printed : is_printed (inspection_text s journal.layout (length journal.records) gap
       (directory_packets (first_place s)) rates)
 
--- a turn from this place on has more packets than a number of 64 bits counts
-abbrev pub IsUncounted : Place → Type 0
-IsUncounted place = (packets : List (List ℕ)) × (last : Place) × IsGoing place packets last
-    × (18446744073709551615 ≤ length packets)
-
--- This refusal ended the telling, or none did. All of what is told of the disk was printed; or some
--- first bytes of it, since the writer failed; or nothing, since the disk failed, memory was wanted,
--- or a turn was not counted. A fault of the disk is told where it has failed, and nowhere else.
+-- This refusal ended the telling, or none did, and the disk has not failed. All of what is told of
+-- it was printed; or some first bytes of it, since the writer failed; or nothing, since memory was
+-- wanted.
 abbrev pub PrintsFigures : (rate : Option ℕ) → Option Refusal → (old new : Option (List ℕ))
     → (start now : State) → Type 0
 PrintsFigures rate None old new start now = (now.failures ≡ start.failures)
@@ -198,12 +187,8 @@ PrintsFigures rate None old new start now = (now.failures ≡ start.failures)
 PrintsFigures rate (Some WriteFault) old new start now = (now.failures ≡ start.failures)
     × OfStanding (λ s. TellsOfDisk (rates_of rate) s start.bytes
     (λ text. WritesFront text old new)) start now
-PrintsFigures rate (Some DeviceFault) old new start now =
-    Rises start.failures now.failures × Keeps old new
 PrintsFigures rate (Some OutOfMemory) old new start now =
     (now.failures ≡ start.failures) × Keeps old new
-PrintsFigures rate (Some BadNumber) old new start now = (now.failures ≡ start.failures)
-    × Keeps old new × OfStanding (λ s. IsUncounted (first_place s)) start now
 PrintsFigures rate (Some refusal) old new start now = ⊥
 
 -- The disk was only synced. It was not opened, and nothing was printed; or it was, and its figures

@@ -1,10 +1,11 @@
 //! Frames of a sub-channel, filled as a multiplexer fills them.
-ghost use Rattle.std.specs.Prelude.{◌≡◌, ◌+◌, ◌*◌, ◌^◌, ◌<◌, ◌≤◌, ◌∷◌, map};
+ghost use Rattle.std.specs.Prelude.{◌≡◌, ◌+◌, ◌^◌, ◌<◌, ◌≤◌, ◌∷◌, map};
 ghost use Rattle.std.specs.List.{fold};
 ghost use Rattle.mot_numbers.specs.PacketLength.{room_of};
 ghost use Rattle.mot_objects.specs.declared.body.TheConstants.{MAX_BODY};
 ghost use Rattle.mot_objects.specs.declared.object.Object.{Object};
 ghost use Rattle.mot_export.specs.Filling.{frames_of, no_frames, with_packet};
+ghost use Rattle.mot_export.specs.Inner.Filled.{followed_by, frame_with};
 ghost use Rattle.mot_listening.specs.Entities.{entity_lengths, group_lengths, packet_length};
 ghost use Rattle.mot_listening.specs.Entities.{turn_lengths};
 
@@ -37,6 +38,16 @@ impl Frames {
         }
     }
 
+    /// Those that were filled from what is left of these on.
+    fn add(&mut self, behind: Frames)
+        requires few { (self.old.begun < 2 ^ 120) × (behind.begun < 2 ^ 20) }
+        ensures { self.new ≡ followed_by self.old behind }
+    {
+        self.begun += behind.begun;
+        self.left = behind.left;
+        self.fits = self.fits && behind.fits;
+    }
+
     /// Puts a packet into the frame, or into the next if it has no room there.
     fn fill(&mut self, size: usize, packet: usize)
         requires { self.old.begun < 2 ^ 120 }
@@ -49,6 +60,60 @@ impl Frames {
             self.begun += 1;
             self.left = size.saturating_sub(packet);
             self.fits = self.fits && packet <= size;
+        }
+    }
+}
+
+/// How many steps are kept.
+const STEPS: usize = 64;
+
+/// What a group makes of a frame.
+#[derive(Clone, Copy)]
+struct Step {
+    /// The bytes of a frame.
+    size: usize,
+    /// The data bytes of a full packet.
+    room: usize,
+    /// The bytes of the group.
+    len: usize,
+    /// How many bytes of the frame are left in front of it.
+    left: usize,
+    /// That frame behind it, or those that were begun.
+    frames: Frames,
+    ghost right: { frames ≡ fold (with_packet size) (frame_with left) (group_lengths room len) },
+    ghost few: { frames.begun < 2 ^ 20 },
+}
+
+impl Step {
+    /// What no group makes of a frame with no bytes left.
+    fn none() -> Self {
+        Step {
+            size: 0,
+            room: 19,
+            len: 0,
+            left: 0,
+            frames: Frames::none(),
+        }
+    }
+
+    /// What a group of so many bytes makes of a frame with so many left.
+    fn new(size: usize, full_length: PacketLength, len: usize, left: usize) -> Self
+        requires { len < 2 ^ 20 }
+        ensures { result.frames ≡ fold (with_packet size) (frame_with left)
+            (group_lengths (room_of full_length) len) }
+    {
+        let mut frames = Frames {
+            begun: 0,
+            left,
+            fits: true,
+        };
+        fill_group(&mut frames, size, full_length, len);
+        Step {
+            size,
+            room: full_length.room(),
+            len,
+            left,
+            frames,
         }
     }
 }
@@ -68,10 +133,26 @@ pub(crate) fn turn_frames(
     ensures few { result.begun < 2 ^ 110 }
 {
     let mut frames = Frames::none();
-    fill_entity(&mut frames, size, full_length, segment_size, directory);
+    let none = Step::none();
+    let mut steps = [none; STEPS];
+    fill_entity(
+        &mut frames,
+        &mut steps,
+        size,
+        full_length,
+        segment_size,
+        directory,
+    );
     for object in objects {
         let len = object.length.get() as usize;
-        fill_entity(&mut frames, size, full_length, segment_size, len);
+        fill_entity(
+            &mut frames,
+            &mut steps,
+            size,
+            full_length,
+            segment_size,
+            len,
+        );
     }
     frames
 }
@@ -79,6 +160,7 @@ pub(crate) fn turn_frames(
 /// Fills frames with the packets of a directory or body of so many bytes.
 fn fill_entity(
     frames: &mut Frames,
+    steps: &mut [Step; STEPS],
     size: usize,
     full_length: PacketLength,
     segment_size: SegmentSize,
@@ -94,9 +176,36 @@ fn fill_entity(
     let full = usize::from(segment_size.get());
     let mut rest = len;
     for _ in 0..count {
-        fill_group(frames, size, full_length, full.min(rest) + GROUP_FRAME);
+        let group = full.min(rest) + GROUP_FRAME;
+        let behind = frames_behind(steps, size, full_length, group, frames.left);
+        frames.add(behind);
         rest = rest.saturating_sub(full);
     }
+}
+
+/// What a group of so many bytes makes of a frame with so many left. It is kept, since most groups
+/// are as long as the one before, and frames end in few ways.
+fn frames_behind(
+    steps: &mut [Step; STEPS],
+    size: usize,
+    full_length: PacketLength,
+    len: usize,
+    left: usize,
+) -> Frames
+    requires { len < 2 ^ 20 }
+    ensures filled { result ≡ fold (with_packet size) (frame_with left)
+        (group_lengths (room_of full_length) len) }
+    ensures few { result.begun < 2 ^ 20 }
+{
+    let place = (left / 8 + len) % STEPS;
+    let room = full_length.room();
+    let kept = steps[place];
+    if kept.size == size && kept.room == room && kept.len == len && kept.left == left {
+        return kept.frames;
+    }
+    let step = Step::new(size, full_length, len, left);
+    steps[place] = step;
+    step.frames
 }
 
 /// Fills frames with the packets of a group of so many bytes.

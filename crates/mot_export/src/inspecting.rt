@@ -1,27 +1,25 @@
 //! Printing a disk's sizes, what is free of them, and its turn.
-ghost use Rattle.std.specs.Prelude.{◌≡◌, ◌+◌, ◌≤◌, ◌<◌, ◌^◌, ◌++◌, ℕ, List, IfErr, IfOk, IsFalse};
+ghost use Rattle.std.specs.Prelude.{◌≡◌, ◌+◌, ◌≤◌, ◌<◌, ◌^◌, ◌++◌, ℕ, List, IfErr};
 ghost use Rattle.std.specs.Prelude.{OnOk, length, true};
 ghost use Rattle.std.specs.Int.{div_ceil};
 ghost use Rattle.std.specs.List.{sum_by};
 ghost use Rattle.std.specs.Io.KnownBytes.{Appends};
-ghost use Rattle.disk_model.specs.Disk.{OnlyReads};
 ghost use Rattle.mot_journal.specs.Image.{Standing};
 ghost use Rattle.mot_listening.specs.Waits.{round_for, with_directories};
 ghost use Rattle.mot_numbers.specs.Geometry.{is_valid, packet_room};
-ghost use Rattle.mot_numbers.specs.declared.refusal.Refusal.TheVariants.{BadNumber, WriteFault};
+ghost use Rattle.mot_numbers.specs.declared.refusal.Refusal.TheVariants.{WriteFault};
 ghost use Rattle.mot_objects.specs.declared.object.Object.{Object};
 ghost use Rattle.mot_objects.specs.Stands.{AreBodiesOf, carousel_of};
 ghost use Rattle.mot_player.specs.Turn.{turn_of_carousel};
 ghost use Rattle.mot_export.specs.Filling.{TurnsHaveTheirLengths};
-ghost use Rattle.mot_export.specs.Inspecting.{Inspects, IsUncounted, data_text, number_line};
+ghost use Rattle.mot_export.specs.Inspecting.{Inspects, data_text, number_line};
 ghost use Rattle.mot_export.specs.Inspecting.{TurnsHaveTheirPackets, heard_line, rates_of};
 ghost use Rattle.mot_export.specs.Inspecting.{shares_line, usually_heard};
 ghost use Rattle.mot_export.specs.Inspecting.{sizes_text, turn_lengths_text, turn_text, use_text};
 ghost use Rattle.mot_export.specs.Inspecting.{waits_text};
-ghost use Rattle.mot_export.specs.Inner.Inspected.{HasInspected, IsCountingFault};
-ghost use Rattle.mot_export.specs.Inner.Inspected.{IsInspectingFault, IsTurnSize};
+ghost use Rattle.mot_export.specs.Inner.Inspected.{HasInspected, IsInspectingFault};
 ghost use Rattle.mot_carousel.specs.Gap.{IsLongestGap};
-ghost use Rattle.mot_repository.specs.Repository.{HasStanding};
+ghost use Rattle.mot_repository.specs.Repository.{Agrees};
 ghost use Rattle.mot_playout.specs.Attempts.{fault_of};
 ghost use Rattle.mot_playout.specs.Server.{place_in};
 ghost use Rattle.mot_session.specs.Served.{WritesFront};
@@ -29,11 +27,10 @@ ghost use Rattle.mot_session.specs.Served.{WritesFront};
 use crate::lengths::write_lengths;
 use disk_model::Disk;
 use mot_journal::Layout;
-use mot_listening::GROUP_FRAME;
+use mot_listening::{GROUP_FRAME, TurnSize, turn_size};
 use mot_numbers::{Geometry, Refusal};
 use mot_objects::Object;
 use mot_packets::packet_count;
-use mot_player::Played;
 use mot_playout::Server;
 use mot_session::write_whole;
 use mot_update::Ended;
@@ -43,18 +40,10 @@ use std::io::Write;
 /// After how many packets `play` sends the directory again, if it is not told otherwise.
 const USUAL_PAUSE: u128 = 340;
 
-/// How many packets a turn has, how many bytes these, and how many packets its directory takes.
-#[derive(Clone, Copy)]
-struct TurnSize {
-    packets: u64,
-    bytes: u128,
-    directory: u128,
-}
-
-/// Opens the disk, plays a turn of it to nobody, and writes its sizes, what is used and free of
-/// them, what the turn takes, and how long it is in packets of each length: in a sub-channel of
-/// this rate in kbit/s or, if none is given, of the usual ones. Behind them comes for how many
-/// packets a receiver has to listen.
+/// Opens the disk, and writes its sizes, what is used and free of them, what a turn takes, and how
+/// long it is in packets of each length: in a sub-channel of this rate in kbit/s or, if none is
+/// given, of the usual ones. Behind them comes for how many packets a receiver has to listen. No
+/// body is read.
 pub fn inspect_disk<D: Disk, W: Write>(
     alloc: Global,
     disk: D,
@@ -64,15 +53,15 @@ pub fn inspect_disk<D: Disk, W: Write>(
     ensures ended { Inspects rate (fault_of result.result)
         (W.contents writer.old) (W.contents writer.new) (D.state disk) (D.state result.disk) }
 
-    // The lengths that are told of the disk's own packets are those of the turn that is played.
+    // The lengths that are told of the disk's own packets are those of each turn that is played.
     ensures lengths { TurnsHaveTheirLengths }
     ensures packets { TurnsHaveTheirPackets }
 {
-    let mut server = match Server::open(alloc, disk) {
+    let server = match Server::open(alloc, disk) {
         Ok(server) => server,
         Err(refused) => return Ended::unopened(refused),
     };
-    let result = write_inspection(alloc, &mut server, rate, writer);
+    let result = write_inspection(alloc, &server, rate, writer);
     Ended {
         disk: server.into_disk(),
         result,
@@ -84,49 +73,41 @@ pub fn inspect_disk<D: Disk, W: Write>(
 /// them are known before the first byte.
 fn write_inspection<D: Disk, W: Write>(
     alloc: Global,
-    server: &mut Server<D>,
+    server: &Server<D>,
     rate: Option<u32>,
     writer: &mut W,
 ) -> Result<(), Refusal>
-    requires { IsFalse server.old.view.halted }
-    ensures only_reads { OnlyReads (D.state server.old.disk) (D.state server.new.disk) }
-    ensures told { (s : Standing) → HasStanding server.old.view s (D.state server.old.disk)
-        → (D.state server.new.disk).IsHonest → OnOk result
-        (HasInspected rate server.old.view.journal (place_in server.old s) s
+    ensures told { (s : Standing) → Agrees server.now.view s → OnOk result
+        (HasInspected rate server.now.view.journal (place_in server.now s) s
         (Appends (W.contents writer.old) (W.contents writer.new))) }
-    ensures broken { (s : Standing) → HasStanding server.old.view s (D.state server.old.disk)
-        → (D.state server.new.disk).IsHonest → IfErr result (λ r. r ≡ WriteFault
-        → HasInspected rate server.old.view.journal (place_in server.old s) s
+    ensures broken { (s : Standing) → Agrees server.now.view s
+        → IfErr result (λ r. r ≡ WriteFault
+        → HasInspected rate server.now.view.journal (place_in server.now s) s
         (λ text. WritesFront text (W.contents writer.old) (W.contents writer.new))) }
-    ensures uncounted { (s : Standing) → HasStanding server.old.view s (D.state server.old.disk)
-        → (D.state server.new.disk).IsHonest → IfErr result (λ r. r ≡ BadNumber
-        → IsUncounted (place_in server.old s)) }
-    ensures calm { OnOk result ((D.state server.new.disk).failures
-        ≡ (D.state server.old.disk).failures) }
-    ensures fault { IfErr result (λ r. IsInspectingFault r (D.state server.old.disk).failures
-        (D.state server.new.disk).failures (W.contents writer.old) (W.contents writer.new)) }
+    ensures fault { IfErr result
+        (λ r. IsInspectingFault r (W.contents writer.old) (W.contents writer.new)) }
 {
-    let TurnSize {
-        packets,
-        bytes,
-        directory,
-    } = count_turn(server)?;
-    let mut text = Vec::new(alloc);
-    let Ok(()) = tell(alloc, server, packets, bytes, rate, &mut text) else {
+    let geometry = server.geometry();
+    let (size, length) = (geometry.size_of_segments(), geometry.length_of_packets());
+    let Ok(turn) = turn_size(alloc, server.carousel(), size, length) else {
         return Err(Refusal::OutOfMemory);
     };
-    let Ok(()) = write_waits(&mut text, &server.geometry(), directory, packets) else {
+    let mut text = Vec::new(alloc);
+    let Ok(()) = tell(alloc, server, turn, rate, &mut text) else {
+        return Err(Refusal::OutOfMemory);
+    };
+    let directory = server.directory_packets() as u128;
+    let Ok(()) = write_waits(&mut text, &geometry, directory, turn.packets) else {
         return Err(Refusal::OutOfMemory);
     };
     print(writer, &text)
 }
 
-/// Adds the lines about an open server, whose turn has these packets and bytes.
+/// Adds the lines about an open server, whose turn has this size.
 fn tell<D: Disk>(
     alloc: Global,
     server: &Server<D>,
-    packets: u64,
-    bytes: u128,
+    turn: TurnSize,
     rate: Option<u32>,
     text: &mut Vec<u8>,
 ) -> Result<(), Refusal>
@@ -138,14 +119,14 @@ fn tell<D: Disk>(
         (length server.now.view.carousel.objects.items)
         (sum_by (λ (o : Object). o.length) server.now.view.carousel.objects.items)
         gap server.now.view.journal.count
-        ++ turn_text packets bytes
+        ++ turn_text turn
         ++ turn_lengths_text (rates_of rate) server.now.view.journal.geometry.segment
         (turn_of_carousel (carousel_of server.now.view.carousel bodies)
         server.now.view.journal.geometry.segment)))) }
 {
     write_sizes(text, &server.geometry())?;
     write_use(text, server)?;
-    write_turn(text, packets, bytes)?;
+    write_turn(text, turn)?;
     let size = server.geometry().size_of_segments();
     write_lengths(alloc, text, rate, server.carousel(), size)
 }
@@ -164,42 +145,6 @@ fn print<W: Write>(writer: &mut W, text: &[u8]) -> Result<(), Refusal>
         Ok(()) => Ok(()),
         Err(_) => Err(Refusal::WriteFault),
     }
-}
-
-/// Plays a turn, and counts its packets and their bytes, and those of its directory. The refusals
-/// are `DeviceFault` if a body can't be read, and `BadNumber` for more packets than are counted.
-fn count_turn<D: Disk>(server: &mut Server<D>) -> Result<TurnSize, Refusal>
-    requires { IsFalse server.old.view.halted }
-    ensures only_reads { OnlyReads (D.state server.old.disk) (D.state server.new.disk) }
-    ensures view { server.new.view ≡ server.old.view }
-    ensures counted { (s : Standing) → HasStanding server.old.view s (D.state server.old.disk)
-        → (D.state server.new.disk).IsHonest → IfOk result
-        (λ size. IsTurnSize (place_in server.old s) size.packets size.bytes size.directory) }
-    ensures few { IfOk result (λ size. size.directory < 2 ^ 32) }
-    ensures uncounted { (s : Standing) → HasStanding server.old.view s (D.state server.old.disk)
-        → (D.state server.new.disk).IsHonest → IfErr result (λ r. r ≡ BadNumber
-        → IsUncounted (place_in server.old s)) }
-    ensures calm { OnOk result ((D.state server.new.disk).failures
-        ≡ (D.state server.old.disk).failures) }
-    ensures fault { IfErr result (λ r. IsCountingFault r (D.state server.old.disk).failures
-        (D.state server.new.disk).failures) }
-{
-    let directory = server.directory_packets() as u128;
-    let mut bytes: u128 = 0;
-    for others in 0..u64::MAX {
-        let Played { packet, ends_turn } = server.next_packet()?;
-        // It has no more bytes than its room. (The line is there for the proof.)
-        let _ = packet.is_full();
-        bytes += packet.len() as u128;
-        if ends_turn {
-            return Ok(TurnSize {
-                packets: others + 1,
-                bytes,
-                directory,
-            });
-        }
-    }
-    Err(Refusal::BadNumber)
 }
 
 /// Writes the address and the lengths of packets and segments.
@@ -283,11 +228,12 @@ fn used_bytes(objects: &[Object]) -> u128
 }
 
 /// Writes how many packets and bytes a turn has.
-fn write_turn<W: Write>(writer: &mut W, packets: u64, bytes: u128) -> Result<(), Refusal>
+fn write_turn<W: Write>(writer: &mut W, turn: TurnSize) -> Result<(), Refusal>
     ensures written { OnOk result (Appends (W.contents writer.old) (W.contents writer.new)
-        (turn_text packets bytes)) }
+        (turn_text turn)) }
     ensures fault { IfErr result (λ r. r ≡ WriteFault) }
 {
+    let TurnSize { packets, bytes, .. } = turn;
     match writeln!(writer, "turn {packets} packets {bytes} bytes") {
         Ok(()) => Ok(()),
         Err(_) => Err(Refusal::WriteFault),

@@ -22,7 +22,7 @@ use mot_playout::Server;
 use mot_update::Update;
 use std::alloc::Global;
 
-/// As `feed`, but an accepted command does not begin the turn anew: what it changed comes next, and
+/// As `feed`, but an accepted command does not begin a new turn: what it changed comes next, and
 /// then the turn goes on. Of the bodies that changed and are not begun, at most `early` come next;
 /// another one comes in its place in the turn.
 ///
@@ -107,7 +107,7 @@ pub fn feed_every<D: Disk, O: Outlet, U: Update>(
     ensures turns_read { TurnsOnAirRead }
     ensures changed_turns_read { ChangedTurnsOnAirRead }
 
-    // Who begins to listen at any packet, up to the next command; and behind a command after how
+    // Who begins to listen at any packet, up to the next command; and since a command after how
     // many packets at most, whatever commands came before it.
     ensures listeners { ListenersHear }
 

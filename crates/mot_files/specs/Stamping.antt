@@ -1,9 +1,10 @@
 -- By what it is told that a file has the bytes that it had.
 use Rattle.std.specs.Prelude.{◌≡◌, ◌&&◌, ◌+◌, Bool, true, false, List, [], ◌∷◌, ◌++◌, nat_le}
-use Rattle.std.specs.Prelude.{Option, Some, None, Result, Ok, Err, ℕ, if◌then◌else◌}
+use Rattle.std.specs.Prelude.{Option, Some, None, Ok, ℕ, if◌then◌else◌}
 use Rattle.mot_files.specs.Call.{Call, looked, told_time}
 use Rattle.mot_files.specs.Listing.{is_file_kind}
-use Rattle.mot_files.specs.declared.system.Fault.{Fault}
+use Rattle.mot_files.specs.Reading.{IsRead, IsUnread}
+use Rattle.mot_files.specs.declared.reading.Unread.{Unread}
 use Rattle.mot_files.specs.declared.system.Seen.{Seen}
 use Rattle.mot_files.specs.declared.system.Stamp.{Stamp}
 use Rattle.mot_files.specs.declared.system.Time.{Time}
@@ -22,20 +23,24 @@ abbrev pub is_past : Time → (now : Option Time) → Bool
 is_past time None = false
 is_past time (Some now) = nat_le (time.nanos + 2000000000) now.nanos
 
--- The stamp of a regular file whose last change is two seconds ago, or longer; of another file none:
--- a further change could bear the same time.
-abbrev pub stamp_at : Result Seen Fault → (now : Option Time) → Option Stamp
-stamp_at (Err fault) now = None
-stamp_at (Ok seen) now =
-    if is_file_kind seen.kind && (is_past seen.written now && is_past seen.changed now)
-    then Some (stamp_of seen) else None
+-- The stamp of a file whose last change is two seconds ago, or longer; of another file none: a
+-- further change could bear the same time.
+abbrev pub stamp_at : Seen → (now : Option Time) → Option Stamp
+stamp_at seen now =
+    if is_past seen.written now && is_past seen.changed now then Some (stamp_of seen) else None
 
--- the stamp that the file of this path had, if it had one: the system was asked for the file, and
--- then for the time of day
-abbrev pub IsStamped : (path : List ℕ) → Option Stamp → (old new : List Call) → Type 0
-IsStamped path stamp old new = (answer : Result Seen Fault) × (now : Option Time)
-    × (stamp ≡ stamp_at answer now)
-    × (new ≡ old ++ looked path answer ∷ [] ++ told_time now ∷ [])
+-- The file of this path was read, and had this stamp before, if it had one: the system was asked for
+-- the time of day, and then for the file. And when it was not read.
+abbrev pub IsReadStamped : (path : List ℕ) → (most : ℕ) → (at_once : Bool) → (bytes : List ℕ)
+    → Option Stamp → (old new : List Call) → Type 0
+IsReadStamped path most at_once bytes stamp old new = (now : Option Time)
+    × (is : IsRead path most at_once bytes (old ++ told_time now ∷ []) new)
+    × (stamp ≡ stamp_at is.named now)
+
+abbrev pub IsUnreadStamped : (path : List ℕ) → (most : ℕ) → (at_once : Bool) → Unread
+    → (old new : List Call) → Type 0
+IsUnreadStamped path most at_once unread old new =
+    (now : Option Time) × IsUnread path most at_once unread (old ++ told_time now ∷ []) new
 
 -- the file of this path is a regular one that has this stamp: the system was asked for it
 abbrev pub HasStamp : (path : List ℕ) → Stamp → (old new : List Call) → Type 0

@@ -1,13 +1,15 @@
 //! Reading one file of a folder.
 ghost use Rattle.std.specs.Prelude.{◌≡◌, ◌≢◌, ◌<◌, ◌≤◌, ◌+◌, ◌++◌, ◌∷◌, [], ℕ, List, MatchResult};
-ghost use Rattle.std.specs.Prelude.{IfErr, IfOk, IsTrue, ◌↔◌, length, take, true};
+ghost use Rattle.std.specs.Prelude.{IfErr, IfOk, IsTrue, Ok, ◌↔◌, length, take, true};
 ghost use Rattle.mot_files.specs.declared.reading.Unread.TheVariants.{TooLong, Young};
-ghost use Rattle.mot_files.specs.Call.{failed_read, read_of};
+ghost use Rattle.mot_files.specs.Call.{Call, failed_read, looked, read_of};
 ghost use Rattle.mot_files.specs.Reading.{AgeIs, IsRead, IsReadOpen, is_recent, IsSame, IsTaken, IsUnchanged};
 ghost use Rattle.mot_files.specs.Reading.{IsUnfilled, IsUnread, IsUnreadOpen, IsUntaken, joined, reads};
+ghost use Rattle.mot_files.specs.Stamping.{IsReadStamped, IsUnreadStamped};
 ghost use Rattle.mot_files.specs.declared.system.Kind.TheVariants.{File};
 
-use crate::system::{Fault, Handle, How, Kind, Seen, System, Time};
+use crate::stamping::stamp_at;
+use crate::system::{Fault, Handle, How, Kind, Seen, Stamp, System, Time};
 use std::alloc::{AllocError, Global};
 
 /// How many nanoseconds ago the last change of a file has to be.
@@ -28,6 +30,15 @@ pub enum Unread {
     NoMemory,
 }
 
+/// A file that was read.
+#[derive(Drop)]
+pub struct FileRead {
+    /// Its bytes.
+    pub bytes: Vec<u8>,
+    /// Its stamp before it was read, if its last change was two seconds ago then, or longer.
+    pub stamp: Option<Stamp>,
+}
+
 /// The bytes of the regular file at the path, if it has so many at most. One that is young is read
 /// only `at_once`.
 pub fn read_file<S: System>(
@@ -44,19 +55,68 @@ pub fn read_file<S: System>(
         (λ unread. IsUnread path.now most at_once unread (S.calls system.old)
         (S.calls system.new)) }
 {
+    match system.look(path) {
+        Ok(named) => read_named(system, alloc, path, &named, most, at_once),
+        Err(fault) => Err(Unread::System(fault)),
+    }
+}
+
+/// The same, with the file's stamp. So the time of day is asked before.
+pub fn read_stamped<S: System>(
+    system: &mut S,
+    alloc: Global,
+    path: &str,
+    most: u64,
+    at_once: bool,
+) -> Result<FileRead, Unread>
+    ensures young { at_once ≡ true → IfErr result (λ unread. unread ≢ Young) }
+    ensures long { IfErr result (λ unread. (count : ℕ) → unread ≡ TooLong count → most < count) }
+    ensures calls { MatchResult result
+        (λ file. IsReadStamped path.now most at_once file.bytes.items file.stamp
+        (S.calls system.old) (S.calls system.new))
+        (λ unread. IsUnreadStamped path.now most at_once unread (S.calls system.old)
+        (S.calls system.new)) }
+{
+    let now = system.now();
     let named = match system.look(path) {
         Ok(named) => named,
         Err(fault) => return Err(Unread::System(fault)),
     };
+    match read_named(system, alloc, path, &named, most, at_once) {
+        Ok(bytes) => {
+            let stamp = stamp_at(&named, now);
+            Ok(FileRead { bytes, stamp })
+        }
+        Err(unread) => Err(unread),
+    }
+}
+
+/// The bytes of the file that was just seen at this path.
+fn read_named<S: System>(
+    system: &mut S,
+    alloc: Global,
+    path: &str,
+    named: &Seen,
+    most: u64,
+    at_once: bool,
+) -> Result<Vec<u8>, Unread>
+    ensures young { at_once ≡ true → IfErr result (λ unread. unread ≢ Young) }
+    ensures long { IfErr result (λ unread. (count : ℕ) → unread ≡ TooLong count → most < count) }
+    ensures calls { (old : List Call)
+        → S.calls system.old ≡ old ++ looked path.now (Ok named.now) ∷ [] → MatchResult result
+        (λ bytes. (is : IsRead path.now most at_once bytes.items old (S.calls system.new))
+        × (is.named ≡ named.now))
+        (λ unread. IsUnread path.now most at_once unread old (S.calls system.new)) }
+{
     // What is none is not opened: a pipe would wait for its writer.
-    if !is_regular(&named) {
+    if !is_regular(named) {
         return Err(Unread::Changed);
     }
     let handle = match system.open(path, How::Read) {
         Ok(handle) => handle,
         Err(fault) => return Err(Unread::System(fault)),
     };
-    let bytes = read_open(system, alloc, handle, &named, most, at_once);
+    let bytes = read_open(system, alloc, handle, named, most, at_once);
     system.close(handle);
     bytes
 }

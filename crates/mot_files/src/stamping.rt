@@ -2,30 +2,24 @@
 ghost use Rattle.std.specs.Prelude.{◌≡◌, ◌∷◌, ◌++◌, [], Result, true};
 ghost use Rattle.mot_files.specs.Call.{looked};
 ghost use Rattle.mot_files.specs.Listing.{is_file_kind};
-ghost use Rattle.mot_files.specs.Stamping.{HasStamp, IsStamped, is_past};
+ghost use Rattle.mot_files.specs.Stamping.{HasStamp, is_past, stamp_at};
 ghost use Rattle.mot_files.specs.declared.system.Fault.{Fault};
 ghost use Rattle.mot_files.specs.declared.system.Seen.{Seen};
 
-use crate::system::{Kind, Stamp, System, Time};
+use crate::system::{Kind, Seen, Stamp, System, Time};
 
 /// How many nanoseconds ago the last change of a file has to be.
 const PAST: u128 = 2_000_000_000;
 
-/// The stamp of the regular file at the path, if its last change is two seconds ago, or longer.
-pub fn stamp<S: System>(system: &mut S, path: &str) -> Option<Stamp>
-    ensures { IsStamped path.now result (S.calls system.old) (S.calls system.new) }
+/// The stamp of a file of which the system said this, if its last change was two seconds before this
+/// time of day, or longer.
+pub(crate) fn stamp_at(seen: &Seen, now: Option<Time>) -> Option<Stamp>
+    ensures { result ≡ stamp_at seen.now now }
 {
-    let answer = system.look(path);
-    let now = system.now();
-    match answer {
-        Ok(seen) => {
-            if is_file(seen.kind) && is_past(seen.written, now) && is_past(seen.changed, now) {
-                Some(Stamp::of(&seen))
-            } else {
-                None
-            }
-        }
-        Err(_) => None,
+    if is_past(seen.written, now) && is_past(seen.changed, now) {
+        Some(Stamp::of(seen))
+    } else {
+        None
     }
 }
 
@@ -52,7 +46,7 @@ fn is_file(kind: Kind) -> bool
     }
 }
 
-/// Whether the time of day is known, and two seconds behind this, or more.
+/// Whether the time of day is known, and two seconds after this, or more.
 fn is_past(time: Time, now: Option<Time>) -> bool
     ensures { result ≡ is_past time now }
 {

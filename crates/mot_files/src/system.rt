@@ -250,7 +250,7 @@ pub trait System {
     fn now(&mut self) -> Option<Time>
         ensures { calls self.new ≡ calls self.old ++ told_time result ∷ [] };
 
-    /// Takes these calls into the log behind its own. They were made elsewhere, for the same command.
+    /// Takes these calls into the log after its own. They were made elsewhere, for the same command.
     fn take_in(&mut self, more: CallLog)
         ensures { calls self.new ≡ calls self.old ++ more.all };
 

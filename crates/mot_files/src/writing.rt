@@ -20,7 +20,7 @@ pub fn write_all<S: System>(system: &mut S, handle: Handle, bytes: &[u8]) -> Res
     Ok(())
 }
 
-/// What is left of these bytes behind so many.
+/// What is left of these bytes after so many.
 fn rest_of(bytes: &[u8], count: usize) -> &[u8]
     requires { count ≤ length bytes.now }
     ensures { result.now ≡ drop count bytes.now }

@@ -5,7 +5,6 @@ use Rattle.std.proofs.Common.{◌<◌, append-nil, arith, slice_index_or, zero}
 use Rattle.std.specs.Prelude.{bytes_eq}
 use Rattle.std.specs.List.{AllByRecursion, list_any}
 use Rattle.std.proofs.lemmas.Slice.Eq.{bytes_eq-Decides}
-use Rattle.std.proofs.lemmas.List.Folds.{list_any-append}
 use Rattle.mot_files.specs.declared.system.Stamp.{Stamp}
 use Rattle.mot_folder.specs.Inner.Knowing.{IsKept, IsKnownWith, IsNoted, IsNotedFor, KnowsFiles}
 use Rattle.mot_folder.specs.Inner.Knowing.{NotesName}
@@ -76,11 +75,9 @@ has_it_there k (o ∷ os) (b ∷ bodies) e =
 
 -- ---- what is noted
 
-known_on : (names : List (List ℕ)) (more name : List ℕ) → is_known names name ≡ true
-    → is_known (names ++ more ∷ []) name ≡ true
-known_on names more name is =
-    list_any-append (bytes_eq name) names (more ∷ [])
-    ∙ ap (λ (b : Bool). b || list_any (bytes_eq name) (more ∷ [])) is
+or_true : (b : Bool) → (b || true) ≡ true
+or_true true = refl
+or_true false = refl
 
 noted_for : (old new : KnownFiles) (one name : List ℕ) (refused accepted : Bool)
     → NotesName old new one refused → IsNotedFor old name accepted → IsNotedFor new name accepted
@@ -89,7 +86,7 @@ noted_for old new one name refused accepted (inl lost) (inr is) = inr (inr lost)
 noted_for old new one name refused accepted (inr (same, inl none)) (inr (inl is)) =
     inr (inl (ap (λ l. is_known l name) none.1 ∙ is))
 noted_for old new one name refused accepted (inr (same, inr more)) (inr (inl is)) =
-    inr (inl (ap (λ l. is_known l name) more ∙ known_on old.refused.items one name is))
+    inr (inl (more name ∙ ap (λ (b : Bool). bytes_eq name one || b) is ∙ or_true (bytes_eq name one)))
 noted_for old new one name refused accepted (inr (same, how)) (inr (inr lost)) =
     inr (inr (same ∙ lost))
 
@@ -101,17 +98,6 @@ noted_on old new one refused more (Put name came) is =
 noted_on old new one refused more (Replaced name came) is =
     noted_for old new one name refused (was_accepted came) more is
 
-or_true : (b : Bool) → (b || (true || false)) ≡ true
-or_true true = refl
-or_true false = refl
-
-known_last : (kept : List (List ℕ)) (name : List ℕ) → is_known (kept ++ name ∷ []) name ≡ true
-known_last kept name =
-    list_any-append (bytes_eq name) kept (name ∷ [])
-    ∙ ap (λ (b : Bool). list_any (bytes_eq name) kept || (b || false))
-    ((bytes_eq-Decides name name).1 refl)
-    ∙ or_true (list_any (bytes_eq name) kept)
-
 unrefused : (b : Bool) → not b ≡ false → b ≡ true
 unrefused true e = refl
 unrefused false e = absurd (cc (e))
@@ -121,7 +107,8 @@ noted_now : (old new : KnownFiles) (name : List ℕ) (accepted : Bool)
 noted_now old new name accepted (inl lost) = inr (inr lost)
 noted_now old new name accepted (inr (same, inl none)) = inl (unrefused accepted none.0)
 noted_now old new name accepted (inr (same, inr more)) =
-    inr (inl (ap (λ l. is_known l name) more ∙ known_last old.refused.items name))
+    inr (inl (more name ∙ ap (λ (b : Bool). b || is_known old.refused.names.items name)
+    ((bytes_eq-Decides name name).1 refl)))
 
 -- the answers to what was done for one object
 noted_of : (old new : KnownFiles) (name : List ℕ) (settled : Settled)
@@ -207,7 +194,7 @@ knows_passed g h files told name stamp is one was =
 noted_same : (old new : KnownFiles) → new.refused ≡ old.refused → new.any_lost ≡ old.any_lost
     → (answer : Answer) → IsNoted old answer → IsNoted new answer
 noted_same old new same too =
-    noted_on old new [] false (inr (too, inl (refl, ap (λ v. v.items) same)))
+    noted_on old new [] false (inr (too, inl (refl, ap (λ v. v.names.items) same)))
 
 stamped_last : (stamped : List (List ℕ × Stamp)) (name : List ℕ) (stamp : Option Stamp) (is : Stamp)
     → stamp ≡ Some is → Among (and_stamp stamped name stamp) (name, is)
@@ -241,6 +228,16 @@ knows_read g h old new told name bytes stamp is how known refused lost was =
       ];
       refused = all_on (noted_same old new refused lost) told next.refused;
     }
+
+-- the name of a file is noted that was not taken
+pub knows_noted : (g : Given) (old new : KnownFiles) (told : List Answer) (name : List ℕ)
+    → NotesName old new name true → new.known ≡ old.known → new.read ≡ old.read
+    → KnowsFiles g old told → KnowsFiles g new told
+knows_noted g old new told name notes known read was = record {
+  passed = subst (λ v. AllByRecursion (IsKnownWith v.items) g.unchanged) (sym known) was.passed;
+  read = subst (λ v. AllByRecursion (WasStamped g) v.items) (sym read) was.read;
+  refused = all_on (noted_on old new name true notes) told was.refused;
+}
 
 -- an object is settled
 pub knows_settled : (g : Given) (old new : KnownFiles) (told : List Answer) (name : List ℕ)
@@ -307,16 +304,16 @@ none_passed c [] all = refl
 none_passed c (file ∷ unchanged) all = absurd (all.0.1)
 
 fine_for : (files : KnownFiles) (name other : List ℕ) (accepted : Bool)
-    → is_known files.refused.items name ≡ false → files.any_lost ≡ false
+    → is_known files.refused.names.items name ≡ false → files.any_lost ≡ false
     → IsNotedFor files other accepted → other ≡ name → accepted ≡ true
 fine_for files name other accepted none lost (inl is) same = is
 fine_for files name other accepted none lost (inr (inl known)) same =
     absurd (let e : true ≡ false =
-    sym known ∙ ap (is_known files.refused.items) same ∙ none in cc (e))
+    sym known ∙ ap (is_known files.refused.names.items) same ∙ none in cc (e))
 fine_for files name other accepted none lost (inr (inr gone)) same =
     absurd (let e : true ≡ false = sym gone ∙ lost in cc (e))
 
-fine_answer : (files : KnownFiles) (name : List ℕ) → is_known files.refused.items name ≡ false
+fine_answer : (files : KnownFiles) (name : List ℕ) → is_known files.refused.names.items name ≡ false
     → files.any_lost ≡ false → (answer : Answer) → IsNoted files answer → IsFineFor name answer
 fine_answer files name none lost (Withdrew other came) is = tt
 fine_answer files name none lost (Put other came) is =

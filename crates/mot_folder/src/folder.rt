@@ -23,7 +23,8 @@ ghost use Rattle.mot_folder.specs.Taken.{IsUntakable, wanted_file};
 ghost use Rattle.mot_update.specs.Told.{TellsBoth, answers_of, was_accepted};
 
 use crate::known::KnownFiles;
-use crate::listing::{FileNames, read_refusal};
+use crate::listing::read_refusal;
+use crate::names::FileNames;
 use crate::report::{Report, Sizes};
 use mot_events::{Deed, Why};
 use mot_files::{Stamp, System, Unread};
@@ -165,6 +166,9 @@ impl<'a, S: System + Drop> Source for Folder<'a, S> {
                 true
             }
             Err(unread) => {
+                // What is not stored is not known: the next look reads it again.
+                self.files
+                    .settle(&self.names, self.place.saturating_sub(1), true);
                 tell_untaken(&mut self.report, name, Untaken::Unread(unread));
                 false
             }

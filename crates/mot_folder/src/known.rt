@@ -1,5 +1,5 @@
 //! What looks know of files, so that one that was not changed is not read again.
-ghost use Rattle.std.specs.Prelude.{◌≡◌, ◌⊎◌, ◌∷◌, ◌++◌, ◌-◌, [], IfSome, false};
+ghost use Rattle.std.specs.Prelude.{◌≡◌, ◌⊎◌, ◌||◌, ◌∷◌, ◌++◌, [], ℕ, IfSome, List, bytes_eq};
 ghost use Rattle.std.specs.Prelude.{slice_get, true};
 ghost use Rattle.std.specs.List.{AllByRecursion};
 ghost use Rattle.mot_files.specs.declared.system.Stamp.{Stamp};
@@ -11,7 +11,7 @@ ghost use Rattle.mot_folder.specs.declared.known.Known.{Known};
 ghost use Rattle.mot_folder.specs.declared.known.StampedFile.{StampedFile};
 ghost use Rattle.mot_update.specs.Updating.{is_known};
 
-use crate::listing::FileNames;
+use crate::names::FileNames;
 use mot_files::Stamp;
 use mot_numbers::TransportId;
 use mot_objects::{Carousel, Name, Object};
@@ -48,7 +48,7 @@ pub struct KnownFiles {
     /// The files that the look read.
     pub(crate) read: Vec<StampedFile>,
     /// The names of the objects that it could not put or replace.
-    pub(crate) refused: Vec<Name>,
+    pub(crate) refused: FileNames,
     /// Whether there was no memory for one of them.
     pub(crate) any_lost: bool,
 }
@@ -61,7 +61,7 @@ impl KnownFiles {
         KnownFiles {
             known: Vec::new(alloc),
             read: Vec::new(alloc),
-            refused: Vec::new(alloc),
+            refused: FileNames::new(alloc),
             any_lost: false,
         }
     }
@@ -70,11 +70,11 @@ impl KnownFiles {
     pub(crate) fn start(&mut self, alloc: Global, carousel: &Carousel)
         ensures known { AllByRecursion (λ k. Among self.old.known.items k
             × (is_there carousel.now.objects.items k ≡ true)) self.new.known.items }
-        ensures none { (self.new.read.items ≡ []) × (self.new.refused.items ≡ []) }
+        ensures none { (self.new.read.items ≡ []) × (self.new.refused.names.items ≡ []) }
     {
         forget(&mut self.known, alloc, &[], carousel);
         self.read.clear();
-        self.refused.clear();
+        self.refused = FileNames::new(alloc);
         self.any_lost = false;
     }
 
@@ -109,8 +109,8 @@ impl KnownFiles {
         let _is_added = self.read.push(StampedFile { name, stamp }).is_ok();
     }
 
-    /// The object of the name at this place was settled. Notes the name, if a command for it was
-    /// refused.
+    /// The object of the name at this place was settled, or its file not taken. Notes the name, if
+    /// it was refused.
     pub(crate) fn settle(&mut self, names: &FileNames, place: usize, is_refused: bool)
         ensures noted { NotesName self.old self.new
             (name_or_none (slice_get names.now.names.items place)) is_refused }
@@ -147,9 +147,10 @@ fn forget(known: &mut Vec<Known>, alloc: Global, read: &[StampedFile], carousel:
 }
 
 /// Notes the name at this place; whether there was memory for it.
-fn note_name(noted: &mut Vec<Name>, names: &FileNames, place: usize) -> bool
-    ensures { result ≡ true → noted.new.items ≡ noted.old.items
-        ++ name_or_none (slice_get names.now.names.items place) ∷ [] }
+fn note_name(noted: &mut FileNames, names: &FileNames, place: usize) -> bool
+    ensures { result ≡ true → (n : List ℕ) → is_known noted.new.names.items n
+        ≡ (bytes_eq n (name_or_none (slice_get names.now.names.items place))
+        || is_known noted.old.names.items n) }
 {
     let Some(name) = names.names.get(place) else {
         return false;
@@ -157,7 +158,7 @@ fn note_name(noted: &mut Vec<Name>, names: &FileNames, place: usize) -> bool
     let Ok(name) = name.clone() else {
         return false;
     };
-    noted.push(name).is_ok()
+    noted.add(name).is_ok()
 }
 
 /// Keeps what is known of a file, if the carousel has its object, and it was not read since.
@@ -191,27 +192,21 @@ fn is_here(known: &Known, object: &Object) -> bool
 /// Whether a file of this name was read.
 fn is_of_read(read: &[StampedFile], name: &Name) -> bool {
     let name = name.as_bytes();
-    read.iter().any(|file| file.name.as_bytes() == name)
+    // Files are read in the order of their names.
+    read.binary_search_by(|file| file.name.as_bytes().cmp(name))
+        .is_ok()
 }
 
 /// Adds the files that were read, but for those of these names.
-fn add_all(known: &mut Vec<Known>, read: &[StampedFile], refused: &[Name], carousel: &Carousel)
+fn add_all(known: &mut Vec<Known>, read: &[StampedFile], refused: &FileNames, carousel: &Carousel)
     ensures { AllByRecursion (λ k. Among known.old.items k
-        ⊎ IsAdded read.now refused.now carousel.now.objects.items k) known.new.items }
+        ⊎ IsAdded read.now refused.now.names.items carousel.now.objects.items k) known.new.items }
 {
     for file in read {
-        if !is_among(refused, &file.name) {
+        if !refused.has(&file.name) {
             add_one(known, file, carousel);
         }
     }
-}
-
-/// Whether the name is one of these.
-fn is_among(names: &[Name], name: &Name) -> bool
-    ensures { result ≡ is_known names.now name.now }
-{
-    let name = name.as_bytes();
-    names.iter().any(|other| name == other.as_bytes())
 }
 
 /// Adds a file with the object of its name, if there is one, and memory for it.
@@ -235,7 +230,7 @@ fn add_one(known: &mut Vec<Known>, file: &StampedFile, carousel: &Carousel)
         version: object.version,
     };
     // It is there. (The line is there for the proof.)
-    if is_there(&one, carousel) {
+    if is_here(&one, object) {
         let _is_added = known.push(one).is_ok();
     }
 }

@@ -5,6 +5,7 @@ mod folder;
 mod known;
 mod listing;
 mod looking;
+mod names;
 mod report;
 
 pub use folder::Folder;

@@ -1,8 +1,8 @@
 //! The files of a folder that are objects.
-ghost use Rattle.std.specs.List.{insert, list_any};
+ghost use Rattle.std.specs.List.{list_any};
 ghost use Rattle.std.specs.Str.{is_utf8};
-ghost use Rattle.std.specs.Prelude.{◌≡◌, ◌↔◌, ◌+◌, ◌<◌, ◌≤◌, ◌∷◌, ◌++◌, [], true, false, length};
-ghost use Rattle.std.specs.Prelude.{if◌then◌else◌, IfErr, IfNone, IfSome, IsOk, IsTrue};
+ghost use Rattle.std.specs.Prelude.{◌≡◌, ◌<◌, ◌∷◌, ◌++◌, [], true, false, length};
+ghost use Rattle.std.specs.Prelude.{IfNone, IfSome, IsTrue};
 ghost use Rattle.std.specs.Prelude.{◌==◌, ◌≢◌, List, MatchResult, OnErr, OnOk, Some, nat_le, ℕ};
 ghost use Rattle.mot_events.specs.Events.{event_of};
 ghost use Rattle.mot_events.specs.declared.event.Met.TheVariants.{Skipped};
@@ -15,20 +15,18 @@ ghost use Rattle.mot_folder.specs.Inner.Reading.{unread_for};
 ghost use Rattle.mot_folder.specs.Inner.Reasons.{TellsNoMore, why_nameless};
 ghost use Rattle.mot_objects.specs.Name.{is_name};
 ghost use Rattle.mot_objects.specs.declared.name.TheConstants.{MAX_NAME};
-ghost use Rattle.mot_folder.specs.Listed.{and_in_order, and_object, has_type};
+ghost use Rattle.mot_folder.specs.Listed.{and_object, has_type};
 ghost use Rattle.mot_folder.specs.Listed.{names_in};
 ghost use Rattle.mot_folder.specs.Log.{TellsAnswers, TellsOne, unlisted_for};
 ghost use Rattle.mot_numbers.specs.declared.refusal.Refusal.TheVariants.{BadName, OutOfMemory};
-ghost use Rattle.mot_numbers.specs.declared.refusal.Refusal.TheVariants.{TooManyObjects};
-ghost use Rattle.mot_objects.specs.Carousel.{are_names_distinct};
 ghost use Rattle.mot_shelf.specs.Given.{Given, and_failed, and_kept_names, nothing};
 ghost use Rattle.mot_shelf.specs.Gives.{Asks, Gives, GoesOnSo};
 ghost use Rattle.mot_shelf.specs.Reader.{reader_path, view};
 ghost use Rattle.mot_suffixes.specs.Types.{is_hidden};
 ghost use Rattle.mot_update.specs.Told.{TellsMore};
-ghost use Rattle.mot_update.specs.Updating.{is_known};
 ghost use Rattle.mot_folder.specs.declared.report.TheConstants.{MAX_SKIPPED};
 
+use crate::names::FileNames;
 use crate::report::Report;
 use memchr::memchr;
 use mot_events::{Deed, Skip, Why};
@@ -45,7 +43,7 @@ use std::str::from_utf8;
 const ROOM: usize = 16_384;
 
 /// How many names with one of the suffixes a folder may have, so that no look takes long.
-const MAX_NAMES: u32 = 1_000;
+pub(crate) const MAX_NAMES: u32 = 1_000;
 
 /// Why a folder is not listed.
 #[derive(Clone, Copy)]
@@ -88,80 +86,6 @@ impl From<AllocError> for Unlisted {
             error: None,
         }
     }
-}
-
-/// Names of files, each once.
-#[derive(Drop)]
-pub struct FileNames {
-    /// The names, in their order.
-    pub names: Vec<Name>,
-    /// How many names were counted.
-    counted: u32,
-    pub ghost differ: { are_names_distinct names.items ≡ true },
-}
-
-impl FileNames {
-    /// No names.
-    pub fn new(alloc: Global) -> FileNames
-        ensures none { result.names.items ≡ [] }
-        ensures counted { result.counted ≡ 0 }
-    {
-        FileNames {
-            names: Vec::new(alloc),
-            counted: 0,
-        }
-    }
-
-    /// Counts a name with one of the suffixes, of an object or not; `TooManyObjects` if there are
-    /// too many.
-    fn count(&mut self) -> Result<(), Refusal>
-        ensures same { self.new.names ≡ self.old.names }
-        ensures counts { IsOk result ↔ (self.old.counted < MAX_NAMES) }
-        ensures counted { OnOk result (self.new.counted ≡ self.old.counted + 1) }
-        ensures many { IfErr result (λ refusal. refusal ≡ TooManyObjects) }
-    {
-        if self.counted >= MAX_NAMES {
-            return Err(Refusal::TooManyObjects);
-        }
-        self.counted += 1;
-        Ok(())
-    }
-
-    /// Whether it is one of them.
-    pub fn has(&self, name: &Name) -> bool
-        ensures { result ≡ is_known self.now.names.items name.now }
-    {
-        let name = name.as_bytes();
-        self.names.iter().any(|other| name == other.as_bytes())
-    }
-
-    /// One more, in its place, if it is not one of them already.
-    pub fn add(&mut self, name: Name) -> Result<(), AllocError>
-        ensures added { OnOk result (self.new.names.items
-            ≡ (if is_known self.old.names.items name then self.old.names.items
-            else and_in_order self.old.names.items name)) }
-        ensures kept { OnErr result (self.new.names.items ≡ self.old.names.items) }
-        ensures counted { self.new.counted ≡ self.old.counted }
-    {
-        if !self.has(&name) {
-            let place = place_in(&self.names, name.as_bytes());
-            self.names.insert(place, name)?;
-        }
-        Ok(())
-    }
-}
-
-/// The place of the first of the names that this one stands before, or of the end.
-fn place_in(names: &[Name], name: &[u8]) -> usize
-    ensures within { result ≤ length names.now }
-    ensures ordered { insert names.now result name.now ≡ and_in_order names.now name.now }
-{
-    for place in 0..names.len() {
-        if name < names[place].as_bytes() {
-            return place;
-        }
-    }
-    names.len()
 }
 
 /// The names of the regular files directly in the folder that have one of the suffixes and do not

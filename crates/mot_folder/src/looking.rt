@@ -28,7 +28,8 @@ ghost use Rattle.mot_numbers.specs.declared.refusal.Refusal.TheVariants.{OutOfMe
 ghost use Rattle.mot_playout.specs.Attempts.{fault_of};
 
 use crate::folder::Folder;
-use crate::listing::{FileNames, Unlisted, count_unknown, list, tell_unlisted};
+use crate::listing::{Unlisted, count_unknown, list, tell_unlisted};
+use crate::names::FileNames;
 use crate::report::{Report, Sizes};
 use disk_model::Disk;
 use mot_events::{LookEvent, is_listed};

@@ -6,13 +6,13 @@ use Rattle.std.proofs.lemmas.Bool.Decides.{nat_tests}
 use Rattle.mot_numbers.specs.PacketLength.{bytes_of, room_of, shortest_room}
 use Rattle.mot_numbers.specs.declared.packet_length.PacketLength.{PacketLength}
 use Rattle.mot_numbers.specs.declared.packet_length.PacketLength.TheVariants.{P24, P48, P72, P96}
-use Rattle.mot_listening.specs.TurnSize.{with_counted}
 use Rattle.mot_listening.specs.declared.turn.TurnSize.{TurnSize}
 use Rattle.std.proofs.lemmas.List.{length-append, length-drop, length-replicate, length-take}
 use Rattle.std.proofs.lemmas.List.Concat.{flat_map-append}
-use Rattle.std.proofs.lemmas.List.Sums.{fold-append, sum_by-cons}
+use Rattle.std.proofs.lemmas.Grind.{div_ceil_times}
+use Rattle.std.proofs.lemmas.List.Sums.{fold-append, sum_by-append, sum_by-cons}
 use Rattle.std.specs.Int.{div_ceil}
-use Rattle.std.specs.List.{fold}
+use Rattle.std.specs.List.{fold, sum}
 use Rattle.mot_directory.specs.Directory.{bytes_of_directory}
 use Rattle.mot_directory.specs.Entries.{directory_of}
 use Rattle.mot_groups.specs.Entity.{first_pieces, numbered_segments, segments_of}
@@ -55,7 +55,7 @@ group-lengths room n =
     ∙ ap (packet_lengths (div_ceil n room) room) (minus-zero n)
 
 -- as many as the group has
-count-lengths : (n room rest : ℕ) → length (packet_lengths n room rest) ≡ n
+pub count-lengths : (n room rest : ℕ) → length (packet_lengths n room rest) ≡ n
 count-lengths zero room rest = refl
 count-lengths (suc n) room rest = ap suc (count-lengths n room (rest - room))
 
@@ -212,23 +212,10 @@ entity-more with_one none room full before len mid new is new_is =
     (sym (append-nil (entity_lengths room full len)))
     ∙ ap (fold with_one none) (sym (flat_map-append (entity_lengths room full) before (len ∷ [])))
 
--- ---- packets of one length, counted at once
+-- ---- groups and segments that are full, counted at once
 
-abbrev most : ℕ
-most = 18446744073709551615
-
-abbrev counted-at-once : (n packet : ℕ) → TurnSize → TurnSize
-counted-at-once n packet s = record {
-  packets = min (s.packets + n) most;
-  bytes = min (s.bytes + n * packet) most;
-  checksum = s.checksum;
-}
-
-abbrev sized : (packets bytes checksum : ℕ) → TurnSize
+abbrev pub sized : (packets bytes checksum : ℕ) → TurnSize
 sized packets bytes checksum = record { packets = packets; bytes = bytes; checksum = checksum }
-
-pub counted-cases : (p p' b b' c : ℕ) → p' ≡ p → b' ≡ b → sized p' b' c ≡ sized p b c
-counted-cases p p' b b' c ps bs = ap (λ x. sized x b' c) ps ∙ ap (λ x. sized p x c) bs
 
 -- a full packet has five bytes more than its data field
 pub full-bytes : (length : PacketLength) → bytes_of length ≡ room_of length + 5
@@ -237,25 +224,17 @@ full-bytes P48 = refl
 full-bytes P72 = refl
 full-bytes P96 = refl
 
-pub counted-same : (n packet : ℕ) (s : TurnSize) → s.packets ≤ most → s.bytes ≤ most
-    → counted-at-once n packet s ≡ fold with_counted s (replicate n packet)
-counted-same zero packet s p b =
-    let ps : min (s.packets + 0) most ≡ s.packets = omega (arith, p) in
-    let bs : min (s.bytes + 0 * packet) most ≡ s.bytes = omega (arith, b) in
-    counted-cases (s.packets) (min (s.packets + 0) most) (s.bytes)
-    (min (s.bytes + 0 * packet) most) s.checksum ps bs
-counted-same (suc n) packet s p b =
-    let more : suc n * packet ≡ packet + n * packet = omega arith in
-    let ps : min (s.packets + suc n) most ≡ min (min (s.packets + 1) most + n) most = omega arith in
-    let bs : min (s.bytes + suc n * packet) most
-    ≡ min (min (s.bytes + packet) most + n * packet) most = omega (arith, more) in
-    counted-cases (min (min (s.packets + 1) most + n) most) (min (s.packets + suc n) most)
-    (min (min (s.bytes + packet) most + n * packet) most) (min (s.bytes + suc n * packet) most)
-    s.checksum ps bs
-    ∙ counted-same n packet (with_counted s packet) (omega arith) (omega arith)
+pub sum-append : (xs ys : List ℕ) → sum (xs ++ ys) ≡ sum xs + sum ys
+sum-append xs ys = sum_by-append (λ (y : ℕ). y) xs ys
+
+sum-replicate : (n x : ℕ) → sum (replicate n x) ≡ n * x
+sum-replicate zero x = omega arith
+sum-replicate (suc n) x =
+    let first = sum_by-cons (λ (y : ℕ). y) x (replicate n x) in
+    omega (arith, first, sum-replicate n x)
 
 -- the packets of a group: all but the last are full
-pub full-but-last : (n room rest : ℕ) → n * room < rest
+full-but-last : (n room rest : ℕ) → n * room < rest
     → packet_lengths (suc n) room rest
     ≡ replicate n (room + 5) ++ packet_length room (rest - n * room) ∷ []
 full-but-last zero room rest lt = ap (λ m. packet_length room m ∷ []) (omega arith)
@@ -265,3 +244,59 @@ full-but-last (suc n) room rest lt =
     ap (λ b. ((if b then shortest_room rest else room) + 5) ∷ packet_lengths (suc n) room (rest - room)) long
     ∙ ap (λ l. (room + 5) ∷ l) (full-but-last n room (rest - room) (omega (arith, lt))
     ∙ ap (λ m. replicate n (room + 5) ++ packet_length room m ∷ []) less)
+
+pub group-bytes : (n room group : ℕ) → 0 < room → div_ceil group room ≡ suc n
+    → sum (group_lengths room group) ≡ n * (room + 5) + packet_length room (group - n * room)
+group-bytes n room group some is =
+    let within : n * room < group =
+    let bound = (div_ceil_times group room some).1 in grind (arith, is, bound) in
+    let last : ℕ = packet_length room (group - n * room) in
+    let both = sum-append (replicate n (room + 5)) (last ∷ []) in
+    ap (λ m. sum (packet_lengths m room group)) is
+    ∙ ap sum (full-but-last n room group within)
+    ∙ omega (arith, both, sum-replicate n (room + 5))
+
+-- what is summed of the packets of an entity: all groups but the last have a full segment
+module _ (f : List ℕ → ℕ) (more : (xs ys : List ℕ) → f (xs ++ ys) ≡ f xs + f ys) where
+  segments-but-last : (n room size rest : ℕ) → n * size < rest → rest ≤ n * size + size
+      → f (segment_lengths (suc n) room size rest)
+      ≡ n * f (group_lengths room (size + 11)) + f (group_lengths room (rest - n * size + 11))
+  segments-but-last zero room size rest lt le =
+      let least : min size rest ≡ rest - 0 * size = omega (arith, le) in
+      let all = ap f (append-nil (group_lengths room (min size rest + 11)))
+      ∙ ap (λ m. f (group_lengths room (m + 11))) least in
+      omega (arith, all)
+  segments-but-last (suc n) room size rest lt le =
+      let least : min size rest ≡ size = omega (arith, lt) in
+      let less : rest - size - n * size ≡ rest - suc n * size = omega arith in
+      let first = more (group_lengths room (min size rest + 11))
+      (segment_lengths (suc n) room size (rest - size)) in
+      let one = ap (λ m. f (group_lengths room (m + 11))) least in
+      let others = segments-but-last n room size (rest - size) (omega (arith, lt))
+      (omega (arith, lt, le)) in
+      let last = ap (λ m. f (group_lengths room (m + 11))) less in
+      omega (arith, first, one, others, last)
+
+  pub entity-sum : (n room size entity : ℕ) → 0 < size → div_ceil entity size ≡ suc n
+      → f (entity_lengths room size entity)
+      ≡ n * f (group_lengths room (size + 11)) + f (group_lengths room (entity - n * size + 11))
+  entity-sum n room size entity some is =
+      let bound = div_ceil_times entity size some in
+      let less = bound.1 in
+      let all = bound.0 in
+      ap (λ m. f (segment_lengths m room size entity)) is
+      ∙ segments-but-last n room size entity (grind (arith, is, less)) (grind (arith, is, all))
+
+-- one entity more
+pub entity-behind : (f : List ℕ → ℕ) → ((xs ys : List ℕ) → f (xs ++ ys) ≡ f xs + f ys)
+    → (room size : ℕ) (before : List ℕ) (len : ℕ)
+    → f (turn_lengths room size (before ++ len ∷ []))
+    ≡ f (turn_lengths room size before) + f (entity_lengths room size len)
+entity-behind f more room size before len =
+    ap f (flat_map-append (entity_lengths room size) before (len ∷ [])
+    ∙ ap (λ l. turn_lengths room size before ++ l) (append-nil (entity_lengths room size len)))
+    ∙ more (turn_lengths room size before) (entity_lengths room size len)
+
+pub same-size : (p p' b b' c c' : ℕ) → p ≡ p' → b ≡ b' → c ≡ c'
+    → sized p b c ≡ sized p' b' c'
+same-size p p' b b' c c' ps bs cs = cc

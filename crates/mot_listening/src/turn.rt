@@ -1,8 +1,8 @@
 //! How many packets a turn has, and how many bytes these; and the checksum of its directory.
-ghost use Rattle.std.specs.Prelude.{◌≡◌, ◌+◌, ◌<◌, ◌≤◌, ◌^◌, IfErr, IfOk, List, ℕ, replicate};
-ghost use Rattle.std.specs.List.{fold};
+ghost use Rattle.std.specs.Prelude.{◌≡◌, ◌+◌, ◌<◌, ◌≤◌, ◌^◌, IfErr, IfOk, List, [], ℕ, length};
+ghost use Rattle.std.specs.List.{sum};
 ghost use Rattle.mot_listening.specs.Entities.{entity_lengths, group_lengths};
-ghost use Rattle.mot_listening.specs.TurnSize.{begun, size_of_turn, with_counted};
+ghost use Rattle.mot_listening.specs.TurnSize.{size_of, size_of_turn};
 ghost use Rattle.mot_numbers.specs.PacketLength.{room_of};
 ghost use Rattle.mot_numbers.specs.declared.refusal.Refusal.TheVariants.{OutOfMemory};
 ghost use Rattle.mot_objects.specs.Stands.{AreBodiesOf, carousel_of};
@@ -32,14 +32,14 @@ pub struct TurnSize {
 impl TurnSize {
     /// No packet, and no directory.
     pub fn none() -> TurnSize
-        ensures { result ≡ begun 0 }
+        ensures { result ≡ size_of 0 [] }
     {
         TurnSize::begun(0)
     }
 
     /// No packet so far, of a turn whose directory has this checksum.
     fn begun(checksum: u16) -> TurnSize
-        ensures { result ≡ begun checksum }
+        ensures { result ≡ size_of checksum [] }
     {
         TurnSize {
             packets: 0,
@@ -48,52 +48,61 @@ impl TurnSize {
         }
     }
 
-    /// One packet more, of so many bytes.
-    fn count(&mut self, packet: usize)
-        ensures { self.new ≡ with_counted self.old packet }
-    {
-        self.packets = self.packets.saturating_add(1);
-        self.bytes = self.bytes.saturating_add(packet as u64);
-    }
-
-    /// So many packets more, each of so many bytes.
-    fn count_same(&mut self, packet: usize, count: usize)
-        requires few { count < 2 ^ 20 }
-        requires short { packet ≤ 96 }
-        ensures { self.new ≡ fold with_counted self.old (replicate count packet) }
-    {
-        self.packets = self.packets.saturating_add(count as u64);
-        self.bytes = self.bytes.saturating_add((count * packet) as u64);
-    }
-
-    /// The packets of a group of so many bytes: all but the last are full.
-    fn count_group(&mut self, full_length: PacketLength, len: usize)
-        requires { len < 2 ^ 20 }
-        ensures { self.new ≡ fold with_counted self.old (group_lengths (room_of full_length) len) }
-    {
-        let count = packet_count(len, full_length);
-        let room = full_length.room();
-        let full = count.saturating_sub(1);
-        self.count_same(full_length.bytes(), full);
-        if count > 0 {
-            self.count(packet_for(len - full * room, full_length));
-        }
-    }
-
     /// The packets of a directory or body of so many bytes.
     fn count_entity(&mut self, full_length: PacketLength, segment_size: SegmentSize, len: usize)
-        requires { len ≤ MAX_BODY }
-        ensures { self.new ≡ fold with_counted self.old
-            (entity_lengths (room_of full_length) segment_size len) }
+        requires short { len ≤ MAX_BODY }
+        requires few { (self.old.packets ≤ 2 ^ 60) × (self.old.bytes ≤ 2 ^ 60) }
+        ensures packets { self.new.packets ≡ self.old.packets
+            + length (entity_lengths (room_of full_length) segment_size len) }
+        ensures bytes { self.new.bytes ≡ self.old.bytes
+            + sum (entity_lengths (room_of full_length) segment_size len) }
+        ensures checksum { self.new.checksum ≡ self.old.checksum }
+        ensures few { (self.new.packets ≤ self.old.packets + 2 ^ 50)
+            × (self.new.bytes ≤ self.old.bytes + 2 ^ 50) }
     {
-        let count = segment_count(len, segment_size);
-        let full = usize::from(segment_size.get());
-        let mut rest = len;
-        for _ in 0..count {
-            self.count_group(full_length, full.min(rest) + GROUP_FRAME);
-            rest = rest.saturating_sub(full);
-        }
+        let (packets, bytes) = entity_size(full_length, segment_size, len);
+        self.packets += packets as u64;
+        self.bytes += bytes as u64;
     }
+}
+
+/// How many packets carry a directory or body of so many bytes, and how many bytes they have: all
+/// groups but the last have a full segment.
+fn entity_size(full_length: PacketLength, segment_size: SegmentSize, len: usize) -> (usize, usize)
+    requires { len ≤ MAX_BODY }
+    ensures packets { result.0
+        ≡ length (entity_lengths (room_of full_length) segment_size len) }
+    ensures bytes { result.1 ≡ sum (entity_lengths (room_of full_length) segment_size len) }
+    ensures few { (result.0 ≤ 2 ^ 50) × (result.1 ≤ 2 ^ 50) }
+{
+    let count = segment_count(len, segment_size);
+    if count == 0 {
+        return (0, 0);
+    }
+    let others = count - 1;
+    let full = usize::from(segment_size.get());
+    let last = len.saturating_sub(others * full);
+    let (full_packets, full_bytes) = group_size(full_length, full + GROUP_FRAME);
+    let (last_packets, last_bytes) = group_size(full_length, last + GROUP_FRAME);
+    (
+        others * full_packets + last_packets,
+        others * full_bytes + last_bytes,
+    )
+}
+
+/// How many packets carry a group of so many bytes, and how many bytes they have: all but the last
+/// are full.
+fn group_size(full_length: PacketLength, len: usize) -> (usize, usize)
+    requires { (0 < len) × (len < 2 ^ 20) }
+    ensures packets { result.0 ≡ length (group_lengths (room_of full_length) len) }
+    ensures bytes { result.1 ≡ sum (group_lengths (room_of full_length) len) }
+    ensures few { (result.0 ≤ 2 ^ 20) × (result.1 ≤ 2 ^ 28) }
+{
+    let count = packet_count(len, full_length);
+    let others = count.saturating_sub(1);
+    let rest = len.saturating_sub(others * full_length.room());
+    let last = packet_for(rest, full_length);
+    (count, others * full_length.bytes() + last)
 }
 
 /// What a turn of this carousel takes, from its beginning on, with the directory once; and the

@@ -1,4 +1,4 @@
-//! A whole machine in memory: folders, files, a pipe, disks and a clock behind one seed, which dies at
+//! A whole machine in memory: folders, files, a pipe, disks and a clock of one seed, which dies at
 //! a moment of the plan and comes back with what a crash leaves. The program has no part of it.
 #![tactic(auto)]
 

@@ -80,7 +80,7 @@ impl World {
         }
     }
 
-    /// The folder changes. What came to it is given behind the other names, also if it was given
+    /// The folder changes. What came to it is given after the other names, also if it was given
     /// before under another number; what went is given or not.
     fn stir(&mut self, slot: usize) -> Result<(), AllocError> {
         self.change()?;

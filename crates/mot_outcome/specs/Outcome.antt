@@ -14,9 +14,9 @@ use Rattle.mot_files.specs.Call.{Call, opened_disk}
 use Rattle.disk_store.specs.File.{fault_on}
 use Rattle.disk_store.specs.Second.{second_fault}
 use Rattle.disk_store.specs.declared.file.fault.OpenFault.TheVariants.{System}
-use Rattle.mot_destinations.specs.declared.fault.Cause.{Cause}
-use Rattle.mot_destinations.specs.declared.fault.Cause.TheVariants.{Disk, NewDisk}
-use Rattle.mot_destinations.specs.declared.fault.NewDiskFault.TheVariants as new_fault
+use Rattle.mot_endpoints.specs.declared.fault.Cause.{Cause}
+use Rattle.mot_endpoints.specs.declared.fault.Cause.TheVariants.{Disk, NewDisk}
+use Rattle.mot_endpoints.specs.declared.fault.NewDiskFault.TheVariants as new_fault
 use Rattle.mot_numbers.specs.declared.refusal.Refusal.{Refusal}
 use Rattle.mot_numbers.specs.declared.refusal.Refusal.TheVariants.{DeviceFault, OutOfMemory}
 use Rattle.mot_numbers.specs.declared.refusal.Refusal.TheVariants.{WriteFault}

@@ -6,8 +6,8 @@ ghost use Rattle.std.specs.declared.io.ErrorKind.TheVariants.{QuotaExceeded, Sto
 use crate::reason::InWords;
 use clap::ArgMatches;
 use disk_store::OpenFault;
-use mot_destinations::{Cause, NewDiskFault, OUTPUT, SUFFIX};
 use mot_devices::DeviceUse;
+use mot_endpoints::{Cause, NewDiskFault, OUTPUT, SUFFIX};
 use mot_journal::Reason;
 use mot_numbers::Refusal;
 use std::io::{ErrorKind, Write};

@@ -1,14 +1,14 @@
 //! The disk that a task worked on, as it is left.
 ghost use Rattle.std.specs.Prelude.{◌≡◌, Err, None, Some, option_map};
-ghost use Rattle.mot_destinations.specs.declared.fault.Cause.TheVariants.{Disk, NewDisk};
-ghost use Rattle.mot_destinations.specs.declared.fault.NewDiskFault.TheVariants as NewDiskFault;
+ghost use Rattle.mot_endpoints.specs.declared.fault.Cause.TheVariants.{Disk, NewDisk};
+ghost use Rattle.mot_endpoints.specs.declared.fault.NewDiskFault.TheVariants as NewDiskFault;
 ghost use Rattle.mot_numbers.specs.declared.refusal.Refusal.TheVariants.{DeviceFault};
 ghost use Rattle.mot_outcome.specs.declared.used.UsedDisk.TheVariants.{OfFile, Untouched};
 
 use disk_store::{
     Beginning, BegunFile, FileDiskFrom, OpenFault, RamDisk, SecondDisk, Start, Unopened,
 };
-use mot_destinations::{Cause, NewDiskFault};
+use mot_endpoints::{Cause, NewDiskFault};
 use mot_files::CallLog;
 use mot_journal::Reason;
 use mot_numbers::Refusal;

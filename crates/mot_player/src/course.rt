@@ -139,7 +139,7 @@ impl Course {
         self.queue.len() - self.at
     }
 
-    /// Another turn comes, behind a turn of so many entities. If it can be followed, what is left
+    /// Another turn comes, after a turn of so many entities. If it can be followed, what is left
     /// goes on, and the body that came is queued if fewer than `most` are that are not begun; where
     /// no group is under way and nothing waits, the turn that begins is left. Else the other turn
     /// begins.

@@ -9,7 +9,7 @@ use crate::planned_body::PlannedBody;
 pub(crate) enum Difference {
     /// The bodies stayed.
     Nothing,
-    /// One was put behind the others.
+    /// One was put after the others.
     Added,
     /// One came in the place of this one.
     Changed(usize),
@@ -37,7 +37,7 @@ pub(crate) fn difference_between(old: &[PlannedBody], new: &[PlannedBody]) -> Op
     None
 }
 
-/// The change where so many bodies come behind the old ones.
+/// The change where so many bodies come after the old ones.
 fn added(count: usize) -> Option<Difference>
     ensures { result ≡ added count }
 {

@@ -141,7 +141,7 @@ impl Player {
         self.state.begin_turn(turn);
     }
 
-    /// As `changed`, but a player that follows goes on instead: behind the new directory come the
+    /// As `changed`, but a player that follows goes on instead: after the new directory come the
     /// bodies that came and go early, and then the rest of the turn. The room for that is
     /// this player's, as it stands. It takes no memory.
     pub fn follow(&mut self, turn: Turn, spare: Spare)

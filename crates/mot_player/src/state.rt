@@ -22,7 +22,7 @@ pub(crate) struct State {
     pub turn: Turn,
     /// Which segments come next.
     pub course: Course,
-    /// Whether a changed turn is followed, or begins anew; and if it is, how many bodies that came
+    /// Whether a changed turn is followed, or begun; and if followed, how many bodies that came
     /// and are not begun are queued at most.
     pub follows: Option<usize>,
     /// The group under way, and how many of its bytes were sent; 0 if none is under way.
@@ -194,7 +194,7 @@ impl State {
         self.course.pass(self.turn.entity_count(), part);
     }
 
-    /// A changed turn begins behind the group under way.
+    /// A changed turn begins after the group under way.
     pub fn begin_turn(&mut self, turn: Turn)
         requires fitted { IsFitted self.old }
         ensures fitted { IsFitted self.new }
@@ -212,7 +212,7 @@ impl State {
         self.turn = turn;
     }
 
-    /// A changed turn is followed, or begins, behind the group under way.
+    /// A changed turn is followed, or begins, after the group under way.
     pub fn change(&mut self, turn: Turn, room: Vec<Waiting>)
         requires fitted { IsFitted self.old }
         requires empty { vec_len room ≡ 0 }

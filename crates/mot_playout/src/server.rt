@@ -237,7 +237,7 @@ impl<D: Disk> Server<D> {
         Ok(done)
     }
 
-    /// From now on a command that is accepted does not begin the turn anew: the new directory and
+    /// From now on a command that is accepted does not begin a new turn: the new directory and
     /// the changed body come next, and then the turn goes on. A changed body comes in its place
     /// alone while `early` others that are not begun wait to come before it. It takes no memory,
     /// and does not call the disk; each command then takes memory for a few more numbers.

@@ -10,7 +10,7 @@ ghost use Rattle.mot_server.specs.Inner.Coming.{TellsWhy};
 use clap::ArgMatches;
 use disk_store::{OpenFault, Start};
 use mot_cli::{NoTask, has_levels};
-use mot_destinations::Cause;
+use mot_endpoints::Cause;
 use mot_numbers::Refusal;
 use mot_outcome::{Exit, Finished, UsedDisk, refuse, subject_of, tell};
 use std::io::Write;

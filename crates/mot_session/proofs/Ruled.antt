@@ -4,7 +4,7 @@ use Rattle.std.proofs.Common.{length, Option, Some, None, Result, Ok, Err, refl,
 use Rattle.std.proofs.Common.{subst}
 use Rattle.std.proofs.lemmas.Bool.{and_parts, le-ltb, leb-true}
 use Rattle.std.specs.List.{list_all}
-use Rattle.std.specs.Prelude.{⊤, All, IsTrue, IsFalse, bytes_eq, codes, if◌then◌else◌, nat_le}
+use Rattle.std.specs.Prelude.{⊤, All, IsTrue, IsFalse, if◌then◌else◌, nat_le}
 use Rattle.std.specs.Prelude.{nat_lt}
 use Rattle.std.specs.Prelude.{◌&&◌, ◌==◌, not}
 use Rattle.std.specs.Str.{is_utf8}
@@ -21,7 +21,10 @@ use Rattle.mot_lines.specs.Line.{NeedsMemory, alone_of, description_of, line_of,
 use Rattle.mot_lines.specs.Line.{period_of}
 use Rattle.mot_numbers.specs.Refusal.{◌>>=◌}
 use Rattle.mot_lines.specs.Line.{put_of}
-use Rattle.mot_lines.specs.Line.{raw_of, replace_of, request_of, withdraw_of}
+use Rattle.mot_lines.specs.Line.{asked_by, raw_of, replace_of, request_of, withdraw_of}
+use Rattle.mot_lines.specs.Verb.{verb_of}
+use Rattle.mot_lines.specs.declared.line.verb.Verb.{Verb}
+use Rattle.mot_lines.specs.declared.line.verb.Verb.TheVariants as verb
 use Rattle.mot_lines.specs.Text.{done_line, refusal_line}
 use Rattle.mot_lines.specs.Words.{number_of_word, words_of}
 use Rattle.hex.specs.Hex.{decode_of}
@@ -172,18 +175,21 @@ list-short : (words : List (List ℕ)) → IsShort (alone_of asks.List words)
 list-short [] = tt
 list-short (a ∷ words) = tt
 
+asked-short : (v : Option Verb) (words : List (List ℕ)) → IsShort (asked_by v words)
+asked-short (Some verb.Raw) words = raw-short words
+asked-short (Some verb.Put) words = put-short words
+asked-short (Some verb.Replace) words = replace-short words
+asked-short (Some verb.Withdraw) words = withdraw-short words
+asked-short (Some verb.Period) words = period-short words
+asked-short (Some verb.List) words = list-short words
+asked-short (Some verb.Next) words = next-short words
+asked-short (Some verb.Turn) words = turn-short words
+asked-short None words = tt
+
 request-short : (words : List (List ℕ)) → IsShort (request_of words)
 unfolding request_of
 request-short [] = tt
-request-short (first ∷ words) =
-    either (bytes_eq first (codes "raw")) _ _ (raw-short words)
-    (either (bytes_eq first (codes "put")) _ _ (put-short words)
-    (either (bytes_eq first (codes "replace")) _ _ (replace-short words)
-    (either (bytes_eq first (codes "withdraw")) _ _ (withdraw-short words)
-    (either (bytes_eq first (codes "period")) _ _ (period-short words)
-    (either (bytes_eq first (codes "list")) _ _ (list-short words)
-    (either (bytes_eq first (codes "next")) _ _ (next-short words)
-    (either (bytes_eq first (codes "turn")) _ _ (turn-short words) tt)))))))
+request-short (first ∷ words) = asked-short (verb_of first) words
 
 pub line-short : (line : List ℕ) → IsShort (line_of line)
 unfolding line_of

@@ -25,7 +25,10 @@ use Rattle.mot_lines.specs.Fields.{kind_in, name_in, number_to, period_in, segme
 use Rattle.mot_lines.specs.Line.{alone_of, description_of, line_of, next_of, period_of}
 use Rattle.mot_numbers.specs.Refusal.{◌>>=◌}
 use Rattle.mot_lines.specs.Line.{put_of}
-use Rattle.mot_lines.specs.Line.{raw_of, replace_of, request_of, withdraw_of}
+use Rattle.mot_lines.specs.Line.{asked_by, raw_of, replace_of, request_of, withdraw_of}
+use Rattle.mot_lines.specs.Verb.{verb_of}
+use Rattle.mot_lines.specs.declared.line.verb.Verb.{Verb}
+use Rattle.mot_lines.specs.declared.line.verb.Verb.TheVariants as verb
 use Rattle.mot_lines.specs.Words.{number_of_word, words_of}
 use Rattle.mot_objects.specs.declared.command.Command.TheVariants.{Period, Put, Replace, Withdraw}
 use Rattle.mot_lines.specs.Lines.{HasNoLineEnd}
@@ -872,18 +875,21 @@ module _ (g : Geometry) where
     replace-proper words = behind (description_of words)
         (λ d. Ok (asks.Command (Replace d.name d.content d.mime d.body))) (λ d e. tt)
 
+    asked-proper : (v : Option Verb) (words : List (List ℕ)) → IsProper (asked_by v words)
+    asked-proper (Some verb.Raw) words = raw-proper words
+    asked-proper (Some verb.Put) words = put-proper words
+    asked-proper (Some verb.Replace) words = replace-proper words
+    asked-proper (Some verb.Withdraw) words = withdraw-proper words
+    asked-proper (Some verb.Period) words = period-proper words
+    asked-proper (Some verb.List) words = list-proper words
+    asked-proper (Some verb.Next) words = next-proper words
+    asked-proper (Some verb.Turn) words = turn-proper words
+    asked-proper None words = tt
+
     request-proper : (words : List (List ℕ)) → IsProper (request_of words)
     unfolding request_of
     request-proper [] = tt
-    request-proper (first ∷ words) =
-        either (bytes_eq first (codes "raw")) _ _ (raw-proper words)
-        (either (bytes_eq first (codes "put")) _ _ (put-proper words)
-        (either (bytes_eq first (codes "replace")) _ _ (replace-proper words)
-        (either (bytes_eq first (codes "withdraw")) _ _ (withdraw-proper words)
-        (either (bytes_eq first (codes "period")) _ _ (period-proper words)
-        (either (bytes_eq first (codes "list")) _ _ (list-proper words)
-        (either (bytes_eq first (codes "next")) _ _ (next-proper words)
-        (either (bytes_eq first (codes "turn")) _ _ (turn-proper words) tt)))))))
+    request-proper (first ∷ words) = asked-proper (verb_of first) words
 
     line-proper : (line : List ℕ) → IsProper (line_of line)
     unfolding line_of

@@ -6,8 +6,7 @@ use Rattle.std.specs.declared.io.Error.{Error}
 use Rattle.mot_files.specs.Call.{Call, closed, failed_read, looked, opened, read}
 use Rattle.mot_files.specs.Lasting.{MakesLast, SyncsPath}
 use Rattle.mot_files.specs.Listing.{file_of, path_in}
-use Rattle.mot_files.specs.Reading.{IsRead, IsUnread}
-use Rattle.mot_files.specs.Stamping.{HasStamp, IsStamped}
+use Rattle.mot_files.specs.Stamping.{HasStamp, IsReadStamped, IsUnreadStamped}
 use Rattle.mot_files.specs.declared.reading.Unread.{Unread}
 use Rattle.mot_files.specs.declared.system.Fault.{Fault}
 use Rattle.mot_files.specs.declared.system.Handle.{Handle}
@@ -77,27 +76,16 @@ IsLookedAt path name old new = ((new ≡ old) × HasNoPath path name)
 abbrev pub FileIsUnchanged : (path name : List ℕ) → Stamp → (old new : List Call) → Type 0
 FileIsUnchanged path name stamp old new = HasStamp (path_in path name) stamp old new
 
--- the file of a path was read, behind its stamp; and when it was not
-abbrev pub PathIsRead : (path : List ℕ) → (most : ℕ) → (at_once : Bool) → (bytes : List ℕ)
-    → Option Stamp → (old new : List Call) → Type 0
-PathIsRead path most at_once bytes stamp old new = (before : List Call)
-    × IsStamped path stamp old before × IsRead path most at_once bytes before new
-
-abbrev pub PathIsUnread : (path : List ℕ) → (most : ℕ) → (at_once : Bool) → Unread
-    → (old new : List Call) → Type 0
-PathIsUnread path most at_once unread old new = (before : List Call) × (stamp : Option Stamp)
-    × IsStamped path stamp old before × IsUnread path most at_once unread before new
-
--- a file of the folder was; and when it was not
+-- a file of the folder was read, and had this stamp before; and when it was not
 abbrev pub FileIsRead : (path name : List ℕ) → (most : ℕ) → (at_once : Bool) → (bytes : List ℕ)
     → Option Stamp → (old new : List Call) → Type 0
 FileIsRead path name most at_once bytes stamp old new =
-    PathIsRead (path_in path name) most at_once bytes stamp old new
+    IsReadStamped (path_in path name) most at_once bytes stamp old new
 
 abbrev pub FileIsUnread : (path name : List ℕ) → (most : ℕ) → (at_once : Bool) → Unread
     → (old new : List Call) → Type 0
 FileIsUnread path name most at_once unread old new = ((new ≡ old) × HasNoPath path name)
-    ⊎ PathIsUnread (path_in path name) most at_once unread old new
+    ⊎ IsUnreadStamped (path_in path name) most at_once unread old new
 
 -- a file of the folder was made to last, and then the folder; and when it was not
 abbrev pub FileIsKept : (path name : List ℕ) → (old new : List Call) → Type 0

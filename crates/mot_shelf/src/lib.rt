@@ -5,4 +5,4 @@ mod path;
 mod reader;
 
 pub use path::LONGEST_PATH;
-pub use reader::{FileRead, FolderReader};
+pub use reader::FolderReader;

@@ -10,27 +10,18 @@ ghost use Rattle.mot_shelf.specs.Given.{Given, and_asked, and_failed, and_kept, 
 ghost use Rattle.mot_shelf.specs.Given.{and_listed, and_missed, and_read, and_unchanged};
 ghost use Rattle.mot_files.specs.declared.reading.Unread.TheVariants.{TooLong, Young};
 ghost use Rattle.mot_shelf.specs.Calls.{FolderIsClosed, FolderIsOpened};
-ghost use Rattle.mot_shelf.specs.Calls.{NamesAreRead, NamesAreUnread, PathIsRead, PathIsUnread};
+ghost use Rattle.mot_shelf.specs.Calls.{NamesAreRead, NamesAreUnread};
 ghost use Rattle.mot_shelf.specs.Gives.{Asks};
 ghost use Rattle.mot_shelf.specs.Reader.{reader_fault, reader_path, reader_system, view};
 ghost use Rattle.mot_shelf.specs.View.{folder_at};
 
 use crate::path::{NoPath, PathRoom, set_path};
 use mot_files::{
-    Handle, How, Kind, Stamp, System, Unread, has_stamp, is_file, make_last, read_file, stamp,
-    sync_path,
+    FileRead, Handle, How, Kind, Stamp, System, Unread, has_stamp, is_file, make_last,
+    read_stamped, sync_path,
 };
 use std::alloc::Global;
 use std::io::{self, ErrorKind};
-
-/// A file that was read.
-#[derive(Drop)]
-pub struct FileRead {
-    /// Its bytes.
-    pub bytes: Vec<u8>,
-    /// Its stamp before it was read, if its last change was two seconds ago then, or longer.
-    pub stamp: Option<Stamp>,
-}
 
 /// The folder at a path of a system of files.
 #[derive(Drop)]
@@ -262,7 +253,7 @@ fn close_listing<S: System>(system: &mut S, listing: Option<Handle>)
 fn open_folder<S: System>(system: &mut S, room: &mut PathRoom, path: &str) -> io::Result<Handle>
     ensures { FolderIsOpened path.now result (S.calls system.old) (S.calls system.new) }
 {
-    // An empty path is no folder; with a slash behind it, it would be the topmost one.
+    // An empty path is no folder; with a slash after it, it would be the topmost one.
     if path.is_empty() {
         return open_exactly(system, path);
     }
@@ -287,7 +278,7 @@ fn open_exactly<S: System>(system: &mut S, path: &str) -> io::Result<Handle>
     }
 }
 
-/// The next names of the open folder; behind the last it is closed.
+/// The next names of the open folder; after the last it is closed.
 fn next_names<S: System>(
     system: &mut S,
     listing: &mut Option<Handle>,
@@ -321,29 +312,5 @@ fn kind_at<S: System>(system: &mut S, path: &str) -> Option<Kind>
     match system.look(path) {
         Ok(named) => Some(named.kind),
         Err(_) => None,
-    }
-}
-
-/// The regular file of this path, if it has so many bytes at most, with the stamp that it had before
-/// it was read. One that is young is read only if it is asked for `at_once`.
-fn read_stamped<S: System>(
-    system: &mut S,
-    alloc: Global,
-    path: &str,
-    most: u64,
-    at_once: bool,
-) -> Result<FileRead, Unread>
-    ensures young { at_once ≡ true → IfErr result (λ unread. unread ≢ Young) }
-    ensures long { IfErr result (λ unread. (count : ℕ) → unread ≡ TooLong count → most < count) }
-    ensures calls { MatchResult result
-        (λ file. PathIsRead path.now most at_once file.bytes.items file.stamp
-        (S.calls system.old) (S.calls system.new))
-        (λ unread. PathIsUnread path.now most at_once unread (S.calls system.old)
-        (S.calls system.new)) }
-{
-    let stamp = stamp(system, path);
-    match read_file(system, alloc, path, most, at_once) {
-        Ok(bytes) => Ok(FileRead { bytes, stamp }),
-        Err(unread) => Err(unread),
     }
 }

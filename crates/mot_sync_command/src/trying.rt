@@ -9,7 +9,7 @@ ghost use Rattle.mot_shelf.specs.View.{FolderView};
 use crate::copying::copy_disk;
 use crate::syncing::sync_shelf;
 use disk_model::Disk;
-use mot_destinations::Cause;
+use mot_endpoints::Cause;
 use mot_files::{CallLog, System};
 use mot_folder::FileTypes;
 use mot_shelf::FolderReader;

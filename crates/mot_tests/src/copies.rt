@@ -5,7 +5,7 @@ use crate::receiver::received_turn;
 use crate::serving::{answers, is_clean};
 use disk_store::MemoryDisk;
 use mot_base::Refusal;
-use mot_copying::{NotCopied, copy};
+use mot_copy_command::{NotCopied, copy};
 use mot_journal::Geometry;
 use mot_repository::Repository;
 use std::alloc::Global;

@@ -7,7 +7,7 @@ use disk_model::{Disk, DiskFault};
 use disk_store::MemoryDisk;
 use std::alloc::Global;
 
-// A function below that holds a disk has few ways out: at each, its end is proved anew.
+// A function below that holds a disk has few ways out: at each, its end is proved again.
 
 // What a read of the whole disk of 8 bytes gives.
 fn bytes_of<D: Disk>(disk: &mut D) -> Result<[u8; 8], DiskFault>
@@ -19,7 +19,7 @@ fn bytes_of<D: Disk>(disk: &mut D) -> Result<[u8; 8], DiskFault>
     Ok(bytes)
 }
 
-// How many calls a disk of 8 bytes has recorded before and behind a read, and its bytes.
+// How many calls a disk of 8 bytes has recorded before and after a read, and its bytes.
 fn calls_around_a_read(disk: &mut MemoryDisk) -> Result<(u64, [u8; 8], u64), DiskFault> {
     if disk.len() != 8 {
         return Err(DiskFault);
@@ -150,7 +150,7 @@ fn is_left(alloc: Global, disk: &MemoryDisk, byte: u8) -> bool
     }
 }
 
-// How many calls are recorded of a disk of 8 bytes with room for two: before them, and behind them.
+// How many calls are recorded of a disk of 8 bytes with room for two: before them, and after them.
 fn calls_with_room(alloc: Global) -> Result<(u64, u64), DiskFault> {
     let mut disk = MemoryDisk::new(alloc, 8).ok_or(DiskFault)?;
     let is_reserved = disk.reserve(2).is_ok();

@@ -26,7 +26,7 @@ fn length_of_header(alloc: Global, name: &[u8]) -> Result<usize, Refusal> {
     Ok(header_bytes(alloc, &object)?.len())
 }
 
-// The header core of 7 bytes, the name behind 3, and the version in 2.
+// The header core of 7 bytes, the name after 3, and the version in 2.
 #[test]
 fn calls_answer(rt: HostRuntime) {
     expect(&rt, is_copied(rt.alloc(), b"hello"), Ok(true));

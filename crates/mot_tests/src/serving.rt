@@ -14,7 +14,7 @@ pub fn play_turn(alloc: Global, server: &mut Server) -> Result<Vec<Packet>, Refu
     server.play_turn(alloc)
 }
 
-/// Whether no gate is open behind a closed one.
+/// Whether no gate is open after a closed one.
 pub fn is_clean(server: &mut Server) -> Result<bool, Refusal> {
     server.is_clean()
 }

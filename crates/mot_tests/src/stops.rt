@@ -15,7 +15,7 @@ const CHOICES: [&[u8]; 6] = [&[], &[0x00], &[0xFF], &[0xA5], &[0x01], &[0x77]];
 /// More than any command makes.
 const MOST_CALLS: u8 = 20;
 
-/// A command that comes behind all others.
+/// A command that comes after all others.
 const FURTHER: &[u8] = b"period 77\n";
 
 const FAULT: &[u8] = b"refused 15 DeviceFault\n";
@@ -81,9 +81,9 @@ const BODIES: [&[u8]; 13] = [
 struct Session<'a> {
     disk: &'a MemoryDisk,
     commands: &'a [&'a [u8]],
-    /// What it shows behind none of the commands, behind one, and so on.
+    /// What it shows after none of the commands, after one, and so on.
     shown: Vec<Vec<u8>>,
-    /// The same with `FURTHER` behind them.
+    /// The same with `FURTHER` after them.
     further: Vec<Vec<u8>>,
 }
 
@@ -102,7 +102,7 @@ impl<'a> Session<'a> {
     }
 }
 
-/// What is shown behind none of the commands and this line, behind one and it, and so on.
+/// What is shown after none of the commands and this line, after one and it, and so on.
 fn shown_behind_each(
     alloc: Global,
     disk: &MemoryDisk,
@@ -117,14 +117,14 @@ fn shown_behind_each(
     Ok(all)
 }
 
-/// A disk like this one that stops at this device call behind the opening.
+/// A disk like this one that stops at this disk call after the opening.
 fn stopping(alloc: Global, disk: &MemoryDisk, call: u8) -> Result<MemoryDisk, Fail> {
     let mut disk = copy_of(alloc, disk)?;
     disk.stop_at(OPENING + u64::from(call));
     Ok(disk)
 }
 
-/// A disk like this one of which this device call behind the opening fails.
+/// A disk like this one of which this disk call after the opening fails.
 fn failing(alloc: Global, disk: &MemoryDisk, call: u8) -> Result<MemoryDisk, Fail> {
     let mut disk = copy_of(alloc, disk)?;
     disk.fail_at(OPENING + u64::from(call));
@@ -143,7 +143,7 @@ fn shown(alloc: Global, server: &mut Server) -> Result<Vec<u8>, Fail> {
     Ok(shown)
 }
 
-/// What a server shows on a disk like this one behind these commands and this line.
+/// What a server shows on a disk like this one after these commands and this line.
 fn shown_behind(
     alloc: Global,
     disk: &MemoryDisk,
@@ -242,7 +242,7 @@ fn shown_of(alloc: Global, disk: MemoryDisk) -> Result<Vec<u8>, Fail> {
     shown(alloc, &mut server)
 }
 
-/// The same, and what is shown behind `FURTHER`.
+/// The same, and what is shown after `FURTHER`.
 fn shown_twice(alloc: Global, disk: MemoryDisk) -> Result<(Vec<u8>, Vec<u8>), Fail> {
     let mut server = open(alloc, disk)?;
     shown_around(alloc, &mut server)
@@ -270,8 +270,8 @@ fn begins_with(texts: &[Vec<u8>], place: usize, front: &[u8]) -> bool {
     }
 }
 
-/// Opens a disk that has to show what stands behind so many commands or one more, and to take
-/// `FURTHER`. What it shows before and behind that.
+/// Opens a disk that has to show what stands after so many commands or one more, and to take
+/// `FURTHER`. What it shows before and after that.
 fn expect_shown(
     alloc: Global,
     session: &Session,
@@ -311,7 +311,7 @@ fn stops_further(
     Ok(done == 1)
 }
 
-/// Each image that a crash may leave of the disk has to be clean, to show what stands behind so
+/// Each image that a crash may leave of the disk has to be clean, to show what stands after so
 /// many commands or one more, and to take `FURTHER`, also where each of its device calls stops.
 fn expect_images(
     alloc: Global,
@@ -359,7 +359,7 @@ fn done_at_fault(alloc: Global, session: &Session, call: u8) -> Result<usize, Fa
     Ok(told)
 }
 
-/// Each of so many device calls stops a command, or fails in one; the one behind them does not.
+/// Each of so many disk calls stops a command, or fails in one; the one after them does not.
 fn expect_stops(alloc: Global, session: &Session, calls: u8) -> Result<(), Fail> {
     let all = session.commands.len();
     for call in 1..=calls {

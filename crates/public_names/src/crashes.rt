@@ -118,7 +118,7 @@ fn a_selector_that_is_written_shows_the_other_half(rt: HostRuntime) {
     );
 }
 
-// How many device calls the first of the twelve commands make, behind the opening.
+// How many disk calls the first of the twelve commands make, after the opening.
 fn calls_of(alloc: Global, is_old: bool, count: usize) -> Result<u64, Refusal> {
     let commands = twelve(alloc)?;
     let disk = empty_disk(alloc, &ONE, is_old)?;

@@ -78,7 +78,7 @@ fn groups_of_two_segments_and_a_directory(rt: HostRuntime) -> Result<(), Fail> {
     Ok(())
 }
 
-// The id behind this one.
+// The id after this one.
 fn next_id(id: TransportId) -> TransportId {
     match id.get().checked_add(1) {
         Some(next) => TransportId::new(next).unwrap_or(TransportId::FIRST),
@@ -86,7 +86,7 @@ fn next_id(id: TransportId) -> TransportId {
     }
 }
 
-// So many ids behind this one, but for one of them.
+// So many ids after this one, but for one of them.
 fn ids_behind(
     alloc: Global,
     cursor: TransportId,
@@ -104,7 +104,7 @@ fn ids_behind(
     Ok(ids)
 }
 
-// The id that is taken behind this one, where so many behind it are used, but for one of them.
+// The id that is taken after this one, where so many after it are used, but for one of them.
 fn taken_behind(alloc: Global, cursor: u16, count: u16, but: u16) -> Result<u16, Refusal> {
     let cursor = TransportId::new(cursor).ok_or(Refusal::BadNumber)?;
     let used = ids_behind(alloc, cursor, count, but)?;

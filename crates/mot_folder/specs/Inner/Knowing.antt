@@ -1,5 +1,5 @@
 -- What is known of files while a look goes on.
-use Rattle.std.specs.Prelude.{◌≡◌, ◌⊎◌, ◌&&◌, ℕ, Bool, true, false, not, List, [], ◌∷◌, ◌++◌, bytes_eq, nat_eq, ⊤}
+use Rattle.std.specs.Prelude.{◌≡◌, ◌⊎◌, ◌&&◌, ◌||◌, ℕ, Bool, true, false, not, List, bytes_eq, nat_eq, ⊤}
 use Rattle.std.specs.List.{AllByRecursion, list_any}
 use Rattle.mot_files.specs.declared.system.Stamp.{Stamp}
 use Rattle.mot_folder.specs.Known.{Among}
@@ -33,14 +33,15 @@ WasStamped given f = (bytes : List ℕ) × Among given.read (f.name, bytes)
 
 -- if it was refused, its name is one of those that are noted, or was lost for want of memory
 abbrev pub IsNotedFor : KnownFiles → List ℕ → Bool → Type 0
-IsNotedFor files name accepted = (accepted ≡ true) ⊎ ((is_known files.refused.items name ≡ true)
-    ⊎ (files.any_lost ≡ true))
+IsNotedFor files name accepted = (accepted ≡ true)
+    ⊎ ((is_known files.refused.names.items name ≡ true) ⊎ (files.any_lost ≡ true))
 
 -- the name of an object is noted, if a command for it was refused
 abbrev pub NotesName : KnownFiles → KnownFiles → (name : List ℕ) → (refused : Bool) → Type 0
 NotesName old new name refused = (new.any_lost ≡ true) ⊎ ((new.any_lost ≡ old.any_lost)
-    × (((refused ≡ false) × (new.refused.items ≡ old.refused.items))
-    ⊎ (new.refused.items ≡ old.refused.items ++ name ∷ [])))
+    × (((refused ≡ false) × (new.refused.names.items ≡ old.refused.names.items))
+    ⊎ ((n : List ℕ) → is_known new.refused.names.items n
+    ≡ (bytes_eq n name || is_known old.refused.names.items n))))
 
 abbrev pub IsNoted : KnownFiles → Answer → Type 0
 IsNoted files (Withdrew name came) = ⊤
@@ -67,4 +68,4 @@ pub record IsAdded (read : List StampedFile) (refused : List (List ℕ)) (object
 -- it was known before, or was added, where all that was refused is noted
 abbrev pub IsKept : KnownFiles → List Object → Known → Type 0
 IsKept old objects k = Among old.known.items k
-    ⊎ (IsAdded old.read.items old.refused.items objects k × (old.any_lost ≡ false))
+    ⊎ (IsAdded old.read.items old.refused.names.items objects k × (old.any_lost ≡ false))

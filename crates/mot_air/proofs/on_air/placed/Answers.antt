@@ -1,7 +1,7 @@
 use Rattle.std.proofs.Common.{Err, refl, subst}
 use Rattle.mot_air.specs.Commands.EndsSending.{unplaced}
 use Rattle.mot_air.proofs.on_air.placed.Goals as goal
-use Rattle.mot_destinations.specs.Packets.{TakesItsPlace, destination_of, writer_handle, writer_system}
+use Rattle.mot_endpoints.specs.Packets.{TakesItsPlace, destination_of, writer_handle, writer_system}
 
 pub returns-in-Err-take_place-clause-sent : goal.returns-in-Err-take_place-clause-sent
 returns-in-Err-take_place-clause-sent g c =

@@ -15,9 +15,9 @@ use Rattle.mot_outcome.specs.Outcome.{Opens}
 use Rattle.mot_air.specs.Playing.{Tale}
 use Rattle.mot_air.specs.Telling.{EndsReading, Hands}
 use Rattle.mot_line_folder.specs.Spool.{SpoolView}
-use Rattle.mot_destinations.specs.Packets.{IsTarget, OpensInto, destination_of, target_of, writer_handle}
-use Rattle.mot_destinations.specs.Packets.{writer_system}
-use Rattle.mot_destinations.specs.declared.packets.Target.{Target}
+use Rattle.mot_endpoints.specs.Packets.{IsTarget, OpensInto, destination_of, target_of, writer_handle}
+use Rattle.mot_endpoints.specs.Packets.{writer_system}
+use Rattle.mot_endpoints.specs.declared.packets.Target.{Target}
 use Rattle.mot_numbers.specs.declared.refusal.Refusal.{Refusal}
 use Rattle.mot_numbers.specs.declared.refusal.Refusal.TheVariants.{DeviceFault, WriteFault}
 use Rattle.mot_outcome.specs.Outcome.{OnFile}

@@ -8,9 +8,9 @@ use Rattle.mot_air.specs.Commands.{EndsSending, PlaysInto}
 use Rattle.mot_air.specs.Telling.{EndsReading}
 use Rattle.mot_air.proofs.Behind.{frame_behind}
 use Rattle.mot_air.proofs.on_air.play_opened.Goals as goal
-use Rattle.mot_destinations.specs.Packets.{destination_of, target_of}
-use Rattle.mot_destinations.specs.declared.packets.Target.{Target}
-use Rattle.mot_destinations.specs.declared.packets.Target.TheVariants.{File}
+use Rattle.mot_endpoints.specs.Packets.{destination_of, target_of}
+use Rattle.mot_endpoints.specs.declared.packets.Target.{Target}
+use Rattle.mot_endpoints.specs.declared.packets.Target.TheVariants.{File}
 use Rattle.mot_numbers.specs.declared.refusal.Refusal.{Refusal}
 use Rattle.mot_numbers.specs.declared.refusal.Refusal.TheVariants.{WriteFault}
 use Rattle.mot_playout.specs.Attempts.{fault_of}

@@ -1,6 +1,6 @@
 use Rattle.std.proofs.Common.{Ok, ap, refl, ◌∙◌}
 use Rattle.mot_endpoints.specs.LinePlaces.LeadsInto.{led, no_text, unresolved}
-use Rattle.mot_destinations.specs.Names.{folder_of}
+use Rattle.mot_endpoints.specs.Names.{folder_of}
 use Rattle.mot_endpoints.proofs.Steps.{follow_step}
 use Rattle.mot_endpoints.proofs.lines.leads_into.Goals as goal
 

@@ -12,5 +12,5 @@ invariant-loop l = record {
       (segment_lengths (l.count - l.counter) (room_of l.full_length) l.fn.segment_size l.rest)
       ≡ fold (with_packet l.size) l.initial.frames
       (segment_lengths l.count (room_of l.full_length) l.fn.segment_size l.len);
-  few : l.frames.begun ≤ l.initial.frames.begun + l.counter * 8200;
+  few : l.frames.begun ≤ l.initial.frames.begun + l.counter * 1048576;
 }

@@ -2,7 +2,7 @@ use Rattle.std.proofs.Common.{inl, subst, sym}
 use Rattle.std.proofs.KnownBytes.{Keeps-refl}
 use Rattle.mot_export.specs.Inspecting.{Inspects}
 use Rattle.mot_update.proofs.Laws.{unopened_is}
-use Rattle.mot_export.proofs.Inspected.{inspects, printed}
+use Rattle.mot_export.proofs.Inspected.{inspects}
 use Rattle.mot_export.proofs.Played.{turns-have-their-lengths, turns-have-their-packets}
 use Rattle.mot_export.proofs.inspecting.inspect_disk.Goals as goal
 use Rattle.mot_playout.specs.Attempts.{fault_of}
@@ -29,7 +29,6 @@ returns-clause-ended g c =
     let start = c.args.disk in
     let opens = c.in-Ok.ensures in
     let server = c.in-Ok.server in
-    let last = c.write_inspection-result.new.server in
     let calls = c.write_inspection-result.ensures in
     let result = c.write_inspection-result.result in
     let rate = c.args.rate in
@@ -37,11 +36,8 @@ returns-clause-ended g c =
     let new = g.W.Write.contents c.write_inspection-result.new.writer in
     subst (λ d. Inspects rate (fault_of result) old new (state start) (state d))
     (sym c.into_disk.ensures)
-    (inspects state start server last g.met.D.Disk.sound opens.only_syncs opens.opened opens.calm
-    opens.going opens.at_start calls.only_reads rate old new result
-    (printed state start server last g.met.D.Disk.sound opens.only_syncs opens.opened opens.calm
-    opens.going opens.at_start calls.only_reads rate old new result
-    calls.told calls.broken calls.uncounted calls.calm calls.fault))
+    (inspects state start server g.met.D.Disk.sound opens.only_syncs opens.opened opens.calm
+    opens.going opens.at_start rate old new result calls.told calls.broken calls.fault)
 
 pub returns-clause-lengths : goal.returns-clause-lengths
 returns-clause-lengths g c = turns-have-their-lengths

@@ -54,7 +54,7 @@ returns g c = λ bodies are.
       used.1,
       appended old c.write_sizes.new.writer.items c.write_use.new.writer.items
           c.write_turn.new.writer.items c.write_lengths.new.writer.items
-          (sizes_text view.journal.geometry) shares (turn_text c.args.packets c.args.bytes)
+          (sizes_text view.journal.geometry) shares (turn_text c.args.turn)
           (turn_lengths_text (rates_of c.args.rate) view.journal.geometry.segment
           (turn_of_carousel (carousel_of view.carousel bodies) view.journal.geometry.segment))
           (c.in_ok-write_sizes.ensures.written

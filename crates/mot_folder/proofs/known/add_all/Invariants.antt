@@ -8,4 +8,4 @@ use Rattle.mot_folder.proofs.known.add_all.Given as goal
 abbrev pub invariant-loop-file : goal.invariant-loop-file
 invariant-loop-file l =
     AllByRecursion (λ (k : Known). Among l.initial.known.items k
-    ⊎ IsAdded l.initial.read l.initial.refused l.initial.carousel.objects.items k) l.known.items
+    ⊎ IsAdded l.initial.read l.initial.refused.names.items l.initial.carousel.objects.items k) l.known.items

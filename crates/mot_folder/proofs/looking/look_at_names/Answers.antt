@@ -21,6 +21,7 @@ use Rattle.mot_objects.specs.declared.carousel.Carousel as memory
 use Rattle.mot_objects.specs.declared.object.Object.{Object}
 use Rattle.mot_repository.specs.Repository.{Agrees, RepositoryView}
 use Rattle.mot_folder.proofs.Kept.{kept_as_counted}
+use Rattle.mot_folder.proofs.Order.{ordered_differ}
 use Rattle.mot_folder.proofs.Taken.{fine_is, look_begins, taken_so}
 use Rattle.mot_folder.proofs.looking.look_at_names.Goals as goal
 use Rattle.mot_numbers.specs.declared.refusal.Refusal.{Refusal}
@@ -326,3 +327,7 @@ returns-in_err-look-clause-keeps g c = c.look.ensures.keeps
 
 pub returns-clause-keeps : goal.returns-clause-keeps
 returns-clause-keeps g c = c.look.ensures.keeps
+
+pub look-requires : goal.look-requires
+look-requires g c =
+    ordered_differ c.args.folder.now.names.names.items c.args.folder.now.names.ordered

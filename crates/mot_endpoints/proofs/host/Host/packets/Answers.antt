@@ -1,5 +1,5 @@
 use Rattle.std.proofs.Common.{◌++◌, ◌∙◌, Err, ap, subst}
-use Rattle.mot_destinations.specs.Packets.{OpensPackets, opening_parts}
+use Rattle.mot_endpoints.specs.Packets.{OpensPackets, opening_parts}
 use Rattle.mot_endpoints.proofs.host.Host.packets.Goals as goal
 
 pub returns-in-Err-clause-calls : goal.returns-in-Err-clause-calls

@@ -1,6 +1,6 @@
 use Rattle.std.proofs.Common.{◌≡◌, ◌∙◌, ◌-◌, ◌++◌, ◌∷◌, [], ap, false, refl, subst, sym, true}
 use Rattle.std.specs.Prelude.{slice_get}
-use Rattle.mot_folder.proofs.Knowing.{keeps_on, knows_on, knows_plain, misses_on}
+use Rattle.mot_folder.proofs.Knowing.{keeps_on, knows_noted, knows_on, knows_plain, misses_on}
 use Rattle.mot_folder.proofs.Taken.{known_last, then_kept, then_left, then_taken}
 use Rattle.mot_folder.specs.Inner.Names.{name_or_none}
 use Rattle.mot_folder.specs.Inner.Reading.{TellsFile, TellsLook}
@@ -67,15 +67,19 @@ returns-in-Err-clause-told g c = λ since given told was.
       new,
       more _ was.0 was.1 (c.in-Err.ensures.asks was.0),
       (
-        subst (λ p. TellsLook since types known p new names self.place report self.sizes.waiting
-            (told ++ []) (given ++ [])) (sym c.in-Err.ensures.same)
+        subst (λ v. TellsLook since types v.items (reader_path c.keep.new.self) new names self.place
+            report self.sizes.waiting (told ++ []) (given ++ [])) (sym c.settle.ensures.known)
+            (subst (λ p. TellsLook since types known p new names self.place report
+            self.sizes.waiting (told ++ []) (given ++ [])) (sym c.in-Err.ensures.same)
             (then_left since types known (reader_path self.shelf) names was.0 new self.place self.report
             report self.sizes.waiting wanted (ap (and_missed was.0) is)
             c.tell_untaken.ensures.any c.tell_untaken.ensures.stays
             (subst (λ n. TellsFile self.report report n) is c.tell_untaken.ensures.told) given told
-            was.2.0),
-        knows_plain new self.files told
-            (knows_on was.0 new self.files told (misses_on was.0 new name refl) was.2.1),
+            was.2.0)),
+        knows_plain new c.settle.new.self told
+            (knows_noted new self.files c.settle.new.self told _ c.settle.ensures.noted
+            c.settle.ensures.known c.settle.ensures.read
+            (knows_on was.0 new self.files told (misses_on was.0 new name refl) was.2.1)),
         λ kept. absurd (let no : false ≡ true = sym was.2.2 ∙ kept in cc),
       ),
     )

@@ -1,6 +1,6 @@
 use Rattle.std.proofs.Common.{◌∙◌, inl, inr, refl, subst}
 use Rattle.mot_shelf.proofs.Asking.{by_result, no_path}
-use Rattle.mot_shelf.specs.Calls.{PathIsRead, PathIsUnread}
+use Rattle.mot_files.specs.Stamping.{IsReadStamped, IsUnreadStamped}
 use Rattle.mot_shelf.specs.Gives.Asks.{read, unread}
 use Rattle.mot_shelf.proofs.reader.FolderReader.read.Goals as goal
 
@@ -13,10 +13,10 @@ returns-in-Ok-clause-asks g c =
     let place = c.as_str.ensures.value ∙ c.in-Ok.ensures.1 in
     λ given. by_result c.read_stamped.result c.read_stamped.ensures.calls
     (λ file is. read name file.bytes.items c.args.most file.stamp
-    (subst (λ p. PathIsRead p c.args.most at_once file.bytes.items file.stamp old new) place is)
+    (subst (λ p. IsReadStamped p c.args.most at_once file.bytes.items file.stamp old new) place is)
     refl refl)
     (λ why is. unread name c.args.most why
-    (inr (subst (λ p. PathIsUnread p c.args.most at_once why old new) place is)) refl refl)
+    (inr (subst (λ p. IsUnreadStamped p c.args.most at_once why old new) place is)) refl refl)
 
 pub returns-in-Err-clause-asks : goal.returns-in-Err-clause-asks
 returns-in-Err-clause-asks g c = λ given.

@@ -1,2 +1,0 @@
-mod Moments
-mod Steps

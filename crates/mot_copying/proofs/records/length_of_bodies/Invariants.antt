@@ -1,9 +1,0 @@
-use Rattle.std.proofs.Common.{◌≡◌, ◌*◌, ◌≤◌, take}
-use Rattle.mot_copying.specs.Inner.Records.{bytes_of_bodies}
-use Rattle.mot_copying.proofs.records.length_of_bodies.Given as goal
-
-abbrev pub invariant-loop-object : goal.invariant-loop-object
-invariant-loop-object l = record {
-  sum : l.sum ≡ bytes_of_bodies (take l.object-index l.objects);
-  most : l.sum ≤ 262144 * l.object-index;
-}

@@ -1,3 +1,0 @@
--- What only private contracts and proofs need.
-pub mod Records
-pub mod Steps

@@ -1,4 +1,0 @@
-pub mod Names
-pub mod Packets
-pub mod Placing
-pub mod Status

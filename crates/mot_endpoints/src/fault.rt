@@ -1,0 +1,333 @@
+//! Why a task could not be done, if more is known than its refusal says.
+ghost use Rattle.std.specs.Prelude.{◌≡◌};
+ghost use Rattle.mot_numbers.specs.declared.refusal.Refusal.TheVariants.{OutOfMemory, ReadFault};
+
+use disk_store::OpenFault;
+use mot_devices::DeviceUse;
+use mot_files::Fault;
+use mot_numbers::Refusal;
+use std::alloc::AllocError;
+use std::fmt::{self, Display, Formatter};
+use std::io;
+
+/// Why packets could not be written, or what should take them not be opened.
+#[derive(Clone, Copy)]
+pub enum PacketsFault {
+    /// The system refused a call, for this reason.
+    System(io::Error),
+    /// Another program writes it.
+    InUse,
+    /// It is the disk.
+    IsDisk,
+    /// It is a file that the disk has beside it, or would be one.
+    IsOfDisk,
+    /// It is a link, or no regular file.
+    NoFile,
+    /// The file beside it, which is written first, is a link, or no regular file.
+    NoNewFile,
+    /// A write took less than a packet.
+    Cut,
+    /// No turn is asked for, and the file would be empty.
+    NoTurns,
+    /// Nothing is there, and no number of turns is given, with which a file is made.
+    NoPipe,
+    /// It is a regular file, and no number of turns is given.
+    EndlessFile,
+    /// It is a terminal.
+    Terminal,
+    /// It is a block device.
+    BlockDevice,
+}
+
+/// What is wrong with a file that adds suffixes.
+#[derive(Clone, Copy)]
+pub enum TypesFault {
+    /// The system refused a call, for this reason.
+    System(io::Error),
+    /// It is no regular file.
+    NoFile,
+    /// It has more than 65,536 bytes.
+    Long,
+    /// The line of this number, from 1 on, does not have the form.
+    Line(usize),
+}
+
+/// What is wrong with the folder that lines come from.
+#[derive(Clone, Copy)]
+pub enum LinesFault {
+    /// The system refused a call, for this reason.
+    System(io::Error),
+    /// It is not a folder.
+    NoFolder,
+    /// It is the folder that the carousel is made equal to.
+    HasObjects,
+    /// The disk stands in it.
+    HasDisk,
+    /// PACKETS stands in it, or would.
+    HasPackets,
+    /// The file that adds suffixes stands in it.
+    HasTypes,
+}
+
+/// What is wrong with the file that a copy of the disk is made of, or with its sizes.
+#[derive(Clone, Copy)]
+pub enum NewDiskFault {
+    /// It was not opened or made, or the system refused a call on it.
+    Disk(OpenFault),
+    /// It is a device in use.
+    Device(DeviceUse),
+    /// The disk has more objects than that.
+    Objects {
+        /// So many.
+        count: usize,
+        /// The most that the copy can have.
+        most: u16,
+    },
+    /// The bodies need more bytes than that.
+    Bodies {
+        /// So many.
+        length: u64,
+        /// Those of the copy's data area.
+        room: u32,
+    },
+}
+
+/// Why a task could not be done: it is printed, and nothing is decided by it.
+#[derive(Clone, Copy)]
+pub enum Cause {
+    /// The disk was not opened.
+    Disk(OpenFault),
+    /// The copy of the disk can't be made.
+    NewDisk(NewDiskFault),
+    /// The disk is a device in use.
+    Device(DeviceUse),
+    /// The file that adds suffixes was not read, or a line of it is wrong.
+    Types(TypesFault),
+    /// The folder of objects was not opened at the last look.
+    Folder(io::Error),
+    /// Lines can't come from the folder.
+    Lines(LinesFault),
+    /// PACKETS was not opened, or did not take the packets.
+    Packets(PacketsFault),
+    /// The new file beside it was not written, or could not take its place.
+    NewFile(PacketsFault),
+}
+
+impl Cause {
+    /// The cause, if the folder was not opened at the last look.
+    pub fn of_folder(fault: Option<io::Error>) -> Option<Cause> {
+        match fault {
+            Some(error) => Some(Cause::Folder(error)),
+            None => None,
+        }
+    }
+}
+
+/// Why a task was not begun.
+#[derive(Clone, Copy)]
+pub struct Unbegun {
+    /// The refusal.
+    pub refusal: Refusal,
+    /// What is wrong with a file, if that is the cause.
+    pub cause: Option<Cause>,
+}
+
+impl Unbegun {
+    /// There is no memory.
+    pub fn no_memory() -> Unbegun
+        ensures { result.refusal ≡ OutOfMemory }
+    {
+        Unbegun {
+            refusal: Refusal::OutOfMemory,
+            cause: None,
+        }
+    }
+
+    /// A file or a folder can't be read.
+    pub fn unread(cause: Cause) -> Unbegun
+        ensures { result.refusal ≡ ReadFault }
+    {
+        Unbegun {
+            refusal: Refusal::ReadFault,
+            cause: Some(cause),
+        }
+    }
+}
+
+impl From<DeviceUse> for Cause {
+    /// One that can't be looked at is told as one that is not opened.
+    fn from(found: DeviceUse) -> Cause {
+        match found {
+            DeviceUse::Unseen(error) => Cause::Disk(OpenFault::System(error)),
+            _ => Cause::Device(found),
+        }
+    }
+}
+
+impl From<DeviceUse> for NewDiskFault {
+    /// One that can't be looked at is told as one that is not opened.
+    fn from(found: DeviceUse) -> NewDiskFault {
+        match found {
+            DeviceUse::Unseen(error) => NewDiskFault::Disk(OpenFault::System(error)),
+            _ => NewDiskFault::Device(found),
+        }
+    }
+}
+
+impl From<PacketsFault> for Cause {
+    ghost use Rattle.mot_endpoints.specs.declared.fault.Cause.TheVariants.{Packets};
+
+    ghost from_gives = { λ fault cause. cause ≡ Packets fault };
+
+    fn from(fault: PacketsFault) -> Cause {
+        Cause::Packets(fault)
+    }
+}
+
+impl Display for Cause {
+    fn fmt<W: fmt::Write>(&self, f: &mut Formatter<W>) -> fmt::Result {
+        match self {
+            Cause::Disk(fault) => fault.fmt(f),
+            Cause::NewDisk(fault) => fault.fmt(f),
+            Cause::Device(found) => found.fmt(f),
+            Cause::Types(fault) => fault.fmt(f),
+            Cause::Folder(error) => OpenFault::System(*error).fmt(f),
+            Cause::Lines(fault) => fault.fmt(f),
+            Cause::Packets(fault) | Cause::NewFile(fault) => fault.fmt(f),
+        }
+    }
+}
+
+impl Display for NewDiskFault {
+    fn fmt<W: fmt::Write>(&self, f: &mut Formatter<W>) -> fmt::Result {
+        match self {
+            NewDiskFault::Disk(fault) => fault.fmt(f),
+            NewDiskFault::Device(found) => found.fmt(f),
+            NewDiskFault::Objects { count, most } => {
+                write!(
+                    f,
+                    "the disk has {count} objects, and the copy would take {most}"
+                )
+            }
+            NewDiskFault::Bodies { length, room } => {
+                write!(
+                    f,
+                    "the bodies need {length} bytes, and the copy would have {room}"
+                )
+            }
+        }
+    }
+}
+
+impl Display for PacketsFault {
+    fn fmt<W: fmt::Write>(&self, f: &mut Formatter<W>) -> fmt::Result {
+        match self {
+            PacketsFault::System(error) => OpenFault::System(*error).fmt(f),
+            PacketsFault::InUse => f.pad("in use by another program"),
+            PacketsFault::IsDisk => f.pad("the disk itself"),
+            PacketsFault::IsOfDisk => f.pad("the name of a file of the disk"),
+            PacketsFault::NoFile => f.pad("a link, or not a regular file"),
+            PacketsFault::NoNewFile => {
+                f.pad("the .new file beside it is a link, or not a regular file")
+            }
+            PacketsFault::Cut => f.pad("a packet was cut"),
+            PacketsFault::NoTurns => f.pad("no turns to write"),
+            PacketsFault::NoPipe => f.pad("no pipe is there; a file is written with --turns"),
+            PacketsFault::EndlessFile => f.pad("a regular file, which is written with --turns"),
+            PacketsFault::Terminal => f.pad("a terminal"),
+            PacketsFault::BlockDevice => f.pad("a block device, which takes no packets"),
+        }
+    }
+}
+
+impl Display for TypesFault {
+    fn fmt<W: fmt::Write>(&self, f: &mut Formatter<W>) -> fmt::Result {
+        match self {
+            TypesFault::System(error) => OpenFault::System(*error).fmt(f),
+            TypesFault::NoFile => f.pad("not a regular file"),
+            TypesFault::Long => f.pad("longer than 65,536 bytes"),
+            TypesFault::Line(number) => {
+                write!(f, "line {number} is no SUFFIX TYPE SUBTYPE MIME")
+            }
+        }
+    }
+}
+
+impl Display for LinesFault {
+    fn fmt<W: fmt::Write>(&self, f: &mut Formatter<W>) -> fmt::Result {
+        match self {
+            LinesFault::System(error) => OpenFault::System(*error).fmt(f),
+            LinesFault::NoFolder => f.pad("not a folder"),
+            LinesFault::HasObjects => f.pad("the folder of the objects"),
+            LinesFault::HasDisk => f.pad("the folder of the disk"),
+            LinesFault::HasPackets => f.pad("the folder of the packets"),
+            LinesFault::HasTypes => f.pad("the folder of the file of suffixes"),
+        }
+    }
+}
+
+impl From<io::Error> for TypesFault {
+    ghost use Rattle.mot_endpoints.specs.declared.fault.TypesFault.TheVariants.{System};
+
+    ghost from_gives = { λ error fault. fault ≡ System error };
+
+    fn from(error: io::Error) -> TypesFault {
+        TypesFault::System(error)
+    }
+}
+
+impl From<Fault> for TypesFault {
+    fn from(fault: Fault) -> TypesFault {
+        TypesFault::System(fault.error())
+    }
+}
+
+impl From<AllocError> for TypesFault {
+    fn from(_error: AllocError) -> TypesFault {
+        TypesFault::System(io::Error::from(io::ErrorKind::OutOfMemory))
+    }
+}
+
+impl From<io::Error> for LinesFault {
+    ghost use Rattle.mot_endpoints.specs.declared.fault.LinesFault.TheVariants.{System};
+
+    ghost from_gives = { λ error fault. fault ≡ System error };
+
+    fn from(error: io::Error) -> LinesFault {
+        LinesFault::System(error)
+    }
+}
+
+impl From<io::Error> for PacketsFault {
+    ghost use Rattle.mot_endpoints.specs.declared.fault.PacketsFault.TheVariants.{System};
+
+    ghost from_gives = { λ error fault. fault ≡ System error };
+
+    fn from(error: io::Error) -> PacketsFault {
+        PacketsFault::System(error)
+    }
+}
+
+impl From<Fault> for PacketsFault {
+    ghost use Rattle.mot_endpoints.specs.Placing.{told_as};
+
+    ghost from_gives = { λ fault told. told ≡ told_as fault };
+
+    fn from(fault: Fault) -> PacketsFault {
+        match fault {
+            Fault::Busy => PacketsFault::InUse,
+            Fault::Absent(error) => PacketsFault::System(error),
+            Fault::System(error) => PacketsFault::System(error),
+        }
+    }
+}
+
+impl From<AllocError> for PacketsFault {
+    ghost use Rattle.mot_endpoints.specs.Placing.{IsOfMemory};
+
+    ghost from_gives = { λ error fault. IsOfMemory fault };
+
+    fn from(_error: AllocError) -> PacketsFault {
+        PacketsFault::System(io::Error::from(io::ErrorKind::OutOfMemory))
+    }
+}
