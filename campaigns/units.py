@@ -7,6 +7,7 @@ It starts motcar and motcar@north as the manual has it: the user by systemd-sysu
 format`, whose empty station.disk-wal is removed again. Then it looks whether both run, what stands in the journal, whether
 whole packets come out of the pipes, and how `systemd-analyze security` rates the units. The status has to be written, also
 once the other unit has stopped, and the node exporter of that Debian has to serve it by the manual's link.
+A wrong option has to end the unit for good, and a start that fails is tried after ever longer pauses, if systemd knows them.
 
 PROGRAM may be a Debian package: dpkg installs it, and the units are those in it. It needs root, debootstrap, and the network
 to get each Debian once (two minutes); --folder keeps them for later runs. A run starts over such a folder with a layer in
@@ -37,6 +38,8 @@ SECONDS = 30
 YOUNG = 2.1
 FILTER = "SystemCallFilter=~@privileged @resources\nSystemCallErrorNumber=EPERM\n"
 OLD_FILTER = "SystemCallFilter=~@privileged:EPERM @resources:EPERM\n"
+# The first systemd with RestartSteps=.
+KNOWS_STEPS = 254
 # What process 1 would set of the machine's kernel, or mount of it.
 MASKED = ("systemd-sysctl.service", "systemd-modules-load.service", "sys-kernel-debug.mount", "sys-kernel-tracing.mount",
           "dev-hugepages.mount", "apt-daily.timer", "apt-daily-upgrade.timer", "prometheus-node-exporter.service")
@@ -206,8 +209,27 @@ class Campaign:
             self.exported(name, stations)
             system.run("systemctl", "stop", "motcar@north")
             self.goes_on(f"{name}, motcar beside one that has stopped", stations[0])
+            self.fails(name, stations[1], int(release.split()[1]))
         finally:
             system.end()
+
+    def fails(self, name, station, version):
+        """A start with a wrong option, and starts without a disk."""
+        system, row = station.system, f"{name}, {station.unit}"
+        options = system.place("/etc/default/motcar-north")
+        options.write_text('ARGS="--wrong"\n')
+        system.run("systemctl", "start", station.unit)
+        until(lambda: system.state(station.unit) == "failed failed", 5)
+        self.expect(f"{row}: with a wrong option", "failed failed", system.state(station.unit))
+        self.expect(f"{row}: its line", True, "error: unexpected argument '--wrong' found" in system.journal(station.unit))
+        options.unlink()
+        system.place(f"{station.home}/station.disk").rename(system.place(f"{station.home}/other.disk"))
+        system.run("systemctl", "start", station.unit)
+        time.sleep(15)
+        starts = int(system.run("systemctl", "show", "--value", "-p", "NRestarts", station.unit)[1]) + 1
+        wanted = range(3, 6) if version >= KNOWS_STEPS else range(6, 17)
+        self.expect(f"{row}: starts in 15 s without a disk ({starts})", True, starts in wanted)
+        system.run("systemctl", "stop", station.unit)
 
     def exported(self, name, stations):
         """The samples of both stations in the page of the node exporter; and of one that was not started since a reboot, which

@@ -20,6 +20,16 @@ LENGTH_OF = "import fcntl, os; print(fcntl.fcntl(os.open('packets.pipe', os.O_RD
 KEPT = "<4>the pipe keeps its length until motcar and the multiplexer are both stopped\n"
 
 
+# What systemd says of the pauses between two starts before it knew them.
+UNKNOWN = r"(?m)^.*: Unknown key 'Restart(Steps|MaxDelaySec)' in section \[Service\], ignoring\.\n"
+
+
+def systemd():
+    """The number of systemd's version."""
+    said = subprocess.run(["systemd-analyze", "--version"], capture_output=True, text=True, check=True).stdout
+    return int(re.match(r"systemd (\d+)", said)[1])
+
+
 def values(text, key):
     """The words of each line of a key; a line that ends in a backslash goes on."""
     return shlex.split(" ".join(re.findall(rf"(?m)^{key}=(.*)$", text.replace("\\\n", " "))))
@@ -57,6 +67,9 @@ class Units(program.Rows):
             self.expect(f"{name}: the folder of the status is made, in memory, and stays", ([str(status.parent)], ["yes"]),
                         (folders[1:], values(text, "RuntimeDirectoryPreserve")))
             self.expect(f"{name}: further options", "$ARGS", command[-1])
+            self.expect(f"{name}: pauses between starts, up to half a minute", ["1", "5", "30"],
+                        [it for key in ("RestartSec", "RestartSteps", "RestartMaxDelaySec") for it in values(text, key)])
+            self.expect(f"{name}: a wrong command line is not tried again", ["2"], values(text, "RestartPreventExitStatus"))
             self.expect(f"{name}: lines without a level are errors", (True, ["err"]),
                         ("--levels" in command, values(text, "SyslogLevel")))
 
@@ -80,7 +93,8 @@ class Units(program.Rows):
                 file = pathlib.Path(room, name.replace("@", "@north"))
                 file.write_text(text)
                 done = subprocess.run(["systemd-analyze", "verify", file], capture_output=True, text=True)
-                self.expect(f"{name}: verified", (0, ""), (done.returncode, done.stderr))
+                said = re.sub(UNKNOWN, "", done.stderr) if systemd() < 254 else done.stderr
+                self.expect(f"{name}: verified", (0, ""), (done.returncode, said))
 
 
 def calls_in(name):
@@ -142,7 +156,6 @@ class Pipe(program.Case):
             for more, length in (([], 8192), (["PIPE=65536"], 65_536), (["PIPE=5000"], 8192)):
                 ended = program.run([*around(text, more), sys.executable, "-c", LENGTH_OF], cwd=self.room)
                 self.expect(f"{name}: {more}", (0, b"%d\n" % length, b""), ended)
-            self.expect(f"{name}: a new start", ["1"], values(text, "RestartSec"))
 
     def test_full(self):
         """A pipe that has more bytes in it is not made shorter, and the program is run."""
