@@ -1,20 +1,21 @@
 -- Words that give no geometry, and ask for no task.
 use Rattle.std.proofs.Common.{◌≡◌, ◌∙◌, ℕ, List, Option, Some, None, arith, ap, refl, sym}
 use Rattle.std.proofs.Common.{◌≢◌, slice_index, subst}
-use Rattle.std.specs.Prelude.{IfNone, IfSome, codes}
+use Rattle.std.specs.Prelude.{Bool, true, false, ◌||◌, IfNone, IfSome, bytes_eq, codes}
 use Rattle.clap.specs.Words.{Row, Text}
 use Rattle.mot_numbers.specs.declared.geometry.Geometry.{Geometry}
 use Rattle.mot_cli.specs.Given.{IsGiven}
 use Rattle.mot_cli.specs.Options.{AreGiven, GiveDirectory, GiveGeometry, GiveLastId}
 use Rattle.mot_cli.specs.Options.{geometry_asked, geometry_over}
-use Rattle.mot_cli.specs.Task.{IsTask}
+use Rattle.mot_cli.specs.Task.{IsTask, IsWork}
 use Rattle.mot_cli.specs.declared.options.Options.{Options}
 use Rattle.mot_cli.specs.declared.playing.PlayTask.{PlayTask}
 use Rattle.mot_cli.specs.declared.task.Task.{Task}
-use Rattle.mot_cli.specs.declared.task.Task.TheVariants.{Memory, Format, Copy, Serve, Check, Migrate}
-use Rattle.mot_cli.specs.declared.task.Task.TheVariants.{Play, Sync, Export, Inspect}
-use Rattle.mot_cli.specs.declared.task.Task.TheVariants.{GetBody, ListObjects, PutFiles}
-use Rattle.mot_cli.specs.declared.task.Task.TheVariants.{WithdrawNames}
+use Rattle.mot_cli.specs.declared.task.DiskTask.{DiskTask}
+use Rattle.mot_cli.specs.declared.task.DiskTask.TheVariants.{Serve, Check, Migrate, ListObjects}
+use Rattle.mot_cli.specs.declared.task.DiskTask.TheVariants.{GetBody, Export, Inspect}
+use Rattle.mot_cli.specs.declared.task.Task.TheVariants.{Memory, Format, Copy, Play, Sync}
+use Rattle.mot_cli.specs.declared.task.Task.TheVariants.{PutFiles, WithdrawNames, OnDisk}
 
 -- what holds anyhow holds where there is nothing
 pub IfNone-always : {T P : Type 0} (o : Option T) → P → IfNone o P
@@ -24,6 +25,28 @@ IfNone-always (Some x) p = tt
 -- texts that differ in a byte are not the same
 clash : (i m n : ℕ) (a b : Text) → slice_index a i ≡ m → slice_index b i ≡ n → m ≢ n → a ≡ b → ⊥
 clash i m n a b p q d e = d (sym p ∙ ap (λ t. slice_index t i) e ∙ q)
+
+-- the names of what is done with a disk alone
+abbrev names_work : Text → Bool
+names_work name = bytes_eq name (codes "serve") || bytes_eq name (codes "check")
+    || bytes_eq name (codes "migrate") || bytes_eq name (codes "list") || bytes_eq name (codes "get")
+    || bytes_eq name (codes "export") || bytes_eq name (codes "inspect")
+
+work_named : (name : Text) (rows : List Row) (work : DiskTask) → IsWork name rows work
+    → names_work name ≡ true
+work_named name rows Serve is = ap names_work is
+work_named name rows Check is = ap names_work is
+work_named name rows Migrate is = ap names_work is
+work_named name rows ListObjects is = ap names_work is
+work_named name rows (GetBody object) is = ap names_work is.0
+work_named name rows Export is = ap names_work is
+work_named name rows (Inspect rate) is = ap names_work is.0
+
+-- another name asks for none of that
+elsewhere : (name : Text) (rows : List Row) (work : DiskTask) → names_work name ≡ false
+    → IsWork name rows work → ⊥
+elsewhere name rows work none is =
+    let yes = work_named name rows work is in absurd (cc)
 
 given_same : (text : Option (List ℕ)) (m n : Option ℕ) → IsGiven text m → IsGiven text n → m ≡ n
 given_same None m n a b = a ∙ sym b
@@ -56,28 +79,16 @@ module _ (rows : List Row) (none : (g : Geometry) → GiveGeometry rows g → �
       clash 0 109 102 (codes "memory") (codes "format") refl refl (omega arith) (sym is ∙ t.0)
   memory_needs_geometry name is (Copy copy) t =
       clash 0 109 99 (codes "memory") (codes "copy") refl refl (omega arith) (sym is ∙ t.0)
-  memory_needs_geometry name is (Serve path) t =
-      clash 0 109 115 (codes "memory") (codes "serve") refl refl (omega arith) (sym is ∙ t.0)
-  memory_needs_geometry name is (Check path) t =
-      clash 0 109 99 (codes "memory") (codes "check") refl refl (omega arith) (sym is ∙ t.0)
-  memory_needs_geometry name is (Migrate path) t =
-      clash 1 101 105 (codes "memory") (codes "migrate") refl refl (omega arith) (sym is ∙ t.0)
   memory_needs_geometry name is (Play p) t =
       clash 0 109 112 (codes "memory") (codes "play") refl refl (omega arith) (sym is ∙ t.0)
   memory_needs_geometry name is (Sync sync) t =
       clash 0 109 115 (codes "memory") (codes "sync") refl refl (omega arith) (sym is ∙ t.0)
-  memory_needs_geometry name is (ListObjects disk) t =
-      clash 0 109 108 (codes "memory") (codes "list") refl refl (omega arith) (sym is ∙ t.0)
   memory_needs_geometry name is (PutFiles disk files types) t =
       clash 0 109 112 (codes "memory") (codes "put") refl refl (omega arith) (sym is ∙ t.0)
   memory_needs_geometry name is (WithdrawNames disk names) t =
       clash 0 109 119 (codes "memory") (codes "withdraw") refl refl (omega arith) (sym is ∙ t.0)
-  memory_needs_geometry name is (GetBody disk object) t =
-      clash 0 109 103 (codes "memory") (codes "get") refl refl (omega arith) (sym is ∙ t.0)
-  memory_needs_geometry name is (Export disk) t =
-      clash 0 109 101 (codes "memory") (codes "export") refl refl (omega arith) (sym is ∙ t.0)
-  memory_needs_geometry name is (Inspect disk rate) t =
-      clash 0 109 105 (codes "memory") (codes "inspect") refl refl (omega arith) (sym is ∙ t.0)
+  memory_needs_geometry name is (OnDisk disk work) t =
+      elsewhere (codes "memory") rows work refl (subst (λ (n : Text). IsWork n rows work) is t.0)
 
 module _ (rows : List Row)
     (none : (g : Geometry) (d : ℕ) → GiveGeometry rows g → GiveDirectory rows d → ⊥) where
@@ -89,28 +100,16 @@ module _ (rows : List Row)
       clash 0 102 109 (codes "format") (codes "memory") refl refl (omega arith) (sym is ∙ t.0)
   format_needs_both name is (Copy copy) t =
       clash 0 102 99 (codes "format") (codes "copy") refl refl (omega arith) (sym is ∙ t.0)
-  format_needs_both name is (Serve path) t =
-      clash 0 102 115 (codes "format") (codes "serve") refl refl (omega arith) (sym is ∙ t.0)
-  format_needs_both name is (Check path) t =
-      clash 0 102 99 (codes "format") (codes "check") refl refl (omega arith) (sym is ∙ t.0)
-  format_needs_both name is (Migrate path) t =
-      clash 0 102 109 (codes "format") (codes "migrate") refl refl (omega arith) (sym is ∙ t.0)
   format_needs_both name is (Play p) t =
       clash 0 102 112 (codes "format") (codes "play") refl refl (omega arith) (sym is ∙ t.0)
   format_needs_both name is (Sync sync) t =
       clash 0 102 115 (codes "format") (codes "sync") refl refl (omega arith) (sym is ∙ t.0)
-  format_needs_both name is (ListObjects disk) t =
-      clash 0 102 108 (codes "format") (codes "list") refl refl (omega arith) (sym is ∙ t.0)
   format_needs_both name is (PutFiles disk files types) t =
       clash 0 102 112 (codes "format") (codes "put") refl refl (omega arith) (sym is ∙ t.0)
   format_needs_both name is (WithdrawNames disk names) t =
       clash 0 102 119 (codes "format") (codes "withdraw") refl refl (omega arith) (sym is ∙ t.0)
-  format_needs_both name is (GetBody disk object) t =
-      clash 0 102 103 (codes "format") (codes "get") refl refl (omega arith) (sym is ∙ t.0)
-  format_needs_both name is (Export disk) t =
-      clash 0 102 101 (codes "format") (codes "export") refl refl (omega arith) (sym is ∙ t.0)
-  format_needs_both name is (Inspect disk rate) t =
-      clash 0 102 105 (codes "format") (codes "inspect") refl refl (omega arith) (sym is ∙ t.0)
+  format_needs_both name is (OnDisk disk work) t =
+      elsewhere (codes "format") rows work refl (subst (λ (n : Text). IsWork n rows work) is t.0)
 
 module _ (rows : List Row) (none : (after : Option ℕ) → GiveLastId rows after → ⊥) where
   -- words without an id to go on after ask for no copy
@@ -120,28 +119,15 @@ module _ (rows : List Row) (none : (after : Option ℕ) → GiveLastId rows afte
       clash 0 99 109 (codes "copy") (codes "memory") refl refl (omega arith) t.0
   copy_needs_id (Format path g directory) t =
       clash 0 99 102 (codes "copy") (codes "format") refl refl (omega arith) t.0
-  copy_needs_id (Serve path) t =
-      clash 0 99 115 (codes "copy") (codes "serve") refl refl (omega arith) t.0
-  copy_needs_id (Check path) t =
-      clash 1 111 104 (codes "copy") (codes "check") refl refl (omega arith) t.0
-  copy_needs_id (Migrate path) t =
-      clash 0 99 109 (codes "copy") (codes "migrate") refl refl (omega arith) t.0
   copy_needs_id (Play p) t =
       clash 0 99 112 (codes "copy") (codes "play") refl refl (omega arith) t.0
   copy_needs_id (Sync sync) t =
       clash 0 99 115 (codes "copy") (codes "sync") refl refl (omega arith) t.0
-  copy_needs_id (ListObjects disk) t =
-      clash 0 99 108 (codes "copy") (codes "list") refl refl (omega arith) t.0
   copy_needs_id (PutFiles disk files types) t =
       clash 0 99 112 (codes "copy") (codes "put") refl refl (omega arith) t.0
   copy_needs_id (WithdrawNames disk names) t =
       clash 0 99 119 (codes "copy") (codes "withdraw") refl refl (omega arith) t.0
-  copy_needs_id (GetBody disk object) t =
-      clash 0 99 103 (codes "copy") (codes "get") refl refl (omega arith) t.0
-  copy_needs_id (Export disk) t =
-      clash 0 99 101 (codes "copy") (codes "export") refl refl (omega arith) t.0
-  copy_needs_id (Inspect disk rate) t =
-      clash 0 99 105 (codes "copy") (codes "inspect") refl refl (omega arith) t.0
+  copy_needs_id (OnDisk disk work) t = elsewhere (codes "copy") rows work refl t.0
 
 module _ (rows : List Row) (none : (p : PlayTask) → IsTask (codes "play") rows (Play p) → ⊥) where
   -- words that nothing is played for ask for no playing
@@ -153,61 +139,36 @@ module _ (rows : List Row) (none : (p : PlayTask) → IsTask (codes "play") rows
       clash 0 112 102 (codes "play") (codes "format") refl refl (omega arith) t.0
   play_needs (Copy copy) t =
       clash 0 112 99 (codes "play") (codes "copy") refl refl (omega arith) t.0
-  play_needs (Serve path) t =
-      clash 0 112 115 (codes "play") (codes "serve") refl refl (omega arith) t.0
-  play_needs (Check path) t =
-      clash 0 112 99 (codes "play") (codes "check") refl refl (omega arith) t.0
-  play_needs (Migrate path) t =
-      clash 0 112 109 (codes "play") (codes "migrate") refl refl (omega arith) t.0
   play_needs (Sync sync) t =
       clash 0 112 115 (codes "play") (codes "sync") refl refl (omega arith) t.0
-  play_needs (ListObjects disk) t =
-      clash 0 112 108 (codes "play") (codes "list") refl refl (omega arith) t.0
   play_needs (PutFiles disk files types) t =
       clash 1 108 117 (codes "play") (codes "put") refl refl (omega arith) t.0
   play_needs (WithdrawNames disk names) t =
       clash 0 112 119 (codes "play") (codes "withdraw") refl refl (omega arith) t.0
-  play_needs (GetBody disk object) t =
-      clash 0 112 103 (codes "play") (codes "get") refl refl (omega arith) t.0
-  play_needs (Export disk) t =
-      clash 0 112 101 (codes "play") (codes "export") refl refl (omega arith) t.0
-  play_needs (Inspect disk rate) t =
-      clash 0 112 105 (codes "play") (codes "inspect") refl refl (omega arith) t.0
+  play_needs (OnDisk disk work) t = elsewhere (codes "play") rows work refl t.0
 
 -- the name of no command
-pub record IsNoCommand (name : Text) : Type 0 where
+pub record IsNoCommand (name : Text) (rows : List Row) : Type 0 where
   pub not_memory : name ≢ codes "memory"
   pub not_format : name ≢ codes "format"
   pub not_copy : name ≢ codes "copy"
-  pub not_serve : name ≢ codes "serve"
-  pub not_check : name ≢ codes "check"
-  pub not_migrate : name ≢ codes "migrate"
   pub not_play : name ≢ codes "play"
   pub not_sync : name ≢ codes "sync"
-  pub not_list : name ≢ codes "list"
   pub not_put : name ≢ codes "put"
   pub not_withdraw : name ≢ codes "withdraw"
-  pub not_get : name ≢ codes "get"
-  pub not_export : name ≢ codes "export"
-  pub not_inspect : name ≢ codes "inspect"
+  pub not_work : (work : DiskTask) → IsWork name rows work → ⊥
 
 -- such a name asks for no task
-pub no_command : (name : Text) (rows : List Row) → IsNoCommand name → (task : Task)
+pub no_command : (name : Text) (rows : List Row) → IsNoCommand name rows → (task : Task)
     → IsTask name rows task → ⊥
 no_command name rows none (Memory g) t = none.not_memory t.0
 no_command name rows none (Format path g directory) t = none.not_format t.0
 no_command name rows none (Copy copy) t = none.not_copy t.0
-no_command name rows none (Serve path) t = none.not_serve t.0
-no_command name rows none (Check path) t = none.not_check t.0
-no_command name rows none (Migrate path) t = none.not_migrate t.0
 no_command name rows none (Play p) t = none.not_play t.0
 no_command name rows none (Sync sync) t = none.not_sync t.0
-no_command name rows none (ListObjects disk) t = none.not_list t.0
 no_command name rows none (PutFiles disk files types) t = none.not_put t.0
 no_command name rows none (WithdrawNames disk names) t = none.not_withdraw t.0
-no_command name rows none (GetBody disk object) t = none.not_get t.0
-no_command name rows none (Export disk) t = none.not_export t.0
-no_command name rows none (Inspect disk rate) t = none.not_inspect t.0
+no_command name rows none (OnDisk disk work) t = none.not_work work t.0
 
 -- what is found, or not, for a word is that for each name that is the same
 pub named_some : (P : Type 0) (rows : List Row) (name word : Text) → name ≡ word

@@ -9,13 +9,14 @@ use Rattle.mot_cli.specs.Given.{IsGiven, NameWord, NameWords, is_set}
 use Rattle.mot_cli.specs.Options.{AreGiven, GiveDirectory, GiveGeometry, GiveLastId}
 use Rattle.mot_cli.specs.Whole.{is_whole}
 use Rattle.mot_cli.specs.declared.playing.LookRules.{LookRules}
+use Rattle.mot_cli.specs.declared.task.DiskTask.{DiskTask}
+use Rattle.mot_cli.specs.declared.task.DiskTask.TheVariants.{Serve, Check, Migrate, ListObjects}
+use Rattle.mot_cli.specs.declared.task.DiskTask.TheVariants.{GetBody, Export, Inspect}
 use Rattle.mot_cli.specs.declared.task.NoTask.{NoTask}
 use Rattle.mot_cli.specs.declared.task.NoTask.TheVariants.{Lacks, OutOfRange}
 use Rattle.mot_cli.specs.declared.task.Task.{Task}
-use Rattle.mot_cli.specs.declared.task.Task.TheVariants.{Memory, Format, Copy, Serve, Check, Migrate}
-use Rattle.mot_cli.specs.declared.task.Task.TheVariants.{Play, Sync, Export, Inspect}
-use Rattle.mot_cli.specs.declared.task.Task.TheVariants.{GetBody, ListObjects, PutFiles}
-use Rattle.mot_cli.specs.declared.task.Task.TheVariants.{WithdrawNames}
+use Rattle.mot_cli.specs.declared.task.Task.TheVariants.{Memory, Format, Copy, Play, Sync}
+use Rattle.mot_cli.specs.declared.task.Task.TheVariants.{PutFiles, WithdrawNames, OnDisk}
 use Rattle.mot_numbers.specs.declared.refusal.Refusal.{Refusal}
 use Rattle.mot_numbers.specs.declared.refusal.Refusal.TheVariants.{BadGeometry, BadNumber}
 
@@ -40,6 +41,16 @@ is_rate (Some rate) = nat_le 8 rate && nat_le rate 1824 && rate % 8 == 0
 abbrev pub GiveRate : List Row → Option ℕ → Type 0
 GiveRate rows rate = IsGiven (first_of (codes "rate") rows) rate × (is_rate rate ≡ true)
 
+-- a command of this name, with these words behind it, asks for this to be done with a disk
+abbrev pub IsWork : Text → List Row → DiskTask → Type 0
+IsWork name rows Serve = name ≡ codes "serve"
+IsWork name rows Check = name ≡ codes "check"
+IsWork name rows Migrate = name ≡ codes "migrate"
+IsWork name rows ListObjects = name ≡ codes "list"
+IsWork name rows (GetBody object) = (name ≡ codes "get") × NameWord rows (codes "NAME") object.now
+IsWork name rows Export = name ≡ codes "export"
+IsWork name rows (Inspect rate) = (name ≡ codes "inspect") × GiveRate rows rate
+
 -- a command of this name, with these words behind it, is this task
 abbrev pub IsTask : Text → List Row → Task → Type 0
 IsTask name rows (Memory geometry) = (name ≡ codes "memory") × GiveGeometry rows geometry
@@ -50,9 +61,6 @@ IsTask name rows (Copy copy) =
     (name ≡ codes "copy") × NameWord rows (codes "DISK") copy.disk.now
     × NameWord rows (codes "NEW") copy.new.now × AreGiven rows copy.sizes
     × GiveLastId rows copy.after
-IsTask name rows (Serve path) = (name ≡ codes "serve") × NameWord rows (codes "DISK") path.now
-IsTask name rows (Check path) = (name ≡ codes "check") × NameWord rows (codes "DISK") path.now
-IsTask name rows (Migrate path) = (name ≡ codes "migrate") × NameWord rows (codes "DISK") path.now
 IsTask name rows (Play p) =
     (name ≡ codes "play") × NameWord rows (codes "DISK") p.disk.now
     × NameWord rows (codes "PACKETS") p.packets.now
@@ -69,20 +77,14 @@ IsTask name rows (Sync sync) =
     (name ≡ codes "sync") × NameWord rows (codes "DISK") sync.disk.now
     × NameWord rows (codes "DIR") sync.folder.now × NameOption rows (codes "types") sync.types
     × AreRules rows sync.rules × (sync.dry_run ≡ is_set rows (codes "dry-run"))
-IsTask name rows (ListObjects disk) = (name ≡ codes "list") × NameWord rows (codes "DISK") disk.now
 IsTask name rows (PutFiles disk files types) =
     (name ≡ codes "put") × NameWord rows (codes "DISK") disk.now
     × NameWords rows (codes "FILE") files.now × NameOption rows (codes "types") types
 IsTask name rows (WithdrawNames disk names) =
     (name ≡ codes "withdraw") × NameWord rows (codes "DISK") disk.now
     × NameWords rows (codes "NAME") names.now
-IsTask name rows (GetBody disk object) =
-    (name ≡ codes "get") × NameWord rows (codes "DISK") disk.now
-    × NameWord rows (codes "NAME") object.now
-IsTask name rows (Export disk) = (name ≡ codes "export") × NameWord rows (codes "DISK") disk.now
-IsTask name rows (Inspect disk rate) =
-    (name ≡ codes "inspect") × NameWord rows (codes "DISK") disk.now
-    × GiveRate rows rate
+IsTask name rows (OnDisk disk work) =
+    IsWork name rows work × NameWord rows (codes "DISK") disk.now
 
 -- the refusal of a number that no task of a command of this name takes: of the sizes of a disk, or
 -- of another one

@@ -1,11 +1,11 @@
-//! What the commands are asked for that put, withdraw and print single objects.
+//! What the commands are asked for that put and withdraw single objects.
 ghost use Rattle.std.specs.Prelude.{IfNone, IfSome, codes};
 ghost use Rattle.clap.specs.Words.{found_of, rows_of};
 ghost use Rattle.mot_cli.specs.Given.{NameWord};
 ghost use Rattle.mot_cli.specs.Task.{IsTask};
 ghost use Rattle.mot_cli.specs.declared.task.Task.{Task};
 
-use crate::given::{option_of, word_of, words_of};
+use crate::given::{option_of, words_of};
 use crate::task::Task;
 use clap::ArgMatches;
 
@@ -35,19 +35,5 @@ pub(crate) fn withdraw_of<'m, 'a>(disk: &'a str, words: &'m ArgMatches<'a>) -> O
     Some(Task::WithdrawNames {
         disk,
         names: words_of(words, "NAME")?,
-    })
-}
-
-/// The task of the command `get` on this disk.
-pub(crate) fn get_of<'m, 'a>(disk: &'a str, words: &'m ArgMatches<'a>) -> Option<Task<'m, 'a>>
-    ensures some { IfSome result (λ task.
-        NameWord (rows_of (found_of words.now)) (codes "DISK") disk.now
-        → IsTask (codes "get") (rows_of (found_of words.now)) task) }
-    ensures none { IfNone result ((task : Task)
-        → IsTask (codes "get") (rows_of (found_of words.now)) task → ⊥) }
-{
-    Some(Task::GetBody {
-        disk,
-        name: word_of(words, "NAME")?,
     })
 }

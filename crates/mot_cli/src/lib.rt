@@ -16,4 +16,4 @@ pub use copying::CopyTask;
 pub use given::has_levels;
 pub use options::Options;
 pub use playing::{LookRules, PlayTask, SyncTask};
-pub use task::{NoTask, Task, task_of};
+pub use task::{DiskTask, NoTask, Task, task_of};

@@ -162,22 +162,8 @@ fn rules_of(words: &ArgMatches<'_>) -> LookRules
     }
 }
 
-/// The task of the command `inspect` on this disk.
-pub(crate) fn inspect_of<'m, 'a>(disk: &'a str, words: &'m ArgMatches<'a>) -> Option<Task<'m, 'a>>
-    ensures some { IfSome result (λ task.
-        NameWord (rows_of (found_of words.now)) (codes "DISK") disk.now
-        → IsTask (codes "inspect") (rows_of (found_of words.now)) task) }
-    ensures none { IfNone result ((task : Task)
-        → IsTask (codes "inspect") (rows_of (found_of words.now)) task → ⊥) }
-{
-    Some(Task::Inspect {
-        disk,
-        rate: rate_of(words)?,
-    })
-}
-
 /// The rate that is given, if one is; `None` if no sub-channel has it.
-fn rate_of(words: &ArgMatches<'_>) -> Option<Option<u32>>
+pub(crate) fn rate_of(words: &ArgMatches<'_>) -> Option<Option<u32>>
     ensures some { IfSome result (GiveRate (rows_of (found_of words.now))) }
     ensures none { IfNone result ((rate : Option ℕ)
         → GiveRate (rows_of (found_of words.now)) rate → ⊥) }

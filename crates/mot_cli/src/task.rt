@@ -2,14 +2,15 @@
 ghost use Rattle.std.specs.Prelude.{◌≢◌, IfErr, IfNone, IfOk, IfSome, codes};
 ghost use Rattle.clap.specs.Words.{found_of, rows_of};
 ghost use Rattle.mot_cli.specs.Given.{NameWord};
-ghost use Rattle.mot_cli.specs.Task.{IsTask, IsWhy};
+ghost use Rattle.mot_cli.specs.Task.{IsTask, IsWhy, IsWork};
+ghost use Rattle.mot_cli.specs.declared.task.DiskTask.{DiskTask};
 ghost use Rattle.mot_cli.specs.declared.task.Task.{Task};
 
-use crate::by_hand::{get_of, put_of, withdraw_of};
+use crate::by_hand::{put_of, withdraw_of};
 use crate::copying::{CopyTask, copy_of};
 use crate::given::word_of;
 use crate::options::{directory_of, geometry_of};
-use crate::playing::{PlayTask, SyncTask, inspect_of, play_of, sync_of};
+use crate::playing::{PlayTask, SyncTask, play_of, rate_of, sync_of};
 use crate::whole::{is_whole, missing_option};
 use clap::ArgMatches;
 use mot_numbers::{Geometry, Refusal, TransportId};
@@ -30,18 +31,10 @@ pub enum Task<'m, 'a> {
     },
     /// Make a copy of a disk.
     Copy(CopyTask<'a>),
-    /// Serve the disk of the file at this path.
-    Serve(&'a str),
-    /// Tell what the disk of the file at this path keeps.
-    Check(&'a str),
-    /// Rewrite the disk of the file at this path into layout 2.
-    Migrate(&'a str),
     /// Play a disk.
     Play(PlayTask<'a>),
     /// Make the carousel of a disk equal to a folder, or print what that would do.
     Sync(SyncTask<'a>),
-    /// Print the objects of the disk of the file at this path.
-    ListObjects(&'a str),
     /// Put files, or replace the objects of their names.
     PutFiles {
         /// The path of the disk's file.
@@ -58,22 +51,33 @@ pub enum Task<'m, 'a> {
         /// The names of the objects.
         names: &'m [&'a str],
     },
-    /// Print the body of an object.
-    GetBody {
+    /// Open a disk, and use it alone.
+    OnDisk {
         /// The path of the disk's file.
         disk: &'a str,
-        /// The name of the object.
-        name: &'a str,
+        /// What is done with it.
+        work: DiskTask<'a>,
     },
-    /// Print the carousel of the disk of the file at this path.
-    Export(&'a str),
-    /// Print the sizes of a disk.
-    Inspect {
-        /// The path of the disk's file.
-        disk: &'a str,
-        /// The rate in kbit/s at which its turn is timed; if none is given, the usual ones.
-        rate: Option<u32>,
-    },
+}
+
+/// What the program is to do with a disk.
+#[derive(Clone, Copy)]
+pub enum DiskTask<'a> {
+    /// Serve it.
+    Serve,
+    /// Tell what it keeps.
+    Check,
+    /// Rewrite it into layout 2.
+    Migrate,
+    /// Print its objects.
+    ListObjects,
+    /// Print the body of the object of this name.
+    GetBody(&'a str),
+    /// Print its carousel.
+    Export,
+    /// Print its sizes, with its turn timed at this rate in kbit/s; if none is given, at the usual
+    /// ones.
+    Inspect(Option<u32>),
 }
 
 /// Why words ask for no task.
@@ -135,17 +139,31 @@ fn disk_task<'m, 'a>(name: &str, disk: &'a str, words: &'m ArgMatches<'a>) -> Op
     match name {
         "format" => format_of(disk, words),
         "copy" => copy_of(disk, words),
-        "serve" => Some(Task::Serve(disk)),
-        "check" => Some(Task::Check(disk)),
-        "migrate" => Some(Task::Migrate(disk)),
         "play" => play_of(disk, words),
         "sync" => sync_of(disk, words),
-        "list" => Some(Task::ListObjects(disk)),
         "put" => put_of(disk, words),
         "withdraw" => withdraw_of(disk, words),
-        "get" => get_of(disk, words),
-        "export" => Some(Task::Export(disk)),
-        "inspect" => inspect_of(disk, words),
+        _ => Some(Task::OnDisk {
+            disk,
+            work: work_of(name, words)?,
+        }),
+    }
+}
+
+/// What the command of this name, and the words after it, ask to be done with a disk.
+fn work_of<'a>(name: &str, words: &ArgMatches<'a>) -> Option<DiskTask<'a>>
+    ensures some { IfSome result (IsWork name.now (rows_of (found_of words.now))) }
+    ensures none { IfNone result ((work : DiskTask)
+        → IsWork name.now (rows_of (found_of words.now)) work → ⊥) }
+{
+    match name {
+        "serve" => Some(DiskTask::Serve),
+        "check" => Some(DiskTask::Check),
+        "migrate" => Some(DiskTask::Migrate),
+        "list" => Some(DiskTask::ListObjects),
+        "get" => Some(DiskTask::GetBody(word_of(words, "NAME")?)),
+        "export" => Some(DiskTask::Export),
+        "inspect" => Some(DiskTask::Inspect(rate_of(words)?)),
         _ => None,
     }
 }
