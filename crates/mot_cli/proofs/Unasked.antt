@@ -1,10 +1,11 @@
 -- Words that give no geometry, and ask for no task.
 use Rattle.std.proofs.Common.{◌≡◌, ◌∙◌, ℕ, List, Option, Some, None, arith, ap, refl, sym}
 use Rattle.std.proofs.Common.{◌≢◌, slice_index, subst}
-use Rattle.std.specs.Prelude.{Bool, true, false, ◌||◌, IfNone, IfSome, bytes_eq, codes}
+use Rattle.std.specs.Prelude.{Bool, true, false, ◌||◌, bytes_eq, codes}
 use Rattle.clap.specs.Words.{Row, Text}
 use Rattle.mot_numbers.specs.declared.geometry.Geometry.{Geometry}
 use Rattle.mot_cli.specs.Given.{IsGiven}
+use Rattle.mot_cli.specs.Inner.Found.{Finds}
 use Rattle.mot_cli.specs.Options.{AreGiven, GiveDirectory, GiveGeometry, GiveLastId}
 use Rattle.mot_cli.specs.Options.{geometry_asked, geometry_over}
 use Rattle.mot_cli.specs.Task.{IsTask, IsWork}
@@ -17,10 +18,10 @@ use Rattle.mot_cli.specs.declared.task.DiskTask.TheVariants.{GetBody, Export, In
 use Rattle.mot_cli.specs.declared.task.Task.TheVariants.{Memory, Format, Copy, Play, Sync}
 use Rattle.mot_cli.specs.declared.task.Task.TheVariants.{PutFiles, WithdrawNames, OnDisk}
 
--- what holds anyhow holds where there is nothing
-pub IfNone-always : {T P : Type 0} (o : Option T) → P → IfNone o P
-IfNone-always None p = p
-IfNone-always (Some x) p = tt
+-- nothing was found where nothing has P
+pub none_found : {T : Type 0} (P : T → Type 0) (found : Option T) → found ≡ None
+    → ((x : T) → P x → ⊥) → Finds P found
+none_found P found is none = rw is none
 
 -- texts that differ in a byte are not the same
 clash : (i m n : ℕ) (a b : Text) → slice_index a i ≡ m → slice_index b i ≡ n → m ≢ n → a ≡ b → ⊥
@@ -65,8 +66,8 @@ geometry_same rows o p a b =
 
 -- options that make no geometry are words that give none
 pub no_geometry : (rows : List Row) (o : Options) → AreGiven rows o → (made : Option Geometry)
-    → made ≡ geometry_asked o → IfNone made ((g : Geometry) → GiveGeometry rows g → ⊥)
-no_geometry rows o a (Some g) is = tt
+    → made ≡ geometry_asked o → Finds (GiveGeometry rows) made
+no_geometry rows o a (Some g) is = (o, a, sym is)
 no_geometry rows o a None is = λ g gives. let same = geometry_same rows o gives.0 a gives.1 in
     let none : None ≡ Some g = is ∙ same ∙ gives.2 in absurd (cc)
 
@@ -147,40 +148,7 @@ module _ (rows : List Row) (none : (p : PlayTask) → IsTask (codes "play") rows
       clash 0 112 119 (codes "play") (codes "withdraw") refl refl (omega arith) t.0
   play_needs (OnDisk disk work) t = elsewhere (codes "play") rows work refl t.0
 
--- the name of no command
-pub record IsNoCommand (name : Text) (rows : List Row) : Type 0 where
-  pub not_memory : name ≢ codes "memory"
-  pub not_format : name ≢ codes "format"
-  pub not_copy : name ≢ codes "copy"
-  pub not_play : name ≢ codes "play"
-  pub not_sync : name ≢ codes "sync"
-  pub not_put : name ≢ codes "put"
-  pub not_withdraw : name ≢ codes "withdraw"
-  pub not_work : (work : DiskTask) → IsWork name rows work → ⊥
-
--- such a name asks for no task
-pub no_command : (name : Text) (rows : List Row) → IsNoCommand name rows → (task : Task)
-    → IsTask name rows task → ⊥
-no_command name rows none (Memory g) t = none.not_memory t.0
-no_command name rows none (Format path g directory) t = none.not_format t.0
-no_command name rows none (Copy copy) t = none.not_copy t.0
-no_command name rows none (Play p) t = none.not_play t.0
-no_command name rows none (Sync sync) t = none.not_sync t.0
-no_command name rows none (PutFiles disk files types) t = none.not_put t.0
-no_command name rows none (WithdrawNames disk names) t = none.not_withdraw t.0
-no_command name rows none (OnDisk disk work) t = none.not_work work t.0
-
--- what is found, or not, for a word is that for each name that is the same
-pub named_some : (P : Type 0) (rows : List Row) (name word : Text) → name ≡ word
-    → (found : Option Task) → IfSome found (λ task. P → IsTask word rows task)
-    → IfSome found (λ task. P → IsTask name rows task)
-named_some P rows name word is None h = tt
-named_some P rows name word is (Some task) h =
-    λ p. subst (λ (n : Text). IsTask n rows task) (sym is) (h p)
-
-pub named_none : (P : Type 0) (rows : List Row) (name word : Text) → name ≡ word
-    → (found : Option Task) → IfNone found ((task : Task) → IsTask word rows task → ⊥)
-    → IfNone found ((task : Task) → P → IsTask name rows task → ⊥)
-named_none P rows name word is None h =
-    λ task p t. h task (subst (λ (n : Text). IsTask n rows task) is t)
-named_none P rows name word is (Some task) h = tt
+-- what is found for a word is that for each name that is the same
+pub named_so : (rows : List Row) (name word : Text) → name ≡ word → (found : Option Task)
+    → Finds (IsTask word rows) found → Finds (IsTask name rows) found
+named_so rows name word is found h = subst (λ (n : Text). Finds (IsTask n rows) found) (sym is) h

@@ -1,9 +1,10 @@
 //! What the commands are asked for that put and withdraw single objects.
-ghost use Rattle.std.specs.Prelude.{IfNone, IfSome, codes};
+ghost use Rattle.std.specs.Prelude.{codes};
 ghost use Rattle.clap.specs.Words.{found_of, rows_of};
 ghost use Rattle.mot_cli.specs.Given.{NameWord};
 ghost use Rattle.mot_cli.specs.Task.{IsTask};
 ghost use Rattle.mot_cli.specs.declared.task.Task.{Task};
+ghost use Rattle.mot_cli.specs.Inner.Found.{Finds};
 
 use crate::given::{option_of, words_of};
 use crate::task::Task;
@@ -11,11 +12,8 @@ use clap::ArgMatches;
 
 /// The task of the command `put` on this disk.
 pub(crate) fn put_of<'m, 'a>(disk: &'a str, words: &'m ArgMatches<'a>) -> Option<Task<'m, 'a>>
-    ensures some { IfSome result (λ task.
-        NameWord (rows_of (found_of words.now)) (codes "DISK") disk.now
-        → IsTask (codes "put") (rows_of (found_of words.now)) task) }
-    ensures none { IfNone result ((task : Task)
-        → IsTask (codes "put") (rows_of (found_of words.now)) task → ⊥) }
+    ensures { NameWord (rows_of (found_of words.now)) (codes "DISK") disk.now
+        → Finds (IsTask (codes "put") (rows_of (found_of words.now))) result }
 {
     Some(Task::PutFiles {
         disk,
@@ -26,11 +24,8 @@ pub(crate) fn put_of<'m, 'a>(disk: &'a str, words: &'m ArgMatches<'a>) -> Option
 
 /// The task of the command `withdraw` on this disk.
 pub(crate) fn withdraw_of<'m, 'a>(disk: &'a str, words: &'m ArgMatches<'a>) -> Option<Task<'m, 'a>>
-    ensures some { IfSome result (λ task.
-        NameWord (rows_of (found_of words.now)) (codes "DISK") disk.now
-        → IsTask (codes "withdraw") (rows_of (found_of words.now)) task) }
-    ensures none { IfNone result ((task : Task)
-        → IsTask (codes "withdraw") (rows_of (found_of words.now)) task → ⊥) }
+    ensures { NameWord (rows_of (found_of words.now)) (codes "DISK") disk.now
+        → Finds (IsTask (codes "withdraw") (rows_of (found_of words.now))) result }
 {
     Some(Task::WithdrawNames {
         disk,

@@ -1,9 +1,10 @@
 //! What the command `copy` is asked for.
-ghost use Rattle.std.specs.Prelude.{IfNone, IfSome, codes};
+ghost use Rattle.std.specs.Prelude.{codes};
 ghost use Rattle.clap.specs.Words.{found_of, rows_of};
 ghost use Rattle.mot_cli.specs.Given.{NameWord};
 ghost use Rattle.mot_cli.specs.Task.{IsTask};
 ghost use Rattle.mot_cli.specs.declared.task.Task.{Task};
+ghost use Rattle.mot_cli.specs.Inner.Found.{Finds};
 
 use crate::given::word_of;
 use crate::options::{Options, last_id_of, options_of};
@@ -26,11 +27,8 @@ pub struct CopyTask<'a> {
 
 /// The task of the command `copy` on this disk.
 pub(crate) fn copy_of<'m, 'a>(disk: &'a str, words: &'m ArgMatches<'a>) -> Option<Task<'m, 'a>>
-    ensures some { IfSome result (λ task.
-        NameWord (rows_of (found_of words.now)) (codes "DISK") disk.now
-        → IsTask (codes "copy") (rows_of (found_of words.now)) task) }
-    ensures none { IfNone result ((task : Task)
-        → IsTask (codes "copy") (rows_of (found_of words.now)) task → ⊥) }
+    ensures { NameWord (rows_of (found_of words.now)) (codes "DISK") disk.now
+        → Finds (IsTask (codes "copy") (rows_of (found_of words.now))) result }
 {
     Some(Task::Copy(CopyTask {
         disk,

@@ -1,18 +1,16 @@
 //! The words and numbers that were given.
-ghost use Rattle.std.specs.Prelude.{◌≡◌, ℕ, List, Option, IfNone, IfSome, codes, map, option_map};
+ghost use Rattle.std.specs.Prelude.{◌≡◌, codes, map, option_map};
 ghost use Rattle.std.specs.Borrow.{Bor};
 ghost use Rattle.clap.specs.Words.{Text, first_of, found_of, rows_of};
 ghost use Rattle.mot_cli.specs.Given.{IsGiven, NameWord, NameWords, is_set};
+ghost use Rattle.mot_cli.specs.Inner.Found.{Finds};
 
 use clap::ArgMatches;
 
 /// The word that was given for this one.
 #[tactic(auto, using(crate::proofs::Values::first_found))]
 pub(crate) fn word_of<'a>(words: &ArgMatches<'a>, name: &str) -> Option<&'a str>
-    ensures some { IfSome result
-        (λ word. NameWord (rows_of (found_of words.now)) name.now word.now) }
-    ensures none { IfNone result ((word : Text)
-        → NameWord (rows_of (found_of words.now)) name.now word → ⊥) }
+    ensures { Finds (λ word. NameWord (rows_of (found_of words.now)) name.now word.now) result }
 {
     words.get_str(name)
 }
@@ -20,10 +18,7 @@ pub(crate) fn word_of<'a>(words: &ArgMatches<'a>, name: &str) -> Option<&'a str>
 /// The words that were given for this one.
 #[tactic(auto, using(crate::proofs::Values::all_found))]
 pub(crate) fn words_of<'m, 'a>(words: &'m ArgMatches<'a>, name: &str) -> Option<&'m [&'a str]>
-    ensures some { IfSome result (λ given.
-        NameWords (rows_of (found_of words.now)) name.now given.now) }
-    ensures none { IfNone result ((given : List (Bor Text))
-        → NameWords (rows_of (found_of words.now)) name.now given → ⊥) }
+    ensures { Finds (λ given. NameWords (rows_of (found_of words.now)) name.now given.now) result }
 {
     words.get_strs(name)
 }
@@ -31,9 +26,7 @@ pub(crate) fn words_of<'m, 'a>(words: &'m ArgMatches<'a>, name: &str) -> Option<
 /// The number of an option, if it was given; `None` if it is not a number.
 #[tactic(auto, using(crate::proofs::Values::first_found))]
 pub(crate) fn number_of(words: &ArgMatches<'_>, name: &str) -> Option<Option<u32>>
-    ensures some { IfSome result (IsGiven (first_of name.now (rows_of (found_of words.now)))) }
-    ensures none { IfNone result ((number : Option ℕ)
-        → IsGiven (first_of name.now (rows_of (found_of words.now))) number → ⊥) }
+    ensures { Finds (IsGiven (first_of name.now (rows_of (found_of words.now)))) result }
 {
     match words.get_str(name) {
         Some(text) => match text.parse::<u32>() {

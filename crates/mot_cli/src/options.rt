@@ -1,10 +1,11 @@
 //! The numbers of the command line.
-ghost use Rattle.std.specs.Prelude.{ℕ, ◌≡◌, Option, IfNone, IfSome};
+ghost use Rattle.std.specs.Prelude.{◌≡◌};
 ghost use Rattle.clap.specs.Words.{found_of, rows_of};
 ghost use Rattle.mot_numbers.specs.declared.geometry.Geometry.{Geometry};
 ghost use Rattle.mot_cli.specs.Options.{AreGiven, GiveDirectory, GiveGeometry, GiveLastId, field_in};
 ghost use Rattle.mot_cli.specs.Options.{last_id};
 ghost use Rattle.mot_cli.specs.declared.options.Options.{Options};
+ghost use Rattle.mot_cli.specs.Inner.Found.{Finds};
 
 use crate::given::number_of;
 use clap::ArgMatches;
@@ -63,9 +64,7 @@ fn field(number: Option<u32>, default: u16) -> Option<u16>
 
 /// The geometry that the words give; `None` if a number does not fit its field.
 pub(crate) fn geometry_of(matches: &ArgMatches<'_>) -> Option<Geometry>
-    ensures some { IfSome result (GiveGeometry (rows_of (found_of matches.now))) }
-    ensures none { IfNone result ((geometry : Geometry)
-        → GiveGeometry (rows_of (found_of matches.now)) geometry → ⊥) }
+    ensures { Finds (GiveGeometry (rows_of (found_of matches.now))) result }
 {
     options_of(matches)?.geometry()
 }
@@ -73,9 +72,7 @@ pub(crate) fn geometry_of(matches: &ArgMatches<'_>) -> Option<Geometry>
 /// The transport id of a new disk's directory: the one after the id that the words give, or else
 /// the first; `None` if the word is not a number, or fits no id.
 pub(crate) fn directory_of(matches: &ArgMatches<'_>) -> Option<TransportId>
-    ensures some { IfSome result (GiveDirectory (rows_of (found_of matches.now))) }
-    ensures none { IfNone result ((directory : ℕ)
-        → GiveDirectory (rows_of (found_of matches.now)) directory → ⊥) }
+    ensures { Finds (GiveDirectory (rows_of (found_of matches.now))) result }
 {
     let after = field(number_of(matches, "after")?, 0)?;
     // After the last id comes the first.
@@ -85,9 +82,7 @@ pub(crate) fn directory_of(matches: &ArgMatches<'_>) -> Option<TransportId>
 /// The transport id after which those of a copy go on, if the words give one; `None` if the word is
 /// not a number, or fits no id.
 pub(crate) fn last_id_of(matches: &ArgMatches<'_>) -> Option<Option<TransportId>>
-    ensures some { IfSome result (GiveLastId (rows_of (found_of matches.now))) }
-    ensures none { IfNone result ((after : Option ℕ)
-        → GiveLastId (rows_of (found_of matches.now)) after → ⊥) }
+    ensures { Finds (GiveLastId (rows_of (found_of matches.now))) result }
 {
     last_id(number_of(matches, "after")?)
 }
@@ -105,9 +100,7 @@ fn last_id(number: Option<u32>) -> Option<Option<TransportId>>
 
 /// The numbers of the options that were given; `None` if a word is not a number.
 pub(crate) fn options_of(matches: &ArgMatches<'_>) -> Option<Options>
-    ensures some { IfSome result (AreGiven (rows_of (found_of matches.now))) }
-    ensures none { IfNone result ((options : Options)
-        → AreGiven (rows_of (found_of matches.now)) options → ⊥) }
+    ensures { Finds (AreGiven (rows_of (found_of matches.now))) result }
 {
     Some(Options {
         objects: number_of(matches, "objects")?,

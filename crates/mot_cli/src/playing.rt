@@ -1,11 +1,12 @@
 //! What the commands on air are asked for.
-ghost use Rattle.std.specs.Prelude.{◌≡◌, ℕ, IfNone, IfSome, Option, codes};
+ghost use Rattle.std.specs.Prelude.{◌≡◌, codes};
 ghost use Rattle.clap.specs.Words.{found_of, rows_of};
 ghost use Rattle.mot_cli.specs.Given.{NameWord};
 ghost use Rattle.mot_cli.specs.Inner.Played.{ArePlayNumbers};
 ghost use Rattle.mot_cli.specs.Task.{AreRules, GiveRate, IsTask, is_rate};
 ghost use Rattle.mot_cli.specs.declared.playing.PlayNumbers.{PlayNumbers};
 ghost use Rattle.mot_cli.specs.declared.task.Task.{Task};
+ghost use Rattle.mot_cli.specs.Inner.Found.{Finds};
 
 use crate::given::{is_set, number_of, option_of, word_of};
 use crate::task::Task;
@@ -90,11 +91,8 @@ struct PlayNumbers {
 
 /// The task of the command `play` on this disk.
 pub(crate) fn play_of<'m, 'a>(disk: &'a str, words: &'m ArgMatches<'a>) -> Option<Task<'m, 'a>>
-    ensures some { IfSome result (λ task.
-        NameWord (rows_of (found_of words.now)) (codes "DISK") disk.now
-        → IsTask (codes "play") (rows_of (found_of words.now)) task) }
-    ensures none { IfNone result ((task : Task)
-        → IsTask (codes "play") (rows_of (found_of words.now)) task → ⊥) }
+    ensures { NameWord (rows_of (found_of words.now)) (codes "DISK") disk.now
+        → Finds (IsTask (codes "play") (rows_of (found_of words.now))) result }
 {
     if !is_whole(words) {
         return None;
@@ -122,9 +120,7 @@ pub(crate) fn play_of<'m, 'a>(disk: &'a str, words: &'m ArgMatches<'a>) -> Optio
 
 /// The numbers that `play` is given; `None` if a word is not a number.
 fn numbers_of(words: &ArgMatches<'_>) -> Option<PlayNumbers>
-    ensures some { IfSome result (ArePlayNumbers (rows_of (found_of words.now))) }
-    ensures none { IfNone result ((numbers : PlayNumbers)
-        → ArePlayNumbers (rows_of (found_of words.now)) numbers → ⊥) }
+    ensures { Finds (ArePlayNumbers (rows_of (found_of words.now))) result }
 {
     Some(PlayNumbers {
         every: number_of(words, "every")?,
@@ -137,11 +133,8 @@ fn numbers_of(words: &ArgMatches<'_>) -> Option<PlayNumbers>
 
 /// The task of the command `sync` on this disk.
 pub(crate) fn sync_of<'m, 'a>(disk: &'a str, words: &'m ArgMatches<'a>) -> Option<Task<'m, 'a>>
-    ensures some { IfSome result (λ task.
-        NameWord (rows_of (found_of words.now)) (codes "DISK") disk.now
-        → IsTask (codes "sync") (rows_of (found_of words.now)) task) }
-    ensures none { IfNone result ((task : Task)
-        → IsTask (codes "sync") (rows_of (found_of words.now)) task → ⊥) }
+    ensures { NameWord (rows_of (found_of words.now)) (codes "DISK") disk.now
+        → Finds (IsTask (codes "sync") (rows_of (found_of words.now))) result }
 {
     Some(Task::Sync(SyncTask {
         disk,
@@ -164,9 +157,7 @@ fn rules_of(words: &ArgMatches<'_>) -> LookRules
 
 /// The rate that is given, if one is; `None` if no sub-channel has it.
 pub(crate) fn rate_of(words: &ArgMatches<'_>) -> Option<Option<u32>>
-    ensures some { IfSome result (GiveRate (rows_of (found_of words.now))) }
-    ensures none { IfNone result ((rate : Option ℕ)
-        → GiveRate (rows_of (found_of words.now)) rate → ⊥) }
+    ensures { Finds (GiveRate (rows_of (found_of words.now))) result }
 {
     let rate = number_of(words, "rate")?;
     if is_rate(rate) { Some(rate) } else { None }

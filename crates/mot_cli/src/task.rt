@@ -1,10 +1,11 @@
 //! What the words of the command line ask for.
-ghost use Rattle.std.specs.Prelude.{◌≢◌, IfErr, IfNone, IfOk, IfSome, codes};
+ghost use Rattle.std.specs.Prelude.{◌≢◌, IfErr, IfOk, codes};
 ghost use Rattle.clap.specs.Words.{found_of, rows_of};
 ghost use Rattle.mot_cli.specs.Given.{NameWord};
 ghost use Rattle.mot_cli.specs.Task.{IsTask, IsWhy, IsWork};
 ghost use Rattle.mot_cli.specs.declared.task.DiskTask.{DiskTask};
 ghost use Rattle.mot_cli.specs.declared.task.Task.{Task};
+ghost use Rattle.mot_cli.specs.Inner.Found.{Finds};
 
 use crate::by_hand::{put_of, withdraw_of};
 use crate::copying::{CopyTask, copy_of};
@@ -118,9 +119,7 @@ fn why_none(name: &str, words: &ArgMatches<'_>) -> NoTask
 
 /// The task of a command and the words after it, if they ask for one.
 fn asked_of<'m, 'a>(name: &str, words: &'m ArgMatches<'a>) -> Option<Task<'m, 'a>>
-    ensures some { IfSome result (IsTask name.now (rows_of (found_of words.now))) }
-    ensures none { IfNone result ((task : Task)
-        → IsTask name.now (rows_of (found_of words.now)) task → ⊥) }
+    ensures { Finds (IsTask name.now (rows_of (found_of words.now))) result }
 {
     match name {
         "memory" => Some(Task::Memory(geometry_of(words)?)),
@@ -130,11 +129,9 @@ fn asked_of<'m, 'a>(name: &str, words: &'m ArgMatches<'a>) -> Option<Task<'m, 'a
 
 /// The task of a command on this disk.
 fn disk_task<'m, 'a>(name: &str, disk: &'a str, words: &'m ArgMatches<'a>) -> Option<Task<'m, 'a>>
-    ensures some { IfSome result (λ task.
-        NameWord (rows_of (found_of words.now)) (codes "DISK") disk.now
-        → IsTask name.now (rows_of (found_of words.now)) task) }
-    ensures none { IfNone result ((task : Task) → name.now ≢ codes "memory"
-        → IsTask name.now (rows_of (found_of words.now)) task → ⊥) }
+    ensures { name.now ≢ codes "memory"
+        → NameWord (rows_of (found_of words.now)) (codes "DISK") disk.now
+        → Finds (IsTask name.now (rows_of (found_of words.now))) result }
 {
     match name {
         "format" => format_of(disk, words),
@@ -152,9 +149,7 @@ fn disk_task<'m, 'a>(name: &str, disk: &'a str, words: &'m ArgMatches<'a>) -> Op
 
 /// What the command of this name, and the words after it, ask to be done with a disk.
 fn work_of<'a>(name: &str, words: &ArgMatches<'a>) -> Option<DiskTask<'a>>
-    ensures some { IfSome result (IsWork name.now (rows_of (found_of words.now))) }
-    ensures none { IfNone result ((work : DiskTask)
-        → IsWork name.now (rows_of (found_of words.now)) work → ⊥) }
+    ensures { Finds (IsWork name.now (rows_of (found_of words.now))) result }
 {
     match name {
         "serve" => Some(DiskTask::Serve),
@@ -170,11 +165,8 @@ fn work_of<'a>(name: &str, words: &ArgMatches<'a>) -> Option<DiskTask<'a>>
 
 /// The task of the command `format` on this disk.
 fn format_of<'m, 'a>(path: &'a str, words: &'m ArgMatches<'a>) -> Option<Task<'m, 'a>>
-    ensures some { IfSome result (λ task.
-        NameWord (rows_of (found_of words.now)) (codes "DISK") path.now
-        → IsTask (codes "format") (rows_of (found_of words.now)) task) }
-    ensures none { IfNone result ((task : Task)
-        → IsTask (codes "format") (rows_of (found_of words.now)) task → ⊥) }
+    ensures { NameWord (rows_of (found_of words.now)) (codes "DISK") path.now
+        → Finds (IsTask (codes "format") (rows_of (found_of words.now))) result }
 {
     Some(Task::Format {
         path,

@@ -1,26 +1,31 @@
 use Rattle.std.proofs.Common.{◌≡◌, ◌∙◌, false, true}
+use Rattle.std.specs.Prelude.{codes}
 use Rattle.clap.specs.Words.{found_of, rows_of}
-use Rattle.mot_cli.proofs.Unasked.{IfNone-always, play_needs}
+use Rattle.mot_cli.proofs.Unasked.{none_found, play_needs}
 use Rattle.mot_cli.proofs.playing.play_of.Goals as goal
+use Rattle.mot_cli.specs.Task.{IsTask}
 
-pub returns-then-not-is_whole-clause-none : goal.returns-then-not-is_whole-clause-none
-returns-then-not-is_whole-clause-none c = play_needs (rows_of (found_of c.args.words.now))
+pub returns-then-not-is_whole : goal.returns-then-not-is_whole
+returns-then-not-is_whole c = λ named. play_needs (rows_of (found_of c.args.words.now))
     (λ p t. let no : false ≡ true = c.if-not-is_whole.ensures ∙ t.15 in absurd (cc))
 
-pub returns-in_err-rate-clause-none : goal.returns-in_err-rate-clause-none
-returns-in_err-rate-clause-none c = IfNone-always c.from_residual.result
+pub returns-in_err-rate : goal.returns-in_err-rate
+returns-in_err-rate c = λ named.
+    none_found (IsTask (codes "play") (rows_of (found_of c.args.words.now))) c.from_residual.result c.from_residual.ensures
     (play_needs (rows_of (found_of c.args.words.now))
-    (λ p t. c.in_err-rate.ensures.none p.rate t.12))
+    (λ p t. c.in_err-rate.ensures p.rate t.12))
 
-pub returns-in_err-packets-clause-none : goal.returns-in_err-packets-clause-none
-returns-in_err-packets-clause-none c = IfNone-always c.from_residual-in_err-packets.result
+pub returns-in_err-packets : goal.returns-in_err-packets
+returns-in_err-packets c = λ named.
+    none_found (IsTask (codes "play") (rows_of (found_of c.args.words.now))) c.from_residual-in_err-packets.result c.from_residual-in_err-packets.ensures
     (play_needs (rows_of (found_of c.args.words.now))
-    (λ p t. c.in_err-packets.ensures.none p.packets.now t.2))
+    (λ p t. c.in_err-packets.ensures p.packets t.2))
 
-pub returns-in_err-numbers-clause-none : goal.returns-in_err-numbers-clause-none
-returns-in_err-numbers-clause-none c = IfNone-always c.from_residual-in_err-numbers.result
+pub returns-in_err-numbers : goal.returns-in_err-numbers
+returns-in_err-numbers c = λ named.
+    none_found (IsTask (codes "play") (rows_of (found_of c.args.words.now))) c.from_residual-in_err-numbers.result c.from_residual-in_err-numbers.ensures
     (play_needs (rows_of (found_of c.args.words.now))
-    (λ p t. c.in_err-numbers.ensures.none
+    (λ p t. c.in_err-numbers.ensures
     (record {
       every = p.every;
       turns = p.turns;
