@@ -4,6 +4,10 @@ use Rattle.disk_model.specs.Disk.{State}
 use Rattle.mot_lines.specs.Lines.{lines_of, whole_lines}
 use Rattle.mot_numbers.specs.declared.refusal.Refusal.{Refusal}
 use Rattle.mot_numbers.specs.declared.refusal.Refusal.TheVariants.{ReadFault, WriteFault}
+use Rattle.mot_cli.specs.declared.task.DiskTask.{DiskTask}
+use Rattle.mot_cli.specs.declared.task.DiskTask.TheVariants.{Serve, Check, Migrate, ListObjects}
+use Rattle.mot_cli.specs.declared.task.DiskTask.TheVariants.{GetBody, Export, Inspect}
+use Rattle.mot_commands.specs.Commands.{Does}
 use Rattle.mot_commands.specs.Serving.{OpensFor, OpensTo, Serves, ServesTill}
 use Rattle.mot_commands.specs.Serving.OpensFor.{opened, unopened}
 use Rattle.mot_playout.specs.Server.{ServerView}
@@ -55,3 +59,15 @@ module _ {D E : Type 0} (of : D → E) (state : E → State) (disk : D) (start :
         → Serves state (of disk) ending was is old new start
     serves-on ending = opens_for-on ending _ _ _
         (λ first last served. (served.0, served.1, till-on ending served.0 first last served.2))
+
+    -- a task ended so
+    pub does-on : (ending : Option Refusal) (work : DiskTask)
+        → Does state_on disk work ending was is old new start
+        → Does state (of disk) work ending was is old new start
+    does-on ending Serve does = serves-on ending does
+    does-on ending Check does = does
+    does-on ending Migrate does = does
+    does-on ending ListObjects does = does
+    does-on ending (GetBody name) does = does
+    does-on ending Export does = does
+    does-on ending (Inspect rate) does = does

@@ -1,12 +1,17 @@
 -- What the commands that serve, make, check and migrate a disk do.
 use Rattle.std.specs.Prelude.{ℕ, ◌≡◌, ◌≢◌, ◌⊎◌, Bool, true, List, [], ◌∷◌, ◌++◌, Option, Some}
 use Rattle.std.specs.Prelude.{Result, false}
+use Rattle.std.specs.Io.KnownBytes.{Keeps}
 use Rattle.clap.specs.Words.{Text}
+use Rattle.disk_model.specs.Disk.{State}
 use Rattle.disk_store.specs.Beginning.{HasFirstCalls, SinceMade, SinceOpened}
 use Rattle.disk_store.specs.File.{file_state}
 use Rattle.disk_store.specs.Ram.{ram_state}
 use Rattle.disk_store.specs.declared.file.start.Start.{Ghosts}
 use Rattle.disk_store.specs.declared.memory.ram.RamDisk.{RamDisk}
+use Rattle.mot_cli.specs.declared.task.DiskTask.{DiskTask}
+use Rattle.mot_cli.specs.declared.task.DiskTask.TheVariants.{Serve, Check, Migrate, ListObjects}
+use Rattle.mot_cli.specs.declared.task.DiskTask.TheVariants.{GetBody, Export, Inspect}
 use Rattle.mot_devices.specs.Looking.{OnlyLooks}
 use Rattle.mot_devices.specs.Uses.{IsFree, IsUsed}
 use Rattle.mot_devices.specs.declared.device_use.DeviceUse.{DeviceUse}
@@ -23,7 +28,7 @@ use Rattle.mot_numbers.specs.declared.geometry.Geometry.{Geometry}
 use Rattle.mot_numbers.specs.declared.refusal.Refusal.{Refusal}
 use Rattle.mot_numbers.specs.declared.refusal.Refusal.TheVariants.{BadGeometry, DeviceFault}
 use Rattle.mot_numbers.specs.declared.refusal.Refusal.TheVariants.{OutOfMemory}
-use Rattle.mot_outcome.specs.Outcome.{IsUntouched, OnFile, OnOpened}
+use Rattle.mot_outcome.specs.Outcome.{IsUntouched, OnFile}
 use Rattle.mot_outcome.specs.declared.used.UsedDisk.{UsedDisk}
 use Rattle.mot_outcome.specs.declared.used.UsedDisk.TheVariants.{InMemory}
 
@@ -50,6 +55,25 @@ IsUnmade g r = (r ≡ OutOfMemory) ⊎ IsBadGeometry g r
 abbrev pub IsUnformatted : Geometry → Refusal → Type 0
 IsUnformatted g r = (r ≡ DeviceFault) ⊎ IsBadGeometry g r
 
+-- This was done with a disk that was in a state start, up to this ending. Lines are read to serve
+-- them alone.
+abbrev pub Does : {D : Type 0} (state : D → State) (disk : D) → DiskTask → Option Refusal
+    → (unread left old new : Option (List ℕ)) → (start : State) → Type 0
+Does state disk Serve ending unread left old new start =
+    Serves state disk ending unread left old new start
+Does state disk Check ending unread left old new start =
+    Keeps unread left × Checks ending old new start (state disk)
+Does state disk Migrate ending unread left old new start =
+    Keeps unread left × Migrates ending old new start (state disk)
+Does state disk ListObjects ending unread left old new start =
+    Keeps unread left × Lists ending old new start (state disk)
+Does state disk (GetBody name) ending unread left old new start =
+    Keeps unread left × Gets name.now ending old new start (state disk)
+Does state disk Export ending unread left old new start =
+    Keeps unread left × Exports ending old new start (state disk)
+Does state disk (Inspect rate) ending unread left old new start =
+    Keeps unread left × Inspects rate ending old new start (state disk)
+
 module _ {S F : Type 0} {start : Ghosts S F} where
   -- a disk was made in memory, and served
   abbrev pub ServesMemory : Geometry → Option Refusal → UsedDisk S F start
@@ -65,35 +89,11 @@ module _ {S F : Type 0} {start : Ghosts S F} where
       IsValid g × (SinceOpened (Formats g directory ending old new) disk
       ⊎ SinceMade (length_of g) (Formats g directory ending old new) disk)) used
 
-  -- a file was opened, and its disk served, told, or migrated
-  abbrev pub ServesFile : Option Refusal → UsedDisk S F start
+  -- a file was opened, and this done with its disk
+  abbrev pub DoesOnFile : DiskTask → Option Refusal → UsedDisk S F start
       → (unread left old new : Option (List ℕ)) → Type 0
-  ServesFile ending used unread left old new = OnFile (λ disk beside. SinceOpened
-      (λ first now. Serves file_state disk ending unread left old new first) disk) used
-
-  abbrev pub ChecksFile : Option Refusal → UsedDisk S F start → (old new : Option (List ℕ)) → Type 0
-  ChecksFile ending used old new = OnOpened (Checks ending old new) used
-
-  abbrev pub MigratesFile : Option Refusal → UsedDisk S F start → (old new : Option (List ℕ))
-      → Type 0
-  MigratesFile ending used old new = OnOpened (Migrates ending old new) used
-
-  -- a file was opened, and its carousel printed, or its sizes told
-  abbrev pub ExportsFile : Option Refusal → UsedDisk S F start → (old new : Option (List ℕ))
-      → Type 0
-  ExportsFile ending used old new = OnOpened (Exports ending old new) used
-
-  abbrev pub InspectsFile : (rate : Option ℕ) → Option Refusal → UsedDisk S F start
-      → (old new : Option (List ℕ)) → Type 0
-  InspectsFile rate ending used old new = OnOpened (Inspects rate ending old new) used
-
-  -- a file was opened, and its objects listed, or the body of one of them printed
-  abbrev pub ListsFile : Option Refusal → UsedDisk S F start → (old new : Option (List ℕ)) → Type 0
-  ListsFile ending used old new = OnOpened (Lists ending old new) used
-
-  abbrev pub GetsFile : (name : List ℕ) → Option Refusal → UsedDisk S F start
-      → (old new : Option (List ℕ)) → Type 0
-  GetsFile name ending used old new = OnOpened (Gets name ending old new) used
+  DoesOnFile work ending used unread left old new = OnFile (λ disk beside. SinceOpened
+      (λ first now. Does file_state disk work ending unread left old new first) disk) used
 
   -- its calls are those of a file that was made, or that was opened
   abbrev pub IsBegun : (is_new : Bool) → UsedDisk S F start → Type 0

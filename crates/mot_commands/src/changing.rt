@@ -13,7 +13,7 @@ ghost use Rattle.mot_outcome.specs.Outcome.{Concludes, Opens, OpensAnd, Prints};
 ghost use Rattle.mot_playout.specs.Attempts.{fault_of};
 
 use crate::asking::{Words, request_of};
-use crate::finishing::finish;
+use crate::working::finish;
 use disk_model::Disk;
 use disk_store::Start;
 use mot_endpoints::{Host, Machine, file_types};
@@ -74,16 +74,8 @@ pub fn withdraw_file<S: Start, W: Write, E: Write, M: Machine<File = S::File> + 
     ensures files { Opens [] path.now (fault_of result.result) result.disk
         (M.System.calls host.old.system) (M.System.calls host.new.system) }
 {
-    change_file(
-        host,
-        alloc,
-        path,
-        names,
-        &Words::Objects,
-        start,
-        writer,
-        errors,
-    )
+    let words = Words::Objects;
+    change_file(host, alloc, path, names, &words, start, writer, errors)
 }
 
 /// Does what each word asks for on the disk of the file at the path, one after the other, and prints

@@ -1,49 +1,20 @@
 //! What `check` does.
 ghost use Rattle.mot_playout.specs.Attempts.{fault_of};
-ghost use Rattle.std.specs.Prelude.{◌≡◌, ◌++◌, []};
-ghost use Rattle.mot_numbers.specs.declared.refusal.Refusal.TheVariants.{DeviceFault};
+ghost use Rattle.std.specs.Prelude.{◌≡◌, ◌++◌};
 ghost use Rattle.mot_lines.specs.Listing.{listing_text_beside};
-ghost use Rattle.mot_outcome.specs.Outcome.{Opens, Prints};
-ghost use Rattle.mot_commands.specs.Commands.{ChecksFile};
-ghost use Rattle.mot_outcome.specs.Outcome.{Finishes};
+ghost use Rattle.mot_outcome.specs.Outcome.{Prints};
 ghost use Rattle.mot_commands.specs.Report.{Checks, clean_line, layout_line};
 
-use crate::finishing::finish;
 use disk_model::Disk;
-use disk_store::Start;
-use mot_endpoints::{Host, Machine};
 use mot_journal::Layout;
 use mot_numbers::Refusal;
 use mot_objects::Carousel;
-use mot_outcome::{Finished, write_bytes, write_last};
+use mot_outcome::{write_bytes, write_last};
 use mot_repository::Repository;
 use mot_session::write_listing;
 use mot_update::Ended;
 use std::alloc::Global;
 use std::io::Write;
-
-/// Prints what the disk of the file at the path keeps, whether it is clean, and its layout.
-pub fn check_file<S: Start, W: Write, M: Machine<File = S::File> + Drop>(
-    host: &mut Host<M>,
-    alloc: Global,
-    path: &str,
-    start: S,
-    writer: &mut W,
-) -> Finished<S, ()>
-    ensures ended { Finishes (λ r. r ≡ DeviceFault) (λ ending used.
-        ChecksFile ending used (W.contents writer.old) (W.contents writer.new))
-        result (W.contents writer.old) (W.contents writer.new) }
-    ensures files { Opens [] path.now (fault_of result.result) result.disk
-        (M.System.calls host.old.system) (M.System.calls host.new.system) }
-{
-    match host.disk(path, start) {
-        Ok(disk) => {
-            let ended = check_disk(alloc, disk, writer);
-            finish(host, ended)
-        }
-        Err(unopened) => Finished::unopened(unopened),
-    }
-}
 
 /// Prints what a disk keeps, whether it is clean, and its layout. Nothing on it changes, but that
 /// it is synced.

@@ -3,13 +3,12 @@ ghost use Rattle.mot_playout.specs.Attempts.{fault_of};
 ghost use Rattle.std.specs.Prelude.{◌≡◌, ◌≢◌, Some, false, true};
 ghost use Rattle.mot_numbers.specs.Geometry.{IsValid};
 ghost use Rattle.mot_numbers.specs.declared.refusal.Refusal.TheVariants.{DeviceFault};
-ghost use Rattle.mot_outcome.specs.Outcome.{Prints};
 ghost use Rattle.mot_commands.specs.Commands.{FormatsFile, FormatsFree, IsUnformatted};
 ghost use Rattle.mot_outcome.specs.Outcome.{Finishes};
-ghost use Rattle.mot_commands.specs.Commands.{MakesFile, OpensOrMakes};
-ghost use Rattle.mot_commands.specs.Report.{Formats, formatted_line};
+ghost use Rattle.mot_commands.specs.Commands.{MakesFile};
+ghost use Rattle.mot_commands.specs.Report.{Formats};
 
-use crate::finishing::finish;
+use crate::working::finish;
 use disk_model::Disk;
 use disk_store::{Start, Unopened};
 use mot_devices::use_of;
@@ -21,8 +20,9 @@ use mot_update::Ended;
 use std::alloc::Global;
 use std::io::Write;
 
-/// Makes a disk of the file at the path, as `format_free` does. No file is touched for a geometry
-/// out of range, or if the path names a device in use or a file of another disk.
+/// Makes a disk of the file at the path. The file is made if it can't be opened, and removed again
+/// if the disk could not be made of it. No file is touched for a geometry out of range, or if the
+/// path names a device in use or a file of another disk.
 pub fn format_file<S: Start, W: Write, M: Machine<File = S::File> + Drop>(
     host: &mut Host<M>,
     alloc: Global,
@@ -41,29 +41,9 @@ pub fn format_file<S: Start, W: Write, M: Machine<File = S::File> + Drop>(
     if !geometry.is_valid() {
         return Finished::unbegun(Refusal::BadGeometry, None, start);
     }
-    match use_of(&mut host.system, alloc, path) {
-        Some(found) => Finished::unbegun(Refusal::DeviceFault, Some(Cause::from(found)), start),
-        None => format_free(host, path, start, geometry, directory, writer),
+    if let Some(found) = use_of(&mut host.system, alloc, path) {
+        return Finished::unbegun(Refusal::DeviceFault, Some(Cause::from(found)), start);
     }
-}
-
-/// Makes a disk of the file at the path. The file is made if it can't be opened, and removed again
-/// if the disk could not be made of it.
-fn format_free<S: Start, W: Write, M: Machine<File = S::File> + Drop>(
-    host: &mut Host<M>,
-    path: &str,
-    start: S,
-    geometry: Geometry,
-    directory: TransportId,
-    writer: &mut W,
-) -> Finished<S, ()>
-    requires { IsValid geometry }
-    ensures ended { Finishes (IsUnformatted geometry) (λ ending used.
-        FormatsFile geometry directory ending used (W.contents writer.old) (W.contents writer.new))
-        result (W.contents writer.old) (W.contents writer.new) }
-    ensures files { OpensOrMakes (fault_of result.result) path.now result.disk
-        (M.System.calls host.old.system) (M.System.calls host.new.system) }
-{
     match host.disk(path, start) {
         Ok(mut disk) => {
             let result = format_disk(&mut disk, &geometry, directory, writer);
@@ -138,15 +118,7 @@ pub(crate) fn format_disk<D: Disk, W: Write>(
         (W.contents writer.old) (W.contents writer.new) (D.state disk.old) (D.state disk.new) }
 {
     match format_from(disk, geometry, directory) {
-        Ok(()) => write_formatted(writer, geometry),
+        Ok(()) => write_number(writer, b"formatted ", geometry.length()),
         Err(refusal) => Err(refusal),
     }
-}
-
-/// Prints how many bytes a disk has that was formatted.
-fn write_formatted<W: Write>(writer: &mut W, geometry: &Geometry) -> Result<(), Refusal>
-    ensures { Prints (fault_of result) (formatted_line geometry.now)
-        (W.contents writer.old) (W.contents writer.new) }
-{
-    write_number(writer, b"formatted ", geometry.length())
 }

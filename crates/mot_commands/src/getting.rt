@@ -1,53 +1,24 @@
 //! What `get` does.
 ghost use Rattle.mot_playout.specs.Attempts.{fault_of};
-ghost use Rattle.std.specs.Prelude.{◌≡◌, ◌⊎◌, ◌<◌, [], IfErr, IfOk, vec_len};
+ghost use Rattle.std.specs.Prelude.{◌≡◌, ◌⊎◌, ◌<◌, IfErr, IfOk, vec_len};
 ghost use Rattle.disk_model.specs.Disk.{OnlyReads};
 ghost use Rattle.disk_model.specs.Failures.{Rises};
 ghost use Rattle.mot_numbers.specs.declared.refusal.Refusal.TheVariants.{DeviceFault, OutOfMemory};
 ghost use Rattle.mot_journal.specs.Image.{Standing};
 ghost use Rattle.mot_objects.specs.Name.{IsName};
-ghost use Rattle.mot_outcome.specs.Outcome.{Finishes, Opens};
 ghost use Rattle.mot_commands.specs.Asking.{IsUnnamed};
-ghost use Rattle.mot_commands.specs.Commands.{GetsFile};
 ghost use Rattle.mot_commands.specs.Shown.{Gets};
 ghost use Rattle.mot_commands.specs.Inner.Got.{MissesBody, ReadsBody};
 ghost use Rattle.mot_repository.specs.Repository.{HasStanding, object_body};
 
-use crate::finishing::finish;
 use disk_model::Disk;
-use disk_store::Start;
-use mot_endpoints::{Host, Machine};
 use mot_numbers::Refusal;
 use mot_objects::Name;
-use mot_outcome::{Finished, write_last};
+use mot_outcome::write_last;
 use mot_repository::Repository;
 use mot_update::Ended;
 use std::alloc::Global;
 use std::io::Write;
-
-/// Prints the body of the object of this name on the disk of the file at the path.
-pub fn get_file<S: Start, W: Write, M: Machine<File = S::File> + Drop>(
-    host: &mut Host<M>,
-    alloc: Global,
-    path: &str,
-    name: &str,
-    start: S,
-    writer: &mut W,
-) -> Finished<S, ()>
-    ensures ended { Finishes (λ r. r ≡ DeviceFault) (λ ending used.
-        GetsFile name.now ending used (W.contents writer.old) (W.contents writer.new))
-        result (W.contents writer.old) (W.contents writer.new) }
-    ensures files { Opens [] path.now (fault_of result.result) result.disk
-        (M.System.calls host.old.system) (M.System.calls host.new.system) }
-{
-    match host.disk(path, start) {
-        Ok(disk) => {
-            let ended = get_body(alloc, disk, name, writer);
-            finish(host, ended)
-        }
-        Err(unopened) => Finished::unopened(unopened),
-    }
-}
 
 /// Prints the body of the object of this name. The disk is only synced and read.
 pub(crate) fn get_body<D: Disk, W: Write>(

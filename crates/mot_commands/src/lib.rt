@@ -5,21 +5,14 @@
 mod asking;
 mod changing;
 mod checking;
-mod exporting;
-mod finishing;
 mod formatting;
 mod getting;
-mod inspecting;
 mod listing;
 mod migrating;
 mod serving;
+mod working;
 
 pub use changing::{put, withdraw_file};
-pub use checking::check_file;
-pub use exporting::export_file;
 pub use formatting::format_file;
-pub use getting::get_file;
-pub use inspecting::inspect_file;
-pub use listing::list_file;
-pub use migrating::migrate_file;
-pub use serving::{serve_file, serve_memory};
+pub use serving::serve_memory;
+pub use working::work_on_file;

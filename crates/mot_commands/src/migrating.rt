@@ -1,45 +1,14 @@
 //! What `migrate` does.
 ghost use Rattle.mot_playout.specs.Attempts.{fault_of};
-ghost use Rattle.std.specs.Prelude.{◌≡◌, []};
-ghost use Rattle.mot_numbers.specs.declared.refusal.Refusal.TheVariants.{DeviceFault};
-ghost use Rattle.mot_outcome.specs.Outcome.{Opens};
-ghost use Rattle.mot_commands.specs.Commands.{MigratesFile};
-ghost use Rattle.mot_outcome.specs.Outcome.{Finishes};
+ghost use Rattle.std.specs.Prelude.{◌≡◌};
 ghost use Rattle.mot_commands.specs.Report.{Migrates, migrated_line};
 
-use crate::finishing::finish;
 use disk_model::Disk;
-use disk_store::Start;
-use mot_endpoints::{Host, Machine};
-use mot_outcome::{Finished, write_last};
+use mot_outcome::write_last;
 use mot_repository::Repository;
 use mot_update::Ended;
 use std::alloc::Global;
 use std::io::Write;
-
-/// Rewrites the disk of the file at the path into layout 2, and prints whether there was anything
-/// to do.
-pub fn migrate_file<S: Start, W: Write, M: Machine<File = S::File> + Drop>(
-    host: &mut Host<M>,
-    alloc: Global,
-    path: &str,
-    start: S,
-    writer: &mut W,
-) -> Finished<S, ()>
-    ensures ended { Finishes (λ r. r ≡ DeviceFault) (λ ending used.
-        MigratesFile ending used (W.contents writer.old) (W.contents writer.new))
-        result (W.contents writer.old) (W.contents writer.new) }
-    ensures files { Opens [] path.now (fault_of result.result) result.disk
-        (M.System.calls host.old.system) (M.System.calls host.new.system) }
-{
-    match host.disk(path, start) {
-        Ok(disk) => {
-            let ended = migrate_disk(alloc, disk, writer);
-            finish(host, ended)
-        }
-        Err(unopened) => Finished::unopened(unopened),
-    }
-}
 
 /// Rewrites a disk of layout 1 into layout 2, and prints whether there was anything to do. What it
 /// stands for stays.

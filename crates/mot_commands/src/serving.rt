@@ -1,18 +1,14 @@
 //! What `memory` and `serve` do.
 ghost use Rattle.mot_playout.specs.Attempts.{fault_of};
-ghost use Rattle.std.specs.Prelude.{◌≡◌, []};
+ghost use Rattle.std.specs.Prelude.{◌≡◌};
 ghost use Rattle.std.specs.Io.KnownBytes.{Keeps};
-ghost use Rattle.mot_numbers.specs.declared.refusal.Refusal.TheVariants.{DeviceFault};
-ghost use Rattle.mot_outcome.specs.Outcome.{Opens};
 ghost use Rattle.disk_model.specs.Disk.{KeepsLength};
-ghost use Rattle.mot_commands.specs.Commands.{IsUnmade, ServesFile, ServesMemory};
+ghost use Rattle.mot_commands.specs.Commands.{IsUnmade, ServesMemory};
 ghost use Rattle.mot_outcome.specs.Outcome.{Finishes};
 ghost use Rattle.mot_commands.specs.Serving.{Serves};
 
-use crate::finishing::finish;
 use disk_model::Disk;
 use disk_store::{RamDisk, Start};
-use mot_endpoints::{Host, Machine};
 use mot_journal::format;
 use mot_numbers::{Geometry, Refusal};
 use mot_outcome::{Finished, UsedDisk};
@@ -57,35 +53,8 @@ pub fn serve_memory<S: Start, R: Read, W: Write>(
     }
 }
 
-/// Serves the reader's lines from the disk of the file at the path; answers what ended it before
-/// the input's end.
-pub fn serve_file<S: Start, R: Read, W: Write, M: Machine<File = S::File> + Drop>(
-    host: &mut Host<M>,
-    alloc: Global,
-    path: &str,
-    start: S,
-    reader: &mut R,
-    writer: &mut W,
-) -> Finished<S, ()>
-    ensures ended { Finishes
-        (λ r. (r ≡ DeviceFault) × Keeps (R.remaining reader.old) (R.remaining reader.new))
-        (λ ending used. ServesFile ending used (R.remaining reader.old) (R.remaining reader.new)
-        (W.contents writer.old) (W.contents writer.new))
-        result (W.contents writer.old) (W.contents writer.new) }
-    ensures files { Opens [] path.now (fault_of result.result) result.disk
-        (M.System.calls host.old.system) (M.System.calls host.new.system) }
-{
-    match host.disk(path, start) {
-        Ok(disk) => {
-            let ended = serve_disk(alloc, disk, reader, writer);
-            finish(host, ended)
-        }
-        Err(unopened) => Finished::unopened(unopened),
-    }
-}
-
 /// Serves the reader's lines from a disk that it opens.
-fn serve_disk<R: Read, W: Write, D: Disk>(
+pub(crate) fn serve_disk<R: Read, W: Write, D: Disk>(
     alloc: Global,
     disk: D,
     reader: &mut R,

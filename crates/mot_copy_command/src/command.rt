@@ -23,7 +23,7 @@ use mot_cli::CopyTask;
 use mot_devices::use_of;
 use mot_endpoints::{Cause, Host, Machine, NewDiskFault};
 use mot_journal::Reason;
-use mot_numbers::{Geometry, Refusal, TransportId};
+use mot_numbers::{Geometry, Refusal};
 use mot_outcome::{Finished, UsedDisk, clear_unfit, write_number};
 use mot_repository::Repository;
 use mot_update::Ended;
@@ -95,13 +95,8 @@ fn copy_disk<S: Start, W: Write, M: Machine<File = S::File> + Drop>(
         return uncopied(repository.into_disk(), Refusal::BadGeometry, None, None);
     };
     if let Some(found) = use_of(&mut host.system, alloc, task.new) {
-        let cause = Cause::NewDisk(NewDiskFault::from(found));
-        return uncopied(
-            repository.into_disk(),
-            Refusal::DeviceFault,
-            Some(cause),
-            None,
-        );
+        let cause = Some(Cause::NewDisk(NewDiskFault::from(found)));
+        return uncopied(repository.into_disk(), Refusal::DeviceFault, cause, None);
     }
     copy_open(host, alloc, repository, &geometry, task, second, writer)
 }
@@ -158,14 +153,7 @@ fn copy_open<S: Start, W: Write, M: Machine<File = S::File> + Drop>(
 {
     match host.disk(task.new, second) {
         Ok(mut to) => {
-            let made = tell_copy(
-                alloc,
-                &mut repository,
-                &mut to,
-                geometry,
-                task.after,
-                writer,
-            );
+            let made = tell_copy(alloc, &mut repository, &mut to, geometry, task, writer);
             if is_refused(&made) {
                 host.clear_side();
             }
@@ -202,14 +190,7 @@ fn copy_to_new<S: Start, W: Write, M: Machine<File = S::File> + Drop>(
             return uncopied(repository.into_disk(), Refusal::DeviceFault, cause, None);
         }
     };
-    let made = tell_copy(
-        alloc,
-        &mut repository,
-        &mut to,
-        geometry,
-        task.after,
-        writer,
-    );
+    let made = tell_copy(alloc, &mut repository, &mut to, geometry, task, writer);
     if is_refused(&made) {
         host.take_away(task.new);
     }
@@ -288,16 +269,16 @@ fn tell_copy<D: Disk, E: Disk, W: Write>(
     repository: &mut Repository<D>,
     to: &mut E,
     geometry: &Geometry,
-    after: Option<TransportId>,
+    task: &CopyTask<'_>,
     writer: &mut W,
 ) -> Result<(), Refusal>
     ensures reads { OnlyReads (D.state repository.old.disk) (D.state repository.new.disk) }
     ensures copies { Copies (OfView repository.old.view (D.state repository.old.disk)
         (D.state repository.new.disk)) (D.state repository.old.disk).failures
-        (D.state repository.new.disk).failures geometry.now after (fault_of result)
+        (D.state repository.new.disk).failures geometry.now task.now.after (fault_of result)
         (W.contents writer.old) (W.contents writer.new) (E.state to.old) (E.state to.new) }
 {
-    match copy(alloc, repository, to, geometry, after) {
+    match copy(alloc, repository, to, geometry, task.after) {
         Ok(()) => write_number(writer, b"copied ", geometry.length()),
         Err(why) => Err(refusal_of(why)),
     }

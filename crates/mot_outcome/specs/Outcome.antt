@@ -5,8 +5,6 @@ use Rattle.std.specs.Prelude.{◌⊎◌, Err, IsErrAnd, IsSomeAnd, Ok, Result, f
 use Rattle.std.specs.Fmt.{decimal}
 use Rattle.std.specs.Io.KnownBytes.{Appends, Keeps}
 use Rattle.clap.specs.Words.{Row, Text}
-use Rattle.disk_model.specs.Disk.{State}
-use Rattle.disk_store.specs.Beginning.{SinceOpened}
 use Rattle.disk_store.specs.declared.file.start.Start.{Ghosts}
 use Rattle.disk_store.specs.declared.file.FileDiskFrom.{FileDiskFrom}
 use Rattle.mot_endpoints.specs.Opened.{AreMet, BeginsTo, Need, is_fault}
@@ -64,10 +62,6 @@ module _ {S F : Type 0} {start : Ghosts S F} where
   abbrev pub OnFile : (FileDiskFrom S F start → Beside → Type 0) → UsedDisk S F start → Type 0
   OnFile P (OfFile disk beside) = P disk beside
   OnFile P used = ⊥
-
-  -- a file was opened, and this holds between what its disk was then and what it is
-  abbrev pub OnOpened : (State → State → Type 0) → UsedDisk S F start → Type 0
-  OnOpened P = OnFile (λ disk beside. SinceOpened P disk)
 
   -- no file was opened or made, and nothing was printed
   pub record IsUntold (used : UsedDisk S F start) (old new : Option (List ℕ)) : Type 0 where

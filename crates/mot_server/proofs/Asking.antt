@@ -5,14 +5,14 @@ use Rattle.std.specs.Prelude.{bytes_eq, codes}
 use Rattle.clap.specs.Words.{Row, Text, subcommand_of}
 use Rattle.mot_cli.specs.Asked.{AskBy}
 use Rattle.mot_cli.specs.Command.{motcar_app}
-use Rattle.mot_cli.specs.Task.{IsTask, LackOption, bad_number}
+use Rattle.mot_cli.specs.Task.{IsTask, IsWork, LackOption, bad_number}
 use Rattle.mot_cli.specs.Whole.{is_whole}
+use Rattle.mot_cli.specs.declared.task.DiskTask.{DiskTask}
+use Rattle.mot_cli.specs.declared.task.DiskTask.TheVariants.{Serve, Check, Migrate, ListObjects}
+use Rattle.mot_cli.specs.declared.task.DiskTask.TheVariants.{GetBody, Export, Inspect}
 use Rattle.mot_cli.specs.declared.task.Task.{Task}
-use Rattle.mot_cli.specs.declared.task.Task.TheVariants.{Memory, Format, Copy, Serve, Check}
-use Rattle.mot_cli.specs.declared.task.Task.TheVariants.{Migrate}
-use Rattle.mot_cli.specs.declared.task.Task.TheVariants.{Play, Sync, Export, Inspect}
-use Rattle.mot_cli.specs.declared.task.Task.TheVariants.{GetBody, ListObjects, PutFiles}
-use Rattle.mot_cli.specs.declared.task.Task.TheVariants.{WithdrawNames}
+use Rattle.mot_cli.specs.declared.task.Task.TheVariants.{Memory, Format, Copy, Play, Sync}
+use Rattle.mot_cli.specs.declared.task.Task.TheVariants.{PutFiles, WithdrawNames, OnDisk}
 use Rattle.mot_numbers.specs.declared.refusal.Refusal.{Refusal}
 use Rattle.mot_numbers.specs.declared.refusal.Refusal.TheVariants.{BadNumber, OutOfMemory}
 use Rattle.mot_server.specs.Program.{refused_number}
@@ -54,6 +54,16 @@ not_play name other differs is play =
     ap (λ n. bytes_eq n (codes "play")) (sym is ∙ play) in
     absurd (cc)
 
+works_not_play : (name : Text) (rows : List Row) (work : DiskTask) → IsWork name rows work
+    → name ≡ codes "play" → ⊥
+works_not_play name rows Serve is play = not_play name (codes "serve") refl is play
+works_not_play name rows Check is play = not_play name (codes "check") refl is play
+works_not_play name rows Migrate is play = not_play name (codes "migrate") refl is play
+works_not_play name rows ListObjects is play = not_play name (codes "list") refl is play
+works_not_play name rows (GetBody o) is play = not_play name (codes "get") refl is.0 play
+works_not_play name rows Export is play = not_play name (codes "export") refl is play
+works_not_play name rows (Inspect r) is play = not_play name (codes "inspect") refl is.0 play
+
 -- a task that is asked for lacks none
 pub lacks_none : (name : Text) (rows : List Row) (task : Task) → IsTask name rows task
     → name ≡ codes "play" → is_whole rows ≡ false → ⊥
@@ -62,16 +72,10 @@ lacks_none name rows (Play p) is play lack =
 lacks_none name rows (Memory g) is play lack = not_play name (codes "memory") refl is.0 play
 lacks_none name rows (Format p g d) is play lack = not_play name (codes "format") refl is.0 play
 lacks_none name rows (Copy c) is play lack = not_play name (codes "copy") refl is.0 play
-lacks_none name rows (Serve p) is play lack = not_play name (codes "serve") refl is.0 play
-lacks_none name rows (Check p) is play lack = not_play name (codes "check") refl is.0 play
-lacks_none name rows (Migrate p) is play lack = not_play name (codes "migrate") refl is.0 play
 lacks_none name rows (Sync sync) is play lack = not_play name (codes "sync") refl is.0 play
-lacks_none name rows (ListObjects d) is play lack = not_play name (codes "list") refl is.0 play
 lacks_none name rows (PutFiles d f t) is play lack = not_play name (codes "put") refl is.0 play
 lacks_none name rows (WithdrawNames d n) is play lack = not_play name (codes "withdraw") refl is.0 play
-lacks_none name rows (GetBody d o) is play lack = not_play name (codes "get") refl is.0 play
-lacks_none name rows (Export d) is play lack = not_play name (codes "export") refl is.0 play
-lacks_none name rows (Inspect d r) is play lack = not_play name (codes "inspect") refl is.0 play
+lacks_none name rows (OnDisk d work) is play lack = works_not_play name rows work is.0 play
 
 -- refusals that are no bad number
 pub none_is : (r : Option Refusal) → r ≡ None → r ≡ Some BadNumber → ⊥

@@ -5,19 +5,14 @@ use Rattle.std.specs.Option.{option_map_or}
 use Rattle.clap.specs.Words.{Text, subcommand_of}
 use Rattle.disk_store.specs.declared.file.start.Start.{Ghosts}
 use Rattle.mot_air.specs.Commands.{IsUnplayed, PlaysTask, needs_of}
-use Rattle.mot_commands.specs.Commands.{ExportsFile, InspectsFile}
 use Rattle.mot_sync_command.specs.Commands.{IsUnsynced, SyncsTask, synced_with}
 use Rattle.mot_cli.specs.Command.{motcar_app}
 use Rattle.mot_cli.specs.Task.{AskForNothing, IsTask, LackOption, bad_number}
 use Rattle.mot_cli.specs.declared.task.Task.{Task}
-use Rattle.mot_cli.specs.declared.task.Task.TheVariants.{Memory, Format, Copy, Serve, Check}
-use Rattle.mot_cli.specs.declared.task.Task.TheVariants.{Migrate}
-use Rattle.mot_cli.specs.declared.task.Task.TheVariants.{Play, Sync, Export, Inspect}
-use Rattle.mot_cli.specs.declared.task.Task.TheVariants.{GetBody, ListObjects, PutFiles}
-use Rattle.mot_cli.specs.declared.task.Task.TheVariants.{WithdrawNames}
-use Rattle.mot_commands.specs.Commands.{ChecksFile, FormatsFile, IsUnformatted, IsUnmade}
-use Rattle.mot_commands.specs.Commands.{FormatsFree, MigratesFile, ServesFile}
-use Rattle.mot_commands.specs.Commands.{GetsFile, ListsFile, ServesMemory}
+use Rattle.mot_cli.specs.declared.task.Task.TheVariants.{Memory, Format, Copy, Play, Sync}
+use Rattle.mot_cli.specs.declared.task.Task.TheVariants.{PutFiles, WithdrawNames, OnDisk}
+use Rattle.mot_commands.specs.Commands.{DoesOnFile, FormatsFile, FormatsFree, IsUnformatted}
+use Rattle.mot_commands.specs.Commands.{IsUnmade, ServesMemory}
 use Rattle.mot_commands.specs.Changing.{PutReads, PutsFiles, WithdrawsFile, texts}
 use Rattle.mot_copy_command.specs.Command.{CopiesFile, OpensTwo}
 use Rattle.mot_endpoints.specs.Opened.{Need, if_given}
@@ -59,29 +54,17 @@ module _ {S F : Type 0} {start : Ghosts S F} where
   Ends (Copy copy) all ending used unread left old new =
       IsWhole all ending × Keeps unread left
       × CopiesFile copy.sizes copy.after ending used old new
-  Ends (Serve path) all ending used unread left old new =
-      IsWhole all ending × ServesFile ending used unread left old new
-  Ends (Check path) all ending used unread left old new =
-      IsWhole all ending × Keeps unread left × ChecksFile ending used old new
-  Ends (Migrate path) all ending used unread left old new =
-      IsWhole all ending × Keeps unread left × MigratesFile ending used old new
   Ends (Play p) all ending used unread left old new =
       Keeps unread left × PlaysTask p all ending used old new
   Ends (Sync sync) all ending used unread left old new =
       Keeps unread left × SyncsTask sync all ending used old new
-  Ends (ListObjects path) all ending used unread left old new =
-      IsWhole all ending × Keeps unread left × ListsFile ending used old new
   Ends (PutFiles path files types) all ending used unread left old new =
       Keeps unread left × ((before after : List Call)
       × PutsFiles types (texts files.now) all ending used old new before after)
   Ends (WithdrawNames path names) all ending used unread left old new =
       Keeps unread left × WithdrawsFile (texts names.now) all ending used old new
-  Ends (GetBody path name) all ending used unread left old new =
-      IsWhole all ending × Keeps unread left × GetsFile name.now ending used old new
-  Ends (Export disk) all ending used unread left old new =
-      IsWhole all ending × Keeps unread left × ExportsFile ending used old new
-  Ends (Inspect disk rate) all ending used unread left old new =
-      IsWhole all ending × Keeps unread left × InspectsFile rate ending used old new
+  Ends (OnDisk disk work) all ending used unread left old new =
+      IsWhole all ending × DoesOnFile work ending used unread left old new
 
   -- which calls of its host a task made that ended so
   abbrev pub UsesFor : (ending : Option Refusal) → Task → UsedDisk S F start
@@ -90,20 +73,14 @@ module _ {S F : Type 0} {start : Ghosts S F} where
   UsesFor ending (Format path g directory) used old new = FormatsFree ending path.now used old new
   UsesFor ending (Copy copy) used old new =
       OpensTwo ending copy.disk.now copy.new.now used old new
-  UsesFor ending (Serve path) used old new = Opens [] path.now ending used old new
-  UsesFor ending (Check path) used old new = Opens [] path.now ending used old new
-  UsesFor ending (Migrate path) used old new = Opens [] path.now ending used old new
   UsesFor ending (Play p) used old new = Opens (needs_of p) p.disk.now ending used old new
   UsesFor ending (Sync sync) used old new =
       Opens (synced_with sync) sync.disk.now ending used old new
-  UsesFor ending (ListObjects path) used old new = Opens [] path.now ending used old new
   UsesFor ending (PutFiles path files types) used old new =
       OpensAnd (if_given Need.types types) path.now (PutReads types (texts files.now) used) ending
       used old new
   UsesFor ending (WithdrawNames path names) used old new = Opens [] path.now ending used old new
-  UsesFor ending (GetBody path name) used old new = Opens [] path.now ending used old new
-  UsesFor ending (Export path) used old new = Opens [] path.now ending used old new
-  UsesFor ending (Inspect path rate) used old new = Opens [] path.now ending used old new
+  UsesFor ending (OnDisk disk work) used old new = Opens [] disk.now ending used old new
 
   -- What a run of these words came to, whatever they ask for: the task was done, or ended by a
   -- refusal, or not begun; or they ask for help, or for nothing.

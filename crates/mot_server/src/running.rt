@@ -7,10 +7,7 @@ ghost use Rattle.mot_server.specs.Program.{UsesFor};
 use disk_store::Start;
 use mot_air::play;
 use mot_cli::Task;
-use mot_commands::{
-    check_file, export_file, format_file, get_file, inspect_file, list_file, migrate_file, put,
-    serve_file, serve_memory, withdraw_file,
-};
+use mot_commands::{format_file, put, serve_memory, withdraw_file, work_on_file};
 use mot_copy_command::copy_file;
 use mot_endpoints::{Host, Machine};
 use mot_outcome::Finished;
@@ -42,22 +39,16 @@ pub(crate) fn execute<'a, B: Start, R: Read, W: Write, E: Write, M: Machine<File
             directory,
         } => whole(format_file(host, alloc, path, start, *geometry, *directory, writer)),
         Task::Copy(copied) => whole(copy_file(host, alloc, copied, start, writer)),
-        Task::Serve(path) => whole(serve_file(host, alloc, path, start, reader, writer)),
-        Task::Check(path) => whole(check_file(host, alloc, path, start, writer)),
-        Task::Migrate(path) => whole(migrate_file(host, alloc, path, start, writer)),
         Task::Play(played) => play(host, alloc, *played, start, writer, errors),
         Task::Sync(synced) => sync(host, alloc, synced, start, writer),
-        Task::ListObjects(path) => whole(list_file(host, alloc, path, start, writer)),
         Task::PutFiles { disk, files, types } => put(
             host, alloc, disk, files, *types, start, writer, errors,
         ),
         Task::WithdrawNames { disk, names } => {
             withdraw_file(host, alloc, disk, names, start, writer, errors)
         }
-        Task::GetBody { disk, name } => whole(get_file(host, alloc, disk, name, start, writer)),
-        Task::Export(path) => whole(export_file(host, alloc, path, start, writer)),
-        Task::Inspect { disk, rate } => {
-            whole(inspect_file(host, alloc, disk, *rate, start, writer))
+        Task::OnDisk { disk, work } => {
+            whole(work_on_file(host, alloc, disk, work, start, reader, writer))
         }
     }
 }

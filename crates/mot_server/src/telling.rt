@@ -32,13 +32,10 @@ pub(crate) fn tell_no_task<B: Start, E: Write>(
             tell_missing(errors, option);
             Exit::unrefused(2, disk)
         }
-        NoTask::OutOfRange(refusal) => refuse(
-            errors,
-            has_levels(words),
-            refusal,
-            subject_of(refusal, words, None, "DISK", None),
-            disk,
-        ),
+        NoTask::OutOfRange(refusal) => {
+            let subject = subject_of(refusal, words, None, "DISK", None);
+            refuse(errors, has_levels(words), refusal, subject, disk)
+        }
     }
 }
 
@@ -78,19 +75,11 @@ pub(crate) fn conclude<B: Start, E: Write>(
             tell_folder(errors, words, cause);
             Exit::unrefused(1, disk)
         }
-        Err(refusal) => refuse(
-            errors,
-            has_levels(words),
-            refusal,
-            subject_of(
-                refusal,
-                words,
-                cause_of(refusal, cause, &disk),
-                disk.word(),
-                reason,
-            ),
-            disk,
-        ),
+        Err(refusal) => {
+            let cause = cause_of(refusal, cause, &disk);
+            let subject = subject_of(refusal, words, cause, disk.word(), reason);
+            refuse(errors, has_levels(words), refusal, subject, disk)
+        }
     }
 }
 

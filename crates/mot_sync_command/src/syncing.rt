@@ -1,25 +1,24 @@
 //! What `sync` does: it makes the carousel of a disk equal to a folder.
-ghost use Rattle.std.specs.Prelude.{◌≡◌, ◌∷◌, [], IfErr, MatchResult, OnOk, false, flat_map};
+ghost use Rattle.std.specs.Prelude.{◌≡◌, IfErr, MatchResult, OnOk, false, flat_map};
 ghost use Rattle.std.specs.Result.{result_unwrap_or};
 ghost use Rattle.std.specs.Io.KnownBytes.{Appends};
 ghost use Rattle.disk_model.specs.Disk.{KeepsLength};
 ghost use Rattle.mot_log.specs.Text.{met_line};
 ghost use Rattle.mot_feed.specs.Feeding.{IsFeedFault};
 ghost use Rattle.mot_journal.specs.Image.{Standing};
-ghost use Rattle.mot_numbers.specs.declared.refusal.Refusal.TheVariants.{DeviceFault, WriteFault};
-ghost use Rattle.mot_endpoints.specs.Opened.{Need};
+ghost use Rattle.mot_numbers.specs.declared.refusal.Refusal.TheVariants.{WriteFault};
 ghost use Rattle.mot_outcome.specs.Outcome.{Concludes, Opens};
 ghost use Rattle.mot_playout.specs.Attempts.{fault_of};
 ghost use Rattle.mot_repository.specs.Repository.{Holds};
 ghost use Rattle.mot_shelf.specs.Gives.{GaveSo};
 ghost use Rattle.mot_shelf.specs.Reader.{reader_path, view};
 ghost use Rattle.mot_shelf.specs.View.{FolderView};
-ghost use Rattle.mot_sync_command.specs.Commands.{IsUnsynced, SyncsBy, SyncsTask, SyncsTo, synced_with};
+ghost use Rattle.mot_sync_command.specs.Commands.{IsUnsynced, SyncsBy, SyncsTask, synced_with};
 ghost use Rattle.mot_sync_command.specs.Inner.Looked.{LooksAndTells};
 ghost use Rattle.mot_sync_command.specs.Syncing.{Syncs};
 ghost use Rattle.mot_update.specs.Faults.{StaysCalm};
 
-use crate::trying::try_shelf;
+use crate::trying::sync_or_try;
 use disk_model::Disk;
 use disk_store::Start;
 use mot_cli::SyncTask;
@@ -29,7 +28,7 @@ use mot_files::{CallLog, System};
 use mot_folder::{FileTypes, Folder, KnownFiles, look_at_folder};
 use mot_log::add_met_line;
 use mot_numbers::Refusal;
-use mot_outcome::{Beside, Finished, clear_after};
+use mot_outcome::{Beside, Finished, clear_after, write_bytes, write_last};
 use mot_playout::Server;
 use mot_shelf::FolderReader;
 use mot_update::Ended;
@@ -52,32 +51,14 @@ pub fn sync<'a, B: Start, W: Write, M: Machine<File = B::File> + Drop>(
     ensures opens { Opens (synced_with task.now) task.now.disk.now (fault_of result.result)
         result.disk (M.System.calls host.old.system) (M.System.calls host.new.system) }
 {
-    match file_types(host, alloc, task.types) {
-        Ok(types) => sync_file(host, alloc, task, &types, start, log),
-        Err(unbegun) => Finished::unbegun(unbegun.refusal, unbegun.cause, start),
-    }
-}
-
-/// The same by these suffixes.
-fn sync_file<'a, B: Start, W: Write, M: Machine<File = B::File> + Drop>(
-    host: &mut Host<M>,
-    alloc: Global,
-    task: &SyncTask<'a>,
-    types: &FileTypes,
-    start: B,
-    log: &mut W,
-) -> Finished<B, bool>
-    ensures ended { Concludes (λ r. r ≡ DeviceFault) (λ all ending. SyncsTo types.now task.now all
-        ending (W.contents log.old) (W.contents log.new) result.disk)
-        result.result result.disk (W.contents log.old) (W.contents log.new) }
-    ensures opens { Opens (Need.folder task.now.folder.now ∷ []) task.now.disk.now
-        (fault_of result.result) result.disk
-        (M.System.calls host.old.system) (M.System.calls host.new.system) }
-{
+    let types = match file_types(host, alloc, task.types) {
+        Ok(types) => types,
+        Err(unbegun) => return Finished::unbegun(unbegun.refusal, unbegun.cause, start),
+    };
     let shelf = host.folder(task.folder, task.rules.at_once);
     match host.disk(task.disk, start) {
         Ok(disk) => {
-            let (ended, cause, calls) = sync_or_try(alloc, disk, shelf, types, task, log);
+            let (ended, cause, calls) = sync_shelf(alloc, disk, shelf, &types, task, log);
             clear_after(host, &ended.result);
             Finished::of_file(ended, Beside::folder(calls), cause)
         }
@@ -88,7 +69,7 @@ fn sync_file<'a, B: Start, W: Write, M: Machine<File = B::File> + Drop>(
 /// Makes the carousel of the disk equal to a folder, or that of a copy. Why the folder was not opened,
 /// and the calls on it, are handed out. (It is a function of its own, for any system of files, since
 /// calls at the program's own take longer to prove.)
-fn sync_or_try<Y: System + Drop, D: Disk, W: Write>(
+fn sync_shelf<Y: System + Drop, D: Disk, W: Write>(
     alloc: Global,
     disk: D,
     shelf: FolderReader<'_, Y>,
@@ -102,30 +83,8 @@ fn sync_or_try<Y: System + Drop, D: Disk, W: Write>(
         (D.state result.0.disk) (result_unwrap_or result.0.result false)
         (fault_of result.0.result) (W.contents log.old) (W.contents log.new) }
 {
-    let allows_empty = task.rules.allow_empty;
-    if task.dry_run {
-        try_shelf(alloc, disk, shelf, types, allows_empty, log)
-    } else {
-        sync_shelf(alloc, disk, shelf, types, allows_empty, log)
-    }
-}
-
-/// Makes the carousel of the disk equal to a folder.
-pub(crate) fn sync_shelf<Y: System + Drop, D: Disk, W: Write>(
-    alloc: Global,
-    disk: D,
-    shelf: FolderReader<'_, Y>,
-    types: &FileTypes,
-    allows_empty: bool,
-    log: &mut W,
-) -> (Ended<D, bool>, Option<Cause>, CallLog)
-    ensures { (then_folder : FolderView) × (then_folder.calls ≡ result.2.all)
-        × Syncs types.now allows_empty (view Y.calls shelf.entry) then_folder (D.state disk)
-        (D.state result.0.disk) (result_unwrap_or result.0.result false)
-        (fault_of result.0.result) (W.contents log.old) (W.contents log.new) }
-{
-    let mut folder = Folder::new(alloc, shelf, types, allows_empty);
-    let ended = sync_disk(alloc, disk, &mut folder, log);
+    let mut folder = Folder::new(alloc, shelf, types, task.rules.allow_empty);
+    let ended = sync_or_try(alloc, disk, &mut folder, task.dry_run, log);
     let cause = Cause::of_folder(folder.shelf.fault());
     (ended, cause, folder.shelf.into_system().into_calls())
 }
@@ -197,10 +156,7 @@ fn write_events<L: Write>(alloc: Global, log: &mut L, events: &[LookEvent]) -> R
     for event in events {
         write_event(&mut line, log, event)?;
     }
-    match log.flush() {
-        Ok(()) => Ok(()),
-        Err(_) => Err(Refusal::WriteFault),
-    }
+    write_last(log, b"")
 }
 
 /// Writes the line of an event to the log.
@@ -213,8 +169,5 @@ fn write_event<L: Write>(line: &mut Vec<u8>, log: &mut L, event: &LookEvent) -> 
     if add_met_line(line, event).is_err() {
         return Err(Refusal::WriteFault);
     }
-    match log.write_all(line.as_slice()) {
-        Ok(()) => Ok(()),
-        Err(_) => Err(Refusal::WriteFault),
-    }
+    write_bytes(log, line.as_slice())
 }

@@ -1,46 +1,45 @@
-//! What `sync` would do, tried on a copy of the disk.
+//! What `sync` does to the disk itself, or would do, tried on a copy of it.
 ghost use Rattle.std.specs.Prelude.{◌≡◌, false};
 ghost use Rattle.std.specs.Result.{result_unwrap_or};
-ghost use Rattle.mot_sync_command.specs.Trying.{Tries};
+ghost use Rattle.mot_sync_command.specs.Commands.{SyncsBy};
 ghost use Rattle.mot_playout.specs.Attempts.{fault_of};
 ghost use Rattle.mot_shelf.specs.Reader.{view};
-ghost use Rattle.mot_shelf.specs.View.{FolderView};
 
 use crate::copying::copy_disk;
-use crate::syncing::sync_shelf;
+use crate::syncing::sync_disk;
 use disk_model::Disk;
-use mot_endpoints::Cause;
-use mot_files::{CallLog, System};
-use mot_folder::FileTypes;
-use mot_shelf::FolderReader;
+use mot_files::System;
+use mot_folder::Folder;
 use mot_update::Ended;
 use std::alloc::Global;
 use std::io::Write;
 
-/// Makes the carousel of a copy of the disk equal to a folder, as `sync_shelf` does.
-pub(crate) fn try_shelf<Y: System + Drop, D: Disk, W: Write>(
+/// Makes the carousel of the disk equal to the folder, as `sync_disk` does; or in a dry run that of a
+/// copy of the disk, which itself is only synced and read.
+pub(crate) fn sync_or_try<S: System + Drop, D: Disk, L: Write>(
     alloc: Global,
     disk: D,
-    shelf: FolderReader<'_, Y>,
-    types: &FileTypes,
-    allows_empty: bool,
-    log: &mut W,
-) -> (Ended<D, bool>, Option<Cause>, CallLog)
-    ensures { (then_folder : FolderView) × (then_folder.calls ≡ result.2.all)
-        × Tries types.now allows_empty (view Y.calls shelf.entry) then_folder (D.state disk)
-        (D.state result.0.disk) (result_unwrap_or result.0.result false)
-        (fault_of result.0.result) (W.contents log.old) (W.contents log.new) }
+    folder: &mut Folder<'_, S>,
+    dry_run: bool,
+    log: &mut L,
+) -> Ended<D, bool>
+    ensures { SyncsBy dry_run folder.old.types.now folder.old.allows_empty
+        (view S.calls folder.old.shelf) (view S.calls folder.new.shelf)
+        (D.state disk) (D.state result.disk)
+        (result_unwrap_or result.result false) (fault_of result.result)
+        (L.contents log.old) (L.contents log.new) }
 {
+    if !dry_run {
+        return sync_disk(alloc, disk, folder, log);
+    }
     let (disk, copy) = match copy_disk(alloc, disk) {
         Ok(both) => both,
-        Err(ended) => return (ended, None, shelf.into_system().into_calls()),
+        Err(ended) => return ended,
     };
-    let (tried, cause, calls) = sync_shelf(alloc, copy, shelf, types, allows_empty, log);
-    let Ended { result, .. } = tried;
-    let ended = Ended {
+    let Ended { result, .. } = sync_disk(alloc, copy, folder, log);
+    Ended {
         disk,
         result,
         reason: None,
-    };
-    (ended, cause, calls)
+    }
 }

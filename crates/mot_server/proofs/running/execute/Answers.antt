@@ -2,17 +2,12 @@ use Rattle.std.proofs.Common.{List, [], ◌≡◌, ◌⊎◌, Option, refl, subs
 use Rattle.std.proofs.KnownBytes.{Keeps-refl}
 use Rattle.std.specs.Io.KnownBytes.{Keeps}
 use Rattle.mot_air.specs.Commands.{IsUnplayed, PlaysTask}
-use Rattle.mot_commands.specs.Commands.{ExportsFile, InspectsFile}
 use Rattle.mot_sync_command.specs.Commands.{IsUnsynced, SyncsTask}
 use Rattle.mot_cli.specs.declared.task.Task.{Task}
-use Rattle.mot_cli.specs.declared.task.Task.TheVariants.{Memory, Format, Copy, Serve, Check}
-use Rattle.mot_cli.specs.declared.task.Task.TheVariants.{Migrate}
-use Rattle.mot_cli.specs.declared.task.Task.TheVariants.{Play, Sync, Export, Inspect}
-use Rattle.mot_cli.specs.declared.task.Task.TheVariants.{GetBody, ListObjects, PutFiles}
-use Rattle.mot_cli.specs.declared.task.Task.TheVariants.{WithdrawNames}
-use Rattle.mot_commands.specs.Commands.{ChecksFile, FormatsFile, IsUnformatted, IsUnmade}
-use Rattle.mot_commands.specs.Commands.{FormatsFree, MigratesFile, ServesFile}
-use Rattle.mot_commands.specs.Commands.{GetsFile, ListsFile, ServesMemory}
+use Rattle.mot_cli.specs.declared.task.Task.TheVariants.{Memory, Format, Copy, Play, Sync}
+use Rattle.mot_cli.specs.declared.task.Task.TheVariants.{PutFiles, WithdrawNames, OnDisk}
+use Rattle.mot_commands.specs.Commands.{DoesOnFile, FormatsFile, FormatsFree, IsUnformatted}
+use Rattle.mot_commands.specs.Commands.{IsUnmade, ServesMemory}
 use Rattle.mot_commands.specs.Changing.{PutsFiles, WithdrawsFile, texts}
 use Rattle.mot_copy_command.specs.Command.{CopiesFile, OpensTwo}
 use Rattle.mot_endpoints.specs.Types.{IsUntyped}
@@ -57,51 +52,21 @@ returns-in-Format-clause-ended g c =
     (λ ending used. FormatsFile c.in-Format.geometry c.in-Format.directory ending used old new) result used (λ r early. (early, Keeps-refl _))
     (λ all ending whole is. (whole, Keeps-refl _, is)) c.format_file.ensures.ended))
 
-pub returns-in-Serve-clause-ended : goal.returns-in-Serve-clause-ended
-returns-in-Serve-clause-ended g c =
+pub returns-in-OnDisk-clause-ended : goal.returns-in-OnDisk-clause-ended
+returns-in-OnDisk-clause-ended g c =
     let unread = g.R.Read.remaining c.args.reader.now in
-    let left = g.R.Read.remaining c.serve_file.new.reader in
+    let left = g.R.Read.remaining c.work_on_file.new.reader in
     let old = g.W.Write.contents c.args.writer.now in
-    let new = g.W.Write.contents c.serve_file.new.writer in
-    let task : Task = Serve c.in-Serve.path in
-    let result = c.serve_file.result.result in
-    let used = c.serve_file.result.disk in
-    subst (λ (t : Task). ComesOut t c.whole-in-Serve.result.result c.whole-in-Serve.result.disk unread left old new)
-    (sym c.in-Serve.is)
-    (subst (λ (w : _). ComesOut task w.result w.disk unread left old new) (sym c.whole-in-Serve.ensures)
+    let new = g.W.Write.contents c.work_on_file.new.writer in
+    let task : Task = OnDisk c.in-OnDisk.disk c.in-OnDisk.work in
+    let result = c.work_on_file.result.result in
+    let used = c.work_on_file.result.disk in
+    subst (λ (t : Task). ComesOut t c.whole-in-OnDisk.result.result c.whole-in-OnDisk.result.disk unread left old new)
+    (sym c.in-OnDisk.is)
+    (subst (λ (w : _). ComesOut task w.result w.disk unread left old new) (sym c.whole-in-OnDisk.ensures)
     (comes_whole task unread left old new (λ r. (r ≡ DeviceFault) × Keeps unread left)
-    (λ ending used. ServesFile ending used unread left old new) result used (λ r early. early)
-    (λ all ending whole is. (whole, is)) c.serve_file.ensures.ended))
-
-pub returns-in-Check-clause-ended : goal.returns-in-Check-clause-ended
-returns-in-Check-clause-ended g c =
-    let unread = g.R.Read.remaining c.args.reader.now in
-    let old = g.W.Write.contents c.args.writer.now in
-    let new = g.W.Write.contents c.check_file.new.writer in
-    let task : Task = Check c.in-Check.path in
-    let result = c.check_file.result.result in
-    let used = c.check_file.result.disk in
-    subst (λ (t : Task). ComesOut t c.whole-in-Check.result.result c.whole-in-Check.result.disk unread unread old new)
-    (sym c.in-Check.is)
-    (subst (λ (w : _). ComesOut task w.result w.disk unread unread old new) (sym c.whole-in-Check.ensures)
-    (comes_whole task unread unread old new (λ r. r ≡ DeviceFault)
-    (λ ending used. ChecksFile ending used old new) result used (λ r early. (early, Keeps-refl _))
-    (λ all ending whole is. (whole, Keeps-refl _, is)) c.check_file.ensures.ended))
-
-pub returns-in-Migrate-clause-ended : goal.returns-in-Migrate-clause-ended
-returns-in-Migrate-clause-ended g c =
-    let unread = g.R.Read.remaining c.args.reader.now in
-    let old = g.W.Write.contents c.args.writer.now in
-    let new = g.W.Write.contents c.migrate_file.new.writer in
-    let task : Task = Migrate c.in-Migrate.path in
-    let result = c.migrate_file.result.result in
-    let used = c.migrate_file.result.disk in
-    subst (λ (t : Task). ComesOut t c.whole-in-Migrate.result.result c.whole-in-Migrate.result.disk unread unread old new)
-    (sym c.in-Migrate.is)
-    (subst (λ (w : _). ComesOut task w.result w.disk unread unread old new) (sym c.whole-in-Migrate.ensures)
-    (comes_whole task unread unread old new (λ r. r ≡ DeviceFault)
-    (λ ending used. MigratesFile ending used old new) result used (λ r early. (early, Keeps-refl _))
-    (λ all ending whole is. (whole, Keeps-refl _, is)) c.migrate_file.ensures.ended))
+    (λ ending used. DoesOnFile c.in-OnDisk.work ending used unread left old new) result used (λ r early. early)
+    (λ all ending whole is. (whole, is)) c.work_on_file.ensures.ended))
 
 pub returns-in-Play-clause-ended : goal.returns-in-Play-clause-ended
 returns-in-Play-clause-ended g c =
@@ -129,85 +94,15 @@ returns-in-Sync-clause-ended g c =
     (λ all ending. SyncsTask c.in-Sync.synced all ending used old new) result used (λ r early. (early, Keeps-refl _))
     (λ all ending is. (Keeps-refl _, is)) c.sync.ensures.ended)
 
-pub returns-in-Export-clause-ended : goal.returns-in-Export-clause-ended
-returns-in-Export-clause-ended g c =
-    let unread = g.R.Read.remaining c.args.reader.now in
-    let old = g.W.Write.contents c.args.writer.now in
-    let new = g.W.Write.contents c.export_file.new.writer in
-    let task : Task = Export c.in-Export.path in
-    let result = c.export_file.result.result in
-    let used = c.export_file.result.disk in
-    subst (λ (t : Task). ComesOut t c.whole-in-Export.result.result c.whole-in-Export.result.disk unread unread old new)
-    (sym c.in-Export.is)
-    (subst (λ (w : _). ComesOut task w.result w.disk unread unread old new) (sym c.whole-in-Export.ensures)
-    (comes_whole task unread unread old new (λ r. r ≡ DeviceFault)
-    (λ ending used. ExportsFile ending used old new) result used (λ r early. (early, Keeps-refl _))
-    (λ all ending whole is. (whole, Keeps-refl _, is)) c.export_file.ensures.ended))
-
-pub returns-in-Inspect-clause-ended : goal.returns-in-Inspect-clause-ended
-returns-in-Inspect-clause-ended g c =
-    let unread = g.R.Read.remaining c.args.reader.now in
-    let old = g.W.Write.contents c.args.writer.now in
-    let new = g.W.Write.contents c.inspect_file.new.writer in
-    let task : Task = Inspect c.in-Inspect.disk c.in-Inspect.rate in
-    let result = c.inspect_file.result.result in
-    let used = c.inspect_file.result.disk in
-    subst (λ (t : Task). ComesOut t c.whole-in-Inspect.result.result c.whole-in-Inspect.result.disk unread unread old new)
-    (sym c.in-Inspect.is)
-    (subst (λ (w : _). ComesOut task w.result w.disk unread unread old new) (sym c.whole-in-Inspect.ensures)
-    (comes_whole task unread unread old new (λ r. r ≡ DeviceFault)
-    (λ ending used. InspectsFile c.in-Inspect.rate ending used old new) result used (λ r early. (early, Keeps-refl _))
-    (λ all ending whole is. (whole, Keeps-refl _, is)) c.inspect_file.ensures.ended))
-
-pub returns-in-Serve-clause-files : goal.returns-in-Serve-clause-files
-returns-in-Serve-clause-files g c =
+pub returns-in-OnDisk-clause-files : goal.returns-in-OnDisk-clause-files
+returns-in-OnDisk-clause-files g c =
     let old = g.M.System.System.calls c.args.host.now.system in
-    let new = g.M.System.System.calls c.serve_file.new.host.system in
-    let done = c.whole-in-Serve.result in
-    subst (λ (t : Task). UsesFor (fault_of done.result) t done.disk old new) (sym c.in-Serve.is)
-    (subst (λ (w : _). Opens [] c.in-Serve.path.now (fault_of w.result) w.disk old new)
-    (sym c.whole-in-Serve.ensures)
-    (opens_whole c.serve_file.result.result c.in-Serve.path.now c.serve_file.result.disk old new c.serve_file.ensures.files))
-
-pub returns-in-Check-clause-files : goal.returns-in-Check-clause-files
-returns-in-Check-clause-files g c =
-    let old = g.M.System.System.calls c.args.host.now.system in
-    let new = g.M.System.System.calls c.check_file.new.host.system in
-    let done = c.whole-in-Check.result in
-    subst (λ (t : Task). UsesFor (fault_of done.result) t done.disk old new) (sym c.in-Check.is)
-    (subst (λ (w : _). Opens [] c.in-Check.path.now (fault_of w.result) w.disk old new)
-    (sym c.whole-in-Check.ensures)
-    (opens_whole c.check_file.result.result c.in-Check.path.now c.check_file.result.disk old new c.check_file.ensures.files))
-
-pub returns-in-Migrate-clause-files : goal.returns-in-Migrate-clause-files
-returns-in-Migrate-clause-files g c =
-    let old = g.M.System.System.calls c.args.host.now.system in
-    let new = g.M.System.System.calls c.migrate_file.new.host.system in
-    let done = c.whole-in-Migrate.result in
-    subst (λ (t : Task). UsesFor (fault_of done.result) t done.disk old new) (sym c.in-Migrate.is)
-    (subst (λ (w : _). Opens [] c.in-Migrate.path.now (fault_of w.result) w.disk old new)
-    (sym c.whole-in-Migrate.ensures)
-    (opens_whole c.migrate_file.result.result c.in-Migrate.path.now c.migrate_file.result.disk old new c.migrate_file.ensures.files))
-
-pub returns-in-Export-clause-files : goal.returns-in-Export-clause-files
-returns-in-Export-clause-files g c =
-    let old = g.M.System.System.calls c.args.host.now.system in
-    let new = g.M.System.System.calls c.export_file.new.host.system in
-    let done = c.whole-in-Export.result in
-    subst (λ (t : Task). UsesFor (fault_of done.result) t done.disk old new) (sym c.in-Export.is)
-    (subst (λ (w : _). Opens [] c.in-Export.path.now (fault_of w.result) w.disk old new)
-    (sym c.whole-in-Export.ensures)
-    (opens_whole c.export_file.result.result c.in-Export.path.now c.export_file.result.disk old new c.export_file.ensures.files))
-
-pub returns-in-Inspect-clause-files : goal.returns-in-Inspect-clause-files
-returns-in-Inspect-clause-files g c =
-    let old = g.M.System.System.calls c.args.host.now.system in
-    let new = g.M.System.System.calls c.inspect_file.new.host.system in
-    let done = c.whole-in-Inspect.result in
-    subst (λ (t : Task). UsesFor (fault_of done.result) t done.disk old new) (sym c.in-Inspect.is)
-    (subst (λ (w : _). Opens [] c.in-Inspect.disk.now (fault_of w.result) w.disk old new)
-    (sym c.whole-in-Inspect.ensures)
-    (opens_whole c.inspect_file.result.result c.in-Inspect.disk.now c.inspect_file.result.disk old new c.inspect_file.ensures.files))
+    let new = g.M.System.System.calls c.work_on_file.new.host.system in
+    let done = c.whole-in-OnDisk.result in
+    subst (λ (t : Task). UsesFor (fault_of done.result) t done.disk old new) (sym c.in-OnDisk.is)
+    (subst (λ (w : _). Opens [] c.in-OnDisk.disk.now (fault_of w.result) w.disk old new)
+    (sym c.whole-in-OnDisk.ensures)
+    (opens_whole c.work_on_file.result.result c.in-OnDisk.disk.now c.work_on_file.result.disk old new c.work_on_file.ensures.files))
 
 pub returns-in-Memory-clause-files : goal.returns-in-Memory-clause-files
 returns-in-Memory-clause-files g c =
@@ -235,36 +130,6 @@ pub returns-in-Sync-clause-files : goal.returns-in-Sync-clause-files
 returns-in-Sync-clause-files g c =
     subst (λ (t : Task). UsesFor (fault_of c.sync.result.result) t c.sync.result.disk
     (g.M.System.System.calls c.args.host.now.system) (g.M.System.System.calls c.sync.new.host.system)) (sym c.in-Sync.is) c.sync.ensures.opens
-
-pub returns-in-ListObjects-clause-ended : goal.returns-in-ListObjects-clause-ended
-returns-in-ListObjects-clause-ended g c =
-    let unread = g.R.Read.remaining c.args.reader.now in
-    let old = g.W.Write.contents c.args.writer.now in
-    let new = g.W.Write.contents c.list_file.new.writer in
-    let task : Task = ListObjects c.in-ListObjects.path in
-    let result = c.list_file.result.result in
-    let used = c.list_file.result.disk in
-    subst (λ (t : Task). ComesOut t c.whole-in-ListObjects.result.result c.whole-in-ListObjects.result.disk unread unread old new)
-    (sym c.in-ListObjects.is)
-    (subst (λ (w : _). ComesOut task w.result w.disk unread unread old new) (sym c.whole-in-ListObjects.ensures)
-    (comes_whole task unread unread old new (λ r. r ≡ DeviceFault)
-    (λ ending used. ListsFile ending used old new) result used (λ r early. (early, Keeps-refl _))
-    (λ all ending whole is. (whole, Keeps-refl _, is)) c.list_file.ensures.ended))
-
-pub returns-in-GetBody-clause-ended : goal.returns-in-GetBody-clause-ended
-returns-in-GetBody-clause-ended g c =
-    let unread = g.R.Read.remaining c.args.reader.now in
-    let old = g.W.Write.contents c.args.writer.now in
-    let new = g.W.Write.contents c.get_file.new.writer in
-    let task : Task = GetBody c.in-GetBody.disk c.in-GetBody.name in
-    let result = c.get_file.result.result in
-    let used = c.get_file.result.disk in
-    subst (λ (t : Task). ComesOut t c.whole-in-GetBody.result.result c.whole-in-GetBody.result.disk unread unread old new)
-    (sym c.in-GetBody.is)
-    (subst (λ (w : _). ComesOut task w.result w.disk unread unread old new) (sym c.whole-in-GetBody.ensures)
-    (comes_whole task unread unread old new (λ r. r ≡ DeviceFault)
-    (λ ending used. GetsFile c.in-GetBody.name.now ending used old new) result used (λ r early. (early, Keeps-refl _))
-    (λ all ending whole is. (whole, Keeps-refl _, is)) c.get_file.ensures.ended))
 
 pub returns-in-WithdrawNames-clause-ended : goal.returns-in-WithdrawNames-clause-ended
 returns-in-WithdrawNames-clause-ended g c =
@@ -308,26 +173,6 @@ returns-in-WithdrawNames-clause-files g c =
     subst (λ (t : Task). UsesFor (fault_of c.withdraw_file.result.result) t
     c.withdraw_file.result.disk (g.M.System.System.calls c.args.host.now.system) (g.M.System.System.calls c.withdraw_file.new.host.system))
     (sym c.in-WithdrawNames.is) c.withdraw_file.ensures.files
-
-pub returns-in-ListObjects-clause-files : goal.returns-in-ListObjects-clause-files
-returns-in-ListObjects-clause-files g c =
-    let old = g.M.System.System.calls c.args.host.now.system in
-    let new = g.M.System.System.calls c.list_file.new.host.system in
-    let done = c.whole-in-ListObjects.result in
-    subst (λ (t : Task). UsesFor (fault_of done.result) t done.disk old new) (sym c.in-ListObjects.is)
-    (subst (λ (w : _). Opens [] c.in-ListObjects.path.now (fault_of w.result) w.disk old new)
-    (sym c.whole-in-ListObjects.ensures)
-    (opens_whole c.list_file.result.result c.in-ListObjects.path.now c.list_file.result.disk old new c.list_file.ensures.files))
-
-pub returns-in-GetBody-clause-files : goal.returns-in-GetBody-clause-files
-returns-in-GetBody-clause-files g c =
-    let old = g.M.System.System.calls c.args.host.now.system in
-    let new = g.M.System.System.calls c.get_file.new.host.system in
-    let done = c.whole-in-GetBody.result in
-    subst (λ (t : Task). UsesFor (fault_of done.result) t done.disk old new) (sym c.in-GetBody.is)
-    (subst (λ (w : _). Opens [] c.in-GetBody.disk.now (fault_of w.result) w.disk old new)
-    (sym c.whole-in-GetBody.ensures)
-    (opens_whole c.get_file.result.result c.in-GetBody.disk.now c.get_file.result.disk old new c.get_file.ensures.files))
 
 pub returns-in-Copy-clause-ended : goal.returns-in-Copy-clause-ended
 returns-in-Copy-clause-ended g c =

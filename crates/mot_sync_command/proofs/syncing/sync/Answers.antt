@@ -1,22 +1,28 @@
-use Rattle.std.proofs.Common.{[], ◌∷◌, ◌++◌, ◌≡◌, inl, inr, subst, sym}
+use Rattle.std.proofs.Common.{ℕ, Bool, List, Option, ◌≡◌, ◌∙◌, [], ◌∷◌, ap, false, inl, inr, refl, subst, sym, true}
 use Rattle.std.proofs.KnownBytes.{Keeps-refl}
-use Rattle.mot_outcome.proofs.Laws.{concludes_more}
-use Rattle.mot_outcome.proofs.Laws.{begun_first, opened_after}
-use Rattle.mot_sync_command.proofs.syncing.sync.Goals as goal
-use Rattle.mot_sync_command.specs.Commands.{IsUnsynced, SyncsTask, SyncsTo}
-use Rattle.mot_outcome.specs.Outcome.{Concludes}
+use Rattle.std.specs.Result.{result_unwrap_or}
+use Rattle.disk_model.specs.Disk.{KeepsLength, State}
+use Rattle.disk_store.proofs.Laws.{since_opened}
+use Rattle.disk_store.specs.Begun.{begun_state}
 use Rattle.mot_endpoints.specs.Opened.{Need, if_given}
-use Rattle.mot_numbers.specs.declared.refusal.Refusal.TheVariants.{DeviceFault}
-use Rattle.mot_outcome.specs.Outcome.{Opens}
+use Rattle.mot_numbers.specs.declared.refusal.Refusal.{Refusal}
+use Rattle.mot_outcome.proofs.Laws.{begun_first, both_met, concludes_so}
+use Rattle.mot_outcome.specs.Outcome.{Concludes, Opens}
+use Rattle.mot_outcome.specs.declared.used.UsedDisk.TheVariants.{OfFile}
 use Rattle.mot_playout.specs.Attempts.{fault_of}
+use Rattle.mot_shelf.specs.View.{FolderView, folder_at}
+use Rattle.mot_suffixes.specs.Types.{SuffixType}
+use Rattle.mot_sync_command.proofs.syncing.sync.Goals as goal
+use Rattle.mot_sync_command.specs.Commands.{IsUnsynced, SyncsBy, SyncsTask, synced_with}
 
-pub returns-in-Ok-clause-opens : goal.returns-in-Ok-clause-opens
-returns-in-Ok-clause-opens g c =
-    let calls = g.M.System.System.calls in
-    opened_after (if_given Need.types c.args.task.now.types) (Need.folder c.args.task.now.folder.now ∷ [])
-    c.args.task.now.disk.now (λ opened now. now ≡ opened) (fault_of c.sync_file.result.result)
-    c.sync_file.result.disk (calls c.args.host.now.system) (calls c.file_types.new.host.system)
-    (calls c.sync_file.new.host.system) c.in-Ok.ensures.opens c.sync_file.ensures.opens
+-- whichever it was, the disk is as long as before
+keeps_by : (dry_run : Bool) (table : List SuffixType) (allows : Bool)
+    (folder then_folder : FolderView) (start now : State) (all : Bool) (ending : Option Refusal)
+    (old new : Option (List ℕ))
+    → SyncsBy dry_run table allows folder then_folder start now all ending old new
+    → KeepsLength start now
+keeps_by false table allows folder then_folder start now all ending old new is = is.keeps
+keeps_by true table allows folder then_folder start now all ending old new is = is.0.keeps
 
 pub returns-in-Err-clause-opens : goal.returns-in-Err-clause-opens
 returns-in-Err-clause-opens g c =
@@ -24,21 +30,9 @@ returns-in-Err-clause-opens g c =
     let others = Need.folder c.args.task.now.folder.now ∷ [] in
     let old = g.M.System.System.calls c.args.host.now.system in
     let new = g.M.System.System.calls c.file_types.new.host.system in
-    subst (λ (f : _). Opens (types ++ others) c.args.task.now.disk.now (fault_of f.result) f.disk old new)
+    subst (λ (f : _). Opens (synced_with c.args.task.now) c.args.task.now.disk.now (fault_of f.result) f.disk old new)
     (sym c.unbegun.ensures)
     (inl (begun_first types others old new c.in-Err.unbegun.refusal c.in-Err.ensures.opens))
-
-pub returns-in-Ok-clause-ended : goal.returns-in-Ok-clause-ended
-returns-in-Ok-clause-ended g c =
-    let task = c.args.task.now in
-    let used = c.sync_file.result.disk in
-    let old = g.W.Write.contents c.args.log.now in
-    let new = g.W.Write.contents c.sync_file.new.log in
-    concludes_more (λ r. r ≡ DeviceFault) (IsUnsynced task.types)
-    (λ all ending. SyncsTo c.in-Ok.types task all ending old new used)
-    (λ all ending. SyncsTask task all ending used old new) used old new
-    c.sync_file.result.result (λ r early. inr early)
-    (λ all ending syncs. (c.in-Ok.types, c.in-Ok.ensures.typed, syncs)) c.sync_file.ensures.ended
 
 pub returns-in-Err-clause-ended : goal.returns-in-Err-clause-ended
 returns-in-Err-clause-ended g c =
@@ -48,3 +42,82 @@ returns-in-Err-clause-ended g c =
     SyncsTask task all ending f.disk old old) f.result f.disk old old)
     (sym c.unbegun.ensures)
     (inl (inl c.in-Err.ensures.refused, record { untouched = tt; silent = Keeps-refl _ }))
+
+pub returns-in-Ok-disk-clause-ended : goal.returns-in-Ok-disk-clause-ended
+returns-in-Ok-disk-clause-ended g c =
+    let opens = c.in-Ok-disk.ensures in
+    let ended = c.sync_shelf-ended.result.0 in
+    let types = c.in-Ok.types in
+    let task = c.args.task.now in
+    let allows = task.rules.allow_empty in
+    let at = folder_at task.folder.now task.rules.at_once [] in
+    let old = g.W.Write.contents c.args.log.now in
+    let new = g.W.Write.contents c.sync_shelf-ended.new.log in
+    let all = result_unwrap_or ended.result false in
+    let ending = fault_of ended.result in
+    let after = c.sync_shelf-ended.ensures.0 in
+    let calls = c.sync_shelf-ended.ensures.1 in
+    let is = c.sync_shelf-ended.ensures.2 in
+    let used = OfFile ended.disk.disk c.folder.result in
+    subst (λ (f : _). Concludes (IsUnsynced task.types) (λ all ending.
+    SyncsTask task all ending f.disk old new) f.result f.disk old new)
+    (sym c.of_file.ensures)
+    (concludes_so _ (λ all ending. SyncsTask task all ending used old new) used old new
+    ended.result (
+      types,
+      c.in-Ok.ensures.typed,
+      (
+        after,
+        calls ∙ ap (λ (b : _). b.all) (sym c.folder.ensures),
+        since_opened c.in-Ok-disk.disk.disk ended.disk.disk
+            (λ start now. SyncsBy task.dry_run types allows at after start now all ending old new)
+            opens.first ended.disk.begins
+            (keeps_by task.dry_run types allows _ after _ _ all ending old new is)
+            (subst (λ (f : FolderView). SyncsBy task.dry_run types allows f after
+            (begun_state c.in-Ok-disk.disk) (begun_state ended.disk) all ending old new)
+            c.folder-shelf.ensures.view is),
+      ),
+    ))
+
+pub returns-in-Err-disk-clause-ended : goal.returns-in-Err-disk-clause-ended
+returns-in-Err-disk-clause-ended g c =
+    let task = c.args.task.now in
+    let old = g.W.Write.contents c.args.log.now in
+    subst (λ (f : _). Concludes (IsUnsynced task.types) (λ all ending.
+    SyncsTask task all ending f.disk old old) f.result f.disk old old)
+    (sym c.unopened.ensures)
+    (inl (inr refl, record { untouched = tt; silent = Keeps-refl _ }))
+
+pub returns-in-Ok-disk-clause-opens : goal.returns-in-Ok-disk-clause-opens
+returns-in-Ok-disk-clause-opens g c =
+    let calls = g.M.System.System.calls in
+    let task = c.args.task.now in
+    let then = calls c.folder-shelf.new.self.system in
+    subst (λ (f : _). Opens (synced_with task) task.disk.now (fault_of f.result) f.disk
+    (calls c.args.host.now.system) (calls c.clear_after.new.host.system))
+    (sym c.of_file.ensures) (
+      then,
+      both_met (if_given Need.types task.types) (Need.folder task.folder.now ∷ [])
+          (calls c.args.host.now.system) (calls c.file_types.new.host.system) then
+          c.in-Ok.ensures.opens (then, c.folder-shelf.ensures.calls, refl),
+      ap calls c.clear_after.ensures ∙ c.in-Ok-disk.ensures.calls,
+    )
+
+pub returns-in-Err-disk-clause-opens : goal.returns-in-Err-disk-clause-opens
+returns-in-Err-disk-clause-opens g c =
+    let calls = g.M.System.System.calls in
+    let task = c.args.task.now in
+    let then = calls c.folder-shelf.new.self.system in
+    subst (λ (f : _). Opens (synced_with task) task.disk.now (fault_of f.result) f.disk
+    (calls c.args.host.now.system) (calls c.disk.new.self.system))
+    (sym c.unopened.ensures)
+    (inr (
+      refl,
+      (
+        then,
+        both_met (if_given Need.types task.types) (Need.folder task.folder.now ∷ [])
+            (calls c.args.host.now.system) (calls c.file_types.new.host.system) then c.in-Ok.ensures.opens
+            (then, c.folder-shelf.ensures.calls, refl),
+        c.in-Err-disk.ensures.calls,
+      ),
+    ))

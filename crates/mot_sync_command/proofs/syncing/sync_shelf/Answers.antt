@@ -1,6 +1,6 @@
 use Rattle.std.proofs.Common.{◌≡◌, ◌∙◌, Bool, List, ap, false, subst, sym}
 use Rattle.std.specs.Result.{result_unwrap_or}
-use Rattle.mot_sync_command.specs.Syncing.{Syncs}
+use Rattle.mot_sync_command.specs.Commands.{SyncsBy}
 use Rattle.mot_sync_command.proofs.syncing.sync_shelf.Goals as goal
 use Rattle.mot_playout.specs.Attempts.{fault_of}
 use Rattle.mot_shelf.specs.Reader.{view}
@@ -17,18 +17,18 @@ told P t u a b f h types allows folder is =
 
 pub returns : goal.returns
 returns g c =
-    let ended = c.sync_disk-ended.result in
+    let ended = c.sync_or_try-ended.result in
     let folder = c.new-folder.result in
-    let after = view g.Y.System.calls c.sync_disk-ended.new.folder.shelf in (
+    let after = view g.Y.System.calls c.sync_or_try-ended.new.folder.shelf in (
       after,
       sym (c.into_calls.ensures ∙ ap g.Y.System.calls c.into_system.ensures),
-      told (λ ts al at. Syncs ts al at after (g.D.Disk.state c.args.disk)
+      told (λ ts al at. SyncsBy c.args.task.now.dry_run ts al at after (g.D.Disk.state c.args.disk)
           (g.D.Disk.state ended.disk) (result_unwrap_or ended.result false)
           (fault_of ended.result) (g.W.Write.contents c.args.log.now)
-          (g.W.Write.contents c.sync_disk-ended.new.log))
-          folder.types.now c.args.types.now folder.allows_empty c.args.allows_empty
+          (g.W.Write.contents c.sync_or_try-ended.new.log))
+          folder.types.now c.args.types.now folder.allows_empty c.args.task.now.rules.allow_empty
           (view g.Y.System.calls folder.shelf) (view g.Y.System.calls c.args.shelf)
           c.new-folder.ensures.types c.new-folder.ensures.allows
           (ap (view g.Y.System.calls) c.new-folder.ensures.shelf)
-          c.sync_disk-ended.ensures,
+          c.sync_or_try-ended.ensures,
     )

@@ -1,4 +1,4 @@
-use Rattle.mot_commands.proofs.finishing.finish.Goals as goal
+use Rattle.mot_commands.proofs.working.finish.Goals as goal
 
 pub returns-clause-ended : goal.returns-clause-ended
 returns-clause-ended g c = (c.nothing.result, c.of_file.ensures)
