@@ -58,18 +58,16 @@ PROMISES = [
         ("mot_session", "serve_and_restart", ""), ("mot_session", "serve_line_and_restart", ""), ("mot_playout", "run_and_restart", ""), ("mot_playout", "format_and_restart", ""),
     ]),
     ("The program", [
-        ("mot_cli", "task_of", ""), ("mot_commands", "format_file", ""), ("mot_commands", "serve_file", ""),
-        ("mot_commands", "check_file", ""), ("mot_commands", "migrate_file", ""), ("mot_commands", "serve_memory", ""),
-        ("mot_commands", "list_file", ""), ("mot_commands", "put", ""), ("mot_commands", "withdraw_file", ""),
-        ("mot_commands", "get_file", ""), ("mot_copy_command", "copy_file", ""),
+        ("mot_cli", "task_of", ""), ("mot_commands", "format_file", ""), ("mot_commands", "work_on_file", ""),
+        ("mot_commands", "serve_memory", ""), ("mot_commands", "put", ""), ("mot_commands", "withdraw_file", ""),
+        ("mot_copy_command", "copy_file", ""),
     ]),
     ("On the air", [
         ("mot_update", "update_laws", ""), ("mot_update", "look", ""), ("mot_listening", "listening_laws", ""),
         ("mot_feed", "feed", ""), ("mot_feed", "feed_often", ""), ("mot_feed", "feed_every", ""), ("mot_folder", "look_at_folder", ""), ("mot_suffixes", "FileTypes::new", ""),
         ("mot_suffixes", "FileTypes::add", ""), ("mot_suffixes", "FileTypes::of_name", ""), ("mot_endpoints", "file_types", ""),
         ("mot_feed_lines", "answer_there", ""), ("mot_feed_lines", "Lines::new", ""), ("mot_feed_lines", "Lines::update", ""),
-        ("mot_air", "play", ""), ("mot_sync_command", "sync", ""), ("mot_commands", "export_file", ""),
-        ("mot_commands", "inspect_file", ""), ("mot_air", "play_disk", ""),
+        ("mot_air", "play", ""), ("mot_sync_command", "sync", ""), ("mot_air", "play_disk", ""),
         ("mot_air", "play_and_answer", ""), ("mot_sync_command", "sync_disk", ""), ("mot_export", "export_disk", ""), ("mot_export", "inspect_disk", ""),
     ]),
     ("Any command", [
