@@ -3,7 +3,6 @@ ghost use Rattle.std.specs.Prelude.{codes};
 ghost use Rattle.clap.specs.Words.{found_of, rows_of};
 ghost use Rattle.mot_cli.specs.Given.{NameWord};
 ghost use Rattle.mot_cli.specs.Task.{IsTask};
-ghost use Rattle.mot_cli.specs.declared.task.Task.{Task};
 ghost use Rattle.mot_cli.specs.Inner.Found.{Finds};
 
 use crate::given::word_of;

@@ -1,10 +1,8 @@
 //! The numbers of the command line.
 ghost use Rattle.std.specs.Prelude.{◌≡◌};
 ghost use Rattle.clap.specs.Words.{found_of, rows_of};
-ghost use Rattle.mot_numbers.specs.declared.geometry.Geometry.{Geometry};
 ghost use Rattle.mot_cli.specs.Options.{AreGiven, GiveDirectory, GiveGeometry, GiveLastId, field_in};
 ghost use Rattle.mot_cli.specs.Options.{last_id};
-ghost use Rattle.mot_cli.specs.declared.options.Options.{Options};
 ghost use Rattle.mot_cli.specs.Inner.Found.{Finds};
 
 use crate::given::number_of;

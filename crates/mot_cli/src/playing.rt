@@ -4,8 +4,6 @@ ghost use Rattle.clap.specs.Words.{found_of, rows_of};
 ghost use Rattle.mot_cli.specs.Given.{NameWord};
 ghost use Rattle.mot_cli.specs.Inner.Played.{ArePlayNumbers};
 ghost use Rattle.mot_cli.specs.Task.{AreRules, GiveRate, IsTask, is_rate};
-ghost use Rattle.mot_cli.specs.declared.playing.PlayNumbers.{PlayNumbers};
-ghost use Rattle.mot_cli.specs.declared.task.Task.{Task};
 ghost use Rattle.mot_cli.specs.Inner.Found.{Finds};
 
 use crate::given::{is_set, number_of, option_of, word_of};

@@ -12,10 +12,7 @@ pub fn write_bytes<W: Write>(writer: &mut W, bytes: &[u8]) -> Result<(), Refusal
     ensures { Prints (fault_of result) bytes.now
         (W.contents writer.old) (W.contents writer.new) }
 {
-    match write_whole(writer, bytes) {
-        Ok(()) => Ok(()),
-        Err(_) => Err(Refusal::WriteFault),
-    }
+    write_whole(writer, bytes).map_err(|_| Refusal::WriteFault)
 }
 
 /// Writes the end of what is printed, and hands all of it on.
@@ -24,10 +21,7 @@ pub fn write_last<W: Write>(writer: &mut W, bytes: &[u8]) -> Result<(), Refusal>
         (W.contents writer.old) (W.contents writer.new) }
 {
     write_bytes(writer, bytes)?;
-    match writer.flush() {
-        Ok(()) => Ok(()),
-        Err(_) => Err(Refusal::WriteFault),
-    }
+    writer.flush().map_err(|_| Refusal::WriteFault)
 }
 
 /// Writes a line of these bytes and a number in decimal digits, and hands all of it on.

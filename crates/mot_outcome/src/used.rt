@@ -1,13 +1,10 @@
 //! The disk that a task worked on, as it is left.
-ghost use Rattle.std.specs.Prelude.{◌≡◌, Err, None, Some, option_map};
-ghost use Rattle.mot_endpoints.specs.declared.fault.Cause.TheVariants.{Disk, NewDisk};
-ghost use Rattle.mot_endpoints.specs.declared.fault.NewDiskFault.TheVariants as NewDiskFault;
+ghost use Rattle.std.specs.Prelude.{◌≡◌, Err, None, Some};
+ghost use Rattle.mot_endpoints.specs.declared.fault.Cause.TheVariants.{Disk};
 ghost use Rattle.mot_numbers.specs.declared.refusal.Refusal.TheVariants.{DeviceFault};
 ghost use Rattle.mot_outcome.specs.declared.used.UsedDisk.TheVariants.{OfFile, Untouched};
 
-use disk_store::{
-    Beginning, BegunFile, FileDiskFrom, OpenFault, RamDisk, SecondDisk, Start, Unopened,
-};
+use disk_store::{Beginning, BegunFile, FileDiskFrom, RamDisk, SecondDisk, Start, Unopened};
 use mot_endpoints::{Cause, NewDiskFault};
 use mot_files::CallLog;
 use mot_journal::Reason;
@@ -42,7 +39,10 @@ impl<S: Start> UsedDisk<S> {
             UsedDisk::OfCopy(from, None) => from.fault().map(Cause::Disk),
             UsedDisk::OfCopy(from, Some(to)) => match from.fault() {
                 Some(fault) => Some(Cause::Disk(fault)),
-                None => new_cause(to.fault()),
+                None => {
+                    let fault = to.fault().map(NewDiskFault::Disk);
+                    fault.map(Cause::NewDisk)
+                }
             },
             _ => None,
         }
@@ -54,16 +54,6 @@ impl<S: Start> UsedDisk<S> {
             UsedDisk::OfCopy(_, Some(_)) => "NEW",
             _ => "DISK",
         }
-    }
-}
-
-/// Why a call on the file of a copy failed, as a cause.
-fn new_cause(fault: Option<OpenFault>) -> Option<Cause>
-    ensures { result ≡ option_map (λ fault. NewDisk (NewDiskFault.Disk fault)) fault }
-{
-    match fault {
-        Some(fault) => Some(Cause::NewDisk(NewDiskFault::Disk(fault))),
-        None => None,
     }
 }
 

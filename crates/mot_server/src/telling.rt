@@ -60,13 +60,8 @@ pub(crate) fn conclude<B: Start, E: Write>(
       disk = finished.disk;
     } }
 {
-    let Finished {
-        result,
-        disk,
-        cause,
-        reason,
-    } = finished;
-    match result {
+    let (disk, cause) = (finished.disk, finished.cause);
+    match finished.result {
         Ok(true) => {
             tell_disk(errors, words, disk.fault());
             Exit::unrefused(0, disk)
@@ -77,7 +72,7 @@ pub(crate) fn conclude<B: Start, E: Write>(
         }
         Err(refusal) => {
             let cause = cause_of(refusal, cause, &disk);
-            let subject = subject_of(refusal, words, cause, disk.word(), reason);
+            let subject = subject_of(refusal, words, cause, disk.word(), finished.reason);
             refuse(errors, has_levels(words), refusal, subject, disk)
         }
     }
