@@ -2,6 +2,7 @@
 ghost use Rattle.std.specs.Prelude.{false};
 ghost use Rattle.std.specs.Result.{result_unwrap_or};
 ghost use Rattle.mot_sync_command.specs.Commands.{SyncsBy};
+ghost use Rattle.mot_sync_command.specs.Trying.{Tries};
 ghost use Rattle.mot_playout.specs.Attempts.{fault_of};
 ghost use Rattle.mot_shelf.specs.Reader.{view};
 
@@ -14,8 +15,7 @@ use mot_update::Ended;
 use std::alloc::Global;
 use std::io::Write;
 
-/// Makes the carousel of the disk equal to the folder, as `sync_disk` does; or in a dry run that of a
-/// copy of the disk, which itself is only synced and read.
+/// Makes the carousel of the disk equal to the folder, or in a dry run that of a copy of it.
 pub(crate) fn sync_or_try<S: System + Drop, D: Disk, L: Write>(
     alloc: Global,
     disk: D,
@@ -29,14 +29,33 @@ pub(crate) fn sync_or_try<S: System + Drop, D: Disk, L: Write>(
         (result_unwrap_or result.result false) (fault_of result.result)
         (L.contents log.old) (L.contents log.new) }
 {
-    if !dry_run {
-        return sync_disk(alloc, disk, folder, log);
+    if dry_run {
+        try_disk(alloc, disk, folder, log)
+    } else {
+        sync_disk(alloc, disk, folder, log)
     }
+}
+
+/// Makes the carousel of a copy of the disk equal to the folder, as `sync_disk` does. The disk itself
+/// is only synced and read.
+fn try_disk<S: System + Drop, D: Disk, L: Write>(
+    alloc: Global,
+    disk: D,
+    folder: &mut Folder<'_, S>,
+    log: &mut L,
+) -> Ended<D, bool>
+    ensures { Tries folder.old.types.now folder.old.allows_empty
+        (view S.calls folder.old.shelf) (view S.calls folder.new.shelf)
+        (D.state disk) (D.state result.disk)
+        (result_unwrap_or result.result false) (fault_of result.result)
+        (L.contents log.old) (L.contents log.new) }
+{
     let (disk, copy) = match copy_disk(alloc, disk) {
         Ok(both) => both,
         Err(ended) => return ended,
     };
-    let Ended { result, .. } = sync_disk(alloc, copy, folder, log);
+    let tried = sync_disk(alloc, copy, folder, log);
+    let Ended { result, .. } = tried;
     Ended {
         disk,
         result,

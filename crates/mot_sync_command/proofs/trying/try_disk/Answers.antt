@@ -4,16 +4,16 @@ use Rattle.std.specs.Prelude.{IsSomeAnd}
 use Rattle.mot_numbers.specs.declared.refusal.Refusal.{Refusal}
 use Rattle.mot_playout.specs.Attempts.{fault_of}
 use Rattle.mot_sync_command.specs.Trying.{IsUncopied}
-use Rattle.mot_sync_command.proofs.trying.sync_or_try.Goals as goal
+use Rattle.mot_sync_command.proofs.trying.try_disk.Goals as goal
 
 pub returns : goal.returns
 returns g c = (
   c.in-Ok.ensures.only_syncs,
   inr (record {
     first = c.in-Ok.both.1;
-    last = c.sync_disk-result.result.disk;
+    last = c.sync_disk-tried.result.disk;
     copy = c.in-Ok.ensures.copied;
-    synced = c.sync_disk-result.ensures;
+    synced = c.sync_disk-tried.ensures;
   }),
 )
 
