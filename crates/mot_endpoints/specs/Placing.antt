@@ -43,6 +43,20 @@ abbrev pub is_answer_of : Seen → Result Seen Fault → Bool
 is_answer_of seen (Ok found) = (found.device == seen.device) && (found.number == seen.number)
 is_answer_of seen (Err fault) = false
 
+-- whether a path leads to the file that was seen
+abbrev pub LeadsTo : (path : List ℕ) (seen : Seen) → Bool → (old new : List Call) → Type 0
+LeadsTo path seen is old new = (answer : Result Seen Fault)
+    × (new ≡ old ++ followed path answer ∷ []) × (is ≡ is_answer_of seen answer)
+
+-- The second is done with the value of the first, if the first gave one.
+pub data Then {A B E : Type 0} (First : Result A E → (old new : List Call) → Type 0)
+    (Second : A → Result B E → (old new : List Call) → Type 0) (result : Result B E)
+    (old new : List Call) : Type 0 where
+  refused : (fault : E) → result ≡ Err fault → First (Err fault) old new
+      → Then First Second result old new
+  both : (value : A) (mid : List Call) → First (Ok value) old mid → Second value result mid new
+      → Then First Second result old new
+
 -- Whether a regular file stands at the path. What is none, and no link is one, is refused, and so
 -- is the disk.
 pub data Finds (path disk : List ℕ) (result : Result Bool PacketsFault) (old new : List Call) :

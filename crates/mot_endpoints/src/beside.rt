@@ -2,7 +2,7 @@
 ghost use Rattle.std.specs.Prelude.{◌≡◌, ◌∷◌, ◌++◌, [], Result};
 ghost use Rattle.std.specs.Path.{path_file_name};
 ghost use Rattle.mot_endpoints.specs.Names.{IsOfDisk, IsSameFolder, folder_of, is_store_name};
-ghost use Rattle.mot_endpoints.specs.Placing.{is_answer_of};
+ghost use Rattle.mot_endpoints.specs.Placing.{LeadsTo};
 ghost use Rattle.mot_devices.specs.Beside.{is_store_end};
 ghost use Rattle.mot_files.specs.Call.{followed};
 ghost use Rattle.mot_files.specs.declared.system.Fault.{Fault};
@@ -70,9 +70,7 @@ fn is_same_folder<S: System>(system: &mut S, path: &str, other: &str) -> bool
 
 /// Whether the path leads to the file that was seen.
 pub fn leads_to<S: System>(system: &mut S, path: &str, seen: &Seen) -> bool
-    ensures { (answer : Result Seen Fault) × (S.calls system.new
-        ≡ S.calls system.old ++ followed path.now answer ∷ [])
-        × (result ≡ is_answer_of seen.now answer) }
+    ensures { LeadsTo path.now seen.now result (S.calls system.old) (S.calls system.new) }
 {
     match system.follow(path) {
         Ok(found) => found.device == seen.device && found.number == seen.number,

@@ -1,12 +1,12 @@
 //! Which folder lines may come from while a disk is played.
 ghost use Rattle.std.specs.Prelude.{◌≡◌, ◌↔◌, IfErr, IfOk, IfSome, IsTrue, MatchResult, Ok};
 ghost use Rattle.std.specs.Prelude.{[], is_none, option_map, unwrap_or};
-ghost use Rattle.mot_endpoints.specs.LinePlaces.{ChecksLines, IsApart, IsApartFrom, IsObjects};
-ghost use Rattle.mot_endpoints.specs.LinePlaces.{IsRefused, IsUnresolved, LeadsInto, PacketsApart};
-ghost use Rattle.mot_endpoints.specs.LinePlaces.{StandsIn, TypesApart};
+ghost use Rattle.mot_endpoints.specs.LinePlaces.{ChecksLines, IfGiven, IsApart, IsApartFrom};
+ghost use Rattle.mot_endpoints.specs.LinePlaces.{IsElsewhere, IsRefused, IsUnresolved, PacketsApart};
 ghost use Rattle.mot_endpoints.specs.Lines.{IsUnlined};
 ghost use Rattle.mot_endpoints.specs.Opened.{AreMet, BeginsTo, if_given};
 ghost use Rattle.mot_endpoints.specs.Opened.Need.{lines as lines_at};
+ghost use Rattle.mot_endpoints.specs.declared.fault.LinesFault.{LinesFault};
 ghost use Rattle.mot_files.specs.declared.system.Kind.TheVariants.{Folder};
 ghost use Rattle.mot_line_folder.specs.declared.folder.LineFolder.{LineFolder};
 
@@ -124,25 +124,30 @@ fn check_others<S: System>(
     ensures { IsApartFrom others.entry folder.now result (S.calls system.old)
         (S.calls system.new) }
 {
-    if is_objects(system, folder, others.objects) {
-        return Err(LinesFault::HasObjects);
+    if let Err(why) = check_objects(system, folder, others.objects) {
+        return Err(why);
     }
-    if let Err(fault) = check_apart(system, folder, others.disk, LinesFault::HasDisk) {
-        return Err(fault);
+    if let Err(why) = check_apart(system, folder, others.disk, LinesFault::HasDisk) {
+        return Err(why);
     }
-    if let Err(fault) = check_packets(system, folder, others.packets) {
-        return Err(fault);
+    if let Err(why) = check_packets(system, folder, others.packets) {
+        return Err(why);
     }
     check_types(system, folder, others.types)
 }
 
-/// Whether it is the folder of the objects, if one is given.
-fn is_objects<S: System>(system: &mut S, folder: &Seen, objects: Option<&str>) -> bool
-    ensures { IsObjects folder.now objects.entry result (S.calls system.old) (S.calls system.new) }
+/// Refuses the folder if it is that of the objects, if one is given.
+fn check_objects<S: System>(
+    system: &mut S,
+    folder: &Seen,
+    objects: Option<&str>,
+) -> Result<(), LinesFault>
+    ensures { IfGiven (IsElsewhere folder.now LinesFault.HasObjects) objects.entry result
+        (S.calls system.old) (S.calls system.new) }
 {
     match objects {
-        Some(objects) => leads_to(system, objects, folder),
-        None => false,
+        Some(objects) => check_elsewhere(system, folder, objects, LinesFault::HasObjects),
+        None => Ok(()),
     }
 }
 
@@ -162,7 +167,8 @@ fn check_types<S: System>(
     folder: &Seen,
     types: Option<&str>,
 ) -> Result<(), LinesFault>
-    ensures { TypesApart folder.now types.entry result (S.calls system.old) (S.calls system.new) }
+    ensures { IfGiven (IsApart folder.now LinesFault.HasTypes) types.entry result
+        (S.calls system.old) (S.calls system.new) }
 {
     match types {
         Some(types) => check_apart(system, folder, types, LinesFault::HasTypes),
@@ -170,53 +176,50 @@ fn check_types<S: System>(
     }
 }
 
-/// Refuses a path if it stands in the folder.
+/// Refuses a path if what it names stands in the folder, or would; or, of a link, what it leads to.
 fn check_apart<S: System>(
     system: &mut S,
     folder: &Seen,
     path: &str,
     why: LinesFault,
 ) -> Result<(), LinesFault>
-    ensures { IsApart folder.now path.now why result (S.calls system.old) (S.calls system.new) }
+    ensures { IsApart folder.now why path.now result (S.calls system.old) (S.calls system.new) }
 {
-    match stands_in(system, folder, path) {
-        Ok(true) => Err(why),
-        Ok(false) => Ok(()),
-        Err(fault) => Err(fault),
+    if let Err(why) = check_elsewhere(system, folder, folder_of(path), why) {
+        return Err(why);
     }
-}
-
-/// Whether what this path names stands in the folder, or would; or, of a link, what it leads to.
-fn stands_in<S: System>(system: &mut S, folder: &Seen, path: &str) -> Result<bool, LinesFault>
-    ensures { StandsIn folder.now path.now result (S.calls system.old) (S.calls system.new) }
-{
-    if leads_to(system, folder_of(path), folder) {
-        return Ok(true);
-    }
-    leads_into(system, folder, path)
-}
-
-/// Whether what the path leads to, without links, stands in the folder.
-fn leads_into<S: System>(system: &mut S, folder: &Seen, path: &str) -> Result<bool, LinesFault>
-    ensures { LeadsInto folder.now path.now result (S.calls system.old) (S.calls system.new) }
-{
     let mut room = [0u8; PATH];
     let count = match system.resolve(path, &mut room) {
         Ok(count) => count,
         Err(fault) => return unresolved(fault),
     };
     match from_utf8(&room[..count]) {
-        Ok(place) => Ok(leads_to(system, folder_of(place), folder)),
+        Ok(place) => check_elsewhere(system, folder, folder_of(place), why),
         Err(_) => Err(LinesFault::System(io::Error::from(ErrorKind::InvalidData))),
     }
 }
 
+/// Refuses a path that leads to the folder.
+fn check_elsewhere<S: System>(
+    system: &mut S,
+    folder: &Seen,
+    path: &str,
+    why: LinesFault,
+) -> Result<(), LinesFault>
+    ensures { IsElsewhere folder.now why path.now result (S.calls system.old) (S.calls system.new) }
+{
+    if leads_to(system, path, folder) {
+        return Err(why);
+    }
+    Ok(())
+}
+
 /// What is not there leads nowhere; of any other fault it is not known where a path leads.
-fn unresolved(fault: Fault) -> Result<bool, LinesFault>
+fn unresolved(fault: Fault) -> Result<(), LinesFault>
     ensures { IsUnresolved fault result }
 {
     match fault {
-        Fault::Absent(_) => Ok(false),
+        Fault::Absent(_) => Ok(()),
         Fault::Busy => Err(LinesFault::System(io::Error::from(ErrorKind::WouldBlock))),
         Fault::System(error) => Err(LinesFault::System(error)),
     }
