@@ -5,7 +5,7 @@ use Rattle.std.specs.Prelude.{Option, None, Some, IsUtf8, codes, if◌then◌els
 use Rattle.std.specs.Borrow.{Bor}
 use Rattle.std.specs.declared.io.Error.{Error}
 use Rattle.mot_endpoints.specs.Names.{folder_of}
-use Rattle.mot_endpoints.specs.Placing.{LeadsTo, Then}
+use Rattle.mot_endpoints.specs.Placing.{LeadsTo, Steps, Then}
 use Rattle.mot_endpoints.specs.declared.fault.LinesFault.{LinesFault}
 use Rattle.mot_endpoints.specs.declared.lines.Others.{Others}
 use Rattle.mot_files.specs.Call.{Call, followed, resolved}
@@ -26,9 +26,9 @@ IsUnresolved (Absent error) result = result ≡ Ok tt
 IsUnresolved Busy result = (error : Error) × (result ≡ Err (LinesFault.System error))
 IsUnresolved (System error) result = result ≡ Err (LinesFault.System error)
 
--- what calls check, by the calls before and those after
+-- what calls check
 abbrev pub Check : Type 1
-Check = (result : Result (Unit {0}) LinesFault) (old new : List Call) → Type 0
+Check = Steps (Unit {0}) LinesFault
 
 -- what the path leads to is not the folder that was seen, or lines are refused for this reason
 abbrev pub IsElsewhere : (folder : Seen) (why : LinesFault) (path : List ℕ) → Check

@@ -2,7 +2,7 @@
 use Rattle.std.specs.Prelude.{◌≡◌, ℕ, Bool, true, false, List, [], ◌∷◌, ◌++◌, Result, Ok, Err}
 use Rattle.std.specs.Prelude.{Option, Some, None, bytes_eq, codes, take, drop, length, ◌&&◌}
 use Rattle.std.specs.Path.{path_file_name, path_parent}
-use Rattle.mot_endpoints.specs.Placing.{is_answer_of}
+use Rattle.mot_endpoints.specs.Placing.{LeadsTo}
 use Rattle.mot_devices.specs.Beside.{is_store_end}
 use Rattle.mot_files.specs.Call.{Call, followed}
 use Rattle.mot_files.specs.declared.system.Fault.{Fault}
@@ -22,8 +22,7 @@ folder_of path = or_working (path_parent path)
 pub data IsSameFolder (path other : List ℕ) (result : Bool) (old new : List Call) : Type 0 where
   unseen : (fault : Fault) → result ≡ false → new ≡ old ++ followed path (Err fault) ∷ []
       → IsSameFolder path other result old new
-  seen : (folder : Seen) (answer : Result Seen Fault) → result ≡ is_answer_of folder answer
-      → new ≡ old ++ followed path (Ok folder) ∷ [] ++ followed other answer ∷ []
+  seen : (folder : Seen) → LeadsTo other folder result (old ++ followed path (Ok folder) ∷ []) new
       → IsSameFolder path other result old new
 
 -- whether the name of a file is one that the disk's store may have beside the disk

@@ -4,8 +4,8 @@ use Rattle.std.specs.Prelude.{ℕ, ◌≡◌, ◌≢◌, ◌↔◌, List, [], �
 use Rattle.std.specs.Prelude.{Bool, true, false, Result, Ok, Err, nat_eq, nat_lt, ◌==◌}
 use Rattle.std.specs.Prelude.{if◌then◌else◌, string_bytes}
 use Rattle.mot_endpoints.specs.Names.{IsOfDisk, folder_of}
-use Rattle.mot_endpoints.specs.Placing.{Begins, IsOfMemory, TakesAway, is_answer_of, told_as}
-use Rattle.mot_endpoints.specs.Placing.{told_of}
+use Rattle.mot_endpoints.specs.Placing.{Begins, IsOfMemory, LeadsTo, Steps, TakesAway, Then}
+use Rattle.mot_endpoints.specs.Placing.{told_as, told_of}
 use Rattle.mot_endpoints.specs.declared.fault.Cause.{Cause}
 use Rattle.mot_endpoints.specs.declared.fault.PacketsFault.{PacketsFault}
 use Rattle.mot_endpoints.specs.declared.new_file.NewPlace.{NewPlace}
@@ -25,6 +25,7 @@ use Rattle.mot_files.specs.declared.system.Fault.{Fault}
 use Rattle.mot_files.specs.declared.system.Fault.TheVariants.{Absent, Busy, System}
 use Rattle.mot_files.specs.declared.system.Handle.{Handle}
 use Rattle.mot_files.specs.declared.system.How.TheVariants as How
+use Rattle.mot_files.specs.declared.system.How.{How as Way}
 use Rattle.mot_files.specs.declared.system.Kind.{Kind}
 use Rattle.mot_files.specs.declared.system.Kind.TheVariants.{Pipe}
 use Rattle.mot_files.specs.declared.system.Seen.{Seen}
@@ -86,42 +87,33 @@ abbrev pub held_by : Handle → Result (Unit {0}) Fault → Result Handle Packet
 held_by handle (Ok done) = Ok handle
 held_by handle (Err fault) = Err (told_as fault)
 
--- Standard output is opened, if it is no terminal.
-pub data OpensOutput (path : List ℕ) (result : Result Handle PacketsFault) (old new : List Call) :
-    Type 0 where
+-- What the path names is opened so, if it is no terminal.
+pub data OpensPath (path : List ℕ) (how : Way) (result : Result Handle PacketsFault)
+    (old new : List Call) : Type 0 where
   unopened : (fault : Fault) → result ≡ Err (told_as fault)
-      → new ≡ old ++ opened path How.Output (Err fault) ∷ [] → OpensOutput path result old new
+      → new ≡ old ++ opened path how (Err fault) ∷ [] → OpensPath path how result old new
   asked : (handle : Handle) (is_terminal : Bool)
       → result ≡ (if is_terminal then Err PacketsFault.Terminal else Ok handle)
-      → new ≡ old ++ opened path How.Output (Ok handle) ∷ []
-      ++ told_terminal handle is_terminal ∷ []
-      → OpensOutput path result old new
+      → new ≡ old ++ opened path how (Ok handle) ∷ [] ++ told_terminal handle is_terminal ∷ []
+      → OpensPath path how result old new
 
--- A pipe or a device is opened for reading and writing, if it is no terminal. Of a block device
--- nothing is taken, and nothing is written to it. The lock of a pipe is taken.
-pub data OpensStream (path : List ℕ) (result : Result Handle PacketsFault) (old new : List Call) :
+-- Of a block device nothing is taken, and nothing is written to it. The lock of a pipe is taken.
+pub data IsStream (handle : Handle) (result : Result Handle PacketsFault) (old new : List Call) :
     Type 0 where
-  unopened : (fault : Fault) → result ≡ Err (told_as fault)
-      → new ≡ old ++ opened path How.Stream (Err fault) ∷ [] → OpensStream path result old new
-  terminal : (handle : Handle) → result ≡ Err PacketsFault.Terminal
-      → new ≡ old ++ opened path How.Stream (Ok handle) ∷ [] ++ told_terminal handle true ∷ []
-      → OpensStream path result old new
-  unseen : (handle : Handle) (fault : Fault) → result ≡ Err (told_as fault)
-      → new ≡ old ++ opened path How.Stream (Ok handle) ∷ [] ++ told_terminal handle false ∷ []
-      ++ looked_at handle (Err fault) ∷ [] → OpensStream path result old new
-  block : (handle : Handle) (found : Seen) → found.block ≢ None
-      → result ≡ Err PacketsFault.BlockDevice
-      → new ≡ old ++ opened path How.Stream (Ok handle) ∷ [] ++ told_terminal handle false ∷ []
-      ++ looked_at handle (Ok found) ∷ [] → OpensStream path result old new
-  device : (handle : Handle) (found : Seen) → found.block ≡ None → found.kind ≢ Pipe
-      → result ≡ Ok handle
-      → new ≡ old ++ opened path How.Stream (Ok handle) ∷ [] ++ told_terminal handle false ∷ []
-      ++ looked_at handle (Ok found) ∷ [] → OpensStream path result old new
-  pipe : (handle : Handle) (found : Seen) (answer : Result (Unit {0}) Fault) → found.block ≡ None
+  unseen : (fault : Fault) → result ≡ Err (told_as fault)
+      → new ≡ old ++ looked_at handle (Err fault) ∷ [] → IsStream handle result old new
+  block : (found : Seen) → found.block ≢ None → result ≡ Err PacketsFault.BlockDevice
+      → new ≡ old ++ looked_at handle (Ok found) ∷ [] → IsStream handle result old new
+  device : (found : Seen) → found.block ≡ None → found.kind ≢ Pipe → result ≡ Ok handle
+      → new ≡ old ++ looked_at handle (Ok found) ∷ [] → IsStream handle result old new
+  pipe : (found : Seen) (answer : Result (Unit {0}) Fault) → found.block ≡ None
       → found.kind ≡ Pipe → result ≡ held_by handle answer
-      → new ≡ old ++ opened path How.Stream (Ok handle) ∷ [] ++ told_terminal handle false ∷ []
-      ++ looked_at handle (Ok found) ∷ [] ++ locked handle answer ∷ []
-      → OpensStream path result old new
+      → new ≡ old ++ looked_at handle (Ok found) ∷ [] ++ locked handle answer ∷ []
+      → IsStream handle result old new
+
+-- a pipe or a device is opened for reading and writing
+abbrev pub OpensStream : (path : List ℕ) → Steps Handle PacketsFault
+OpensStream path = Then (OpensPath path How.Stream) IsStream
 
 -- what stands at a path, by the number of its block device and its kind: no block device takes
 -- packets
@@ -152,10 +144,9 @@ pub data IsPlace (path disk : List ℕ) (result : Result Place PacketsFault) (ol
   unseen : (fault : Fault) (inner : List Call) → result ≡ place_without path fault
       → IsOfDisk path disk false old inner → new ≡ inner ++ followed path (Err fault) ∷ []
       → IsPlace path disk result old new
-  seen : (found : Seen) (answer : Result Seen Fault) (inner : List Call)
-      → result ≡ (if is_answer_of found answer then Err PacketsFault.IsDisk else place_of found)
-      → IsOfDisk path disk false old inner
-      → new ≡ inner ++ followed path (Ok found) ∷ [] ++ followed disk answer ∷ []
+  seen : (found : Seen) (is : Bool) (inner : List Call) → IsOfDisk path disk false old inner
+      → LeadsTo disk found is (inner ++ followed path (Ok found) ∷ []) new
+      → result ≡ (if is then Err PacketsFault.IsDisk else place_of found)
       → IsPlace path disk result old new
 
 -- A new file is begun beside the path.
@@ -181,7 +172,7 @@ fault_of_turns place (Some count) = if count == 0 then Some PacketsFault.NoTurns
 -- itself.
 pub data OpensInto (path disk : List ℕ) (handle : Handle) (old new : List Call) :
     (destination : Destination) → Type 0 where
-  output : OpensOutput path (Ok handle) old new
+  output : OpensPath path How.Output (Ok handle) old new
       → OpensInto path disk handle old new Destination.Output
   stream : (inner : List Call) → IsPlace path disk (Ok Place.Stream) old inner
       → OpensStream path (Ok handle) inner new
@@ -211,7 +202,7 @@ pub data OpensPackets (path disk : List ℕ) (turns : Option ℕ)
       → OpensInto path disk handle old new destination
       → OpensPackets path disk turns result old new
   no_output : (fault : PacketsFault) → result ≡ Err (Cause.Packets fault) → path ≡ codes "-"
-      → OpensOutput path (Err fault) old new → OpensPackets path disk turns result old new
+      → OpensPath path How.Output (Err fault) old new → OpensPackets path disk turns result old new
   no_place : (fault : PacketsFault) → result ≡ Err (Cause.Packets fault) → path ≢ codes "-"
       → IsPlace path disk (Err fault) old new → OpensPackets path disk turns result old new
   no_stream : (fault : PacketsFault) (inner : List Call) → result ≡ Err (Cause.Packets fault)

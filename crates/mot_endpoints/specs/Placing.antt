@@ -48,9 +48,12 @@ abbrev pub LeadsTo : (path : List ℕ) (seen : Seen) → Bool → (old new : Lis
 LeadsTo path seen is old new = (answer : Result Seen Fault)
     × (new ≡ old ++ followed path answer ∷ []) × (is ≡ is_answer_of seen answer)
 
+-- what calls come to, from those that were made before to those that were made then
+abbrev pub Steps : (A E : Type 0) → Type 1
+Steps A E = (result : Result A E) (old new : List Call) → Type 0
+
 -- The second is done with the value of the first, if the first gave one.
-pub data Then {A B E : Type 0} (First : Result A E → (old new : List Call) → Type 0)
-    (Second : A → Result B E → (old new : List Call) → Type 0) (result : Result B E)
+pub data Then {A B E : Type 0} (First : Steps A E) (Second : A → Steps B E) (result : Result B E)
     (old new : List Call) : Type 0 where
   refused : (fault : E) → result ≡ Err fault → First (Err fault) old new
       → Then First Second result old new
@@ -65,10 +68,9 @@ pub data Finds (path disk : List ℕ) (result : Result Bool PacketsFault) (old n
       → new ≡ old ++ looked path (Err fault) ∷ [] → Finds path disk result old new
   no_file : (named : Seen) → result ≡ Err PacketsFault.NoFile → named.kind ≢ File
       → new ≡ old ++ looked path (Ok named) ∷ [] → Finds path disk result old new
-  file : (named : Seen) (found : Result Seen Fault) → named.kind ≡ File
-      → result ≡ (if is_answer_of named found then Err PacketsFault.IsDisk else Ok true)
-      → new ≡ old ++ looked path (Ok named) ∷ [] ++ followed disk found ∷ []
-      → Finds path disk result old new
+  file : (named : Seen) (is : Bool) → named.kind ≡ File
+      → LeadsTo disk named is (old ++ looked path (Ok named) ∷ []) new
+      → result ≡ (if is then Err PacketsFault.IsDisk else Ok true) → Finds path disk result old new
 
 -- The file of the path is removed once its lock is taken, so that no other program writes it.
 pub data RemovesUnused (path : List ℕ) (result : Result (Unit {0}) PacketsFault)
@@ -82,14 +84,14 @@ pub data RemovesUnused (path : List ℕ) (result : Result (Unit {0}) PacketsFaul
       → new ≡ old ++ opened path How.Read (Ok handle) ∷ [] ++ locked handle (Ok tt) ∷ []
       ++ removed path answer ∷ [] ++ closed handle ∷ [] → RemovesUnused path result old new
 
--- What a run left at the path that was killed is removed: a regular file that is not the disk.
-pub data Clears (path disk : List ℕ) (result : Result (Unit {0}) PacketsFault)
-    (old new : List Call) : Type 0 where
-  refused : (fault : PacketsFault) → result ≡ Err fault → Finds path disk (Err fault) old new
-      → Clears path disk result old new
-  nothing : result ≡ Ok tt → Finds path disk (Ok false) old new → Clears path disk result old new
-  left : (inner : List Call) → Finds path disk (Ok true) old inner
-      → RemovesUnused path result inner new → Clears path disk result old new
+-- what is done with a file that is there; if none is, nothing
+abbrev pub IfThere : {E : Type 0} → Steps (Unit {0}) E → (there : Bool) → Steps (Unit {0}) E
+IfThere Does true result old new = Does result old new
+IfThere Does false result old new = (result ≡ Ok tt) × (new ≡ old)
+
+-- what a run left at the path that was killed is removed: a regular file that is not the disk
+abbrev pub Clears : (path disk : List ℕ) → Steps (Unit {0}) PacketsFault
+Clears path disk = Then (Finds path disk) (IfThere (RemovesUnused path))
 
 -- A file is removed only if its path still names it.
 pub data TakesAway (handle : Handle) (path : List ℕ) (old new : List Call) : Type 0 where
@@ -105,21 +107,19 @@ pub data TakesAway (handle : Handle) (path : List ℕ) (old new : List Call) : T
       → new ≡ old ++ looked path (Ok named) ∷ [] ++ looked_at handle (Ok held) ∷ []
       ++ removed path answer ∷ [] → TakesAway handle path old new
 
--- A new file is made in the place of one that was left there, and held. If it can't be held it is
--- taken away.
-pub data Begins (path disk : List ℕ) (result : Result Handle PacketsFault) (old new : List Call) :
+-- A new file is made, and held. If it can't be held it is taken away.
+pub data Makes (path : List ℕ) (result : Result Handle PacketsFault) (old new : List Call) :
     Type 0 where
-  uncleared : (fault : PacketsFault) → result ≡ Err fault → Clears path disk (Err fault) old new
-      → Begins path disk result old new
-  unmade : (fault : Fault) (inner : List Call) → result ≡ Err (told_as fault)
-      → Clears path disk (Ok tt) old inner → new ≡ inner ++ opened path How.New (Err fault) ∷ []
-      → Begins path disk result old new
-  unheld : (handle : Handle) (fault : Fault) (inner tried gone : List Call)
-      → result ≡ Err (told_as fault) → Clears path disk (Ok tt) old inner
-      → Holds handle path (Err fault) (inner ++ opened path How.New (Ok handle) ∷ []) tried
+  unmade : (fault : Fault) → result ≡ Err (told_as fault)
+      → new ≡ old ++ opened path How.New (Err fault) ∷ [] → Makes path result old new
+  unheld : (handle : Handle) (fault : Fault) (tried gone : List Call) → result ≡ Err (told_as fault)
+      → Holds handle path (Err fault) (old ++ opened path How.New (Ok handle) ∷ []) tried
       → TakesAway handle path tried gone → new ≡ gone ++ closed handle ∷ []
-      → Begins path disk result old new
-  held : (handle : Handle) (inner : List Call) → result ≡ Ok handle
-      → Clears path disk (Ok tt) old inner
-      → Holds handle path (Ok tt) (inner ++ opened path How.New (Ok handle) ∷ []) new
-      → Begins path disk result old new
+      → Makes path result old new
+  held : (handle : Handle) → result ≡ Ok handle
+      → Holds handle path (Ok tt) (old ++ opened path How.New (Ok handle) ∷ []) new
+      → Makes path result old new
+
+-- so it is in the place of one that was left there
+abbrev pub Begins : (path disk : List ℕ) → Steps Handle PacketsFault
+Begins path disk = Then (Clears path disk) (λ _. Makes path)

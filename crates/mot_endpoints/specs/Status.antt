@@ -3,7 +3,7 @@ use Rattle.std.specs.Prelude.{◌≡◌, ℕ, true, false, List, [], ◌∷◌, 
 use Rattle.std.specs.Prelude.{option_map, string_bytes}
 use Rattle.std.specs.Global.{Global}
 use Rattle.mot_endpoints.specs.Names.{IsOfDisk}
-use Rattle.mot_endpoints.specs.Placing.{Clears, Finds, told_of}
+use Rattle.mot_endpoints.specs.Placing.{Clears, Finds, IfThere, Then, told_of}
 use Rattle.mot_endpoints.specs.declared.fault.PacketsFault.{PacketsFault}
 use Rattle.mot_endpoints.specs.declared.fault.PacketsFault.TheVariants.{NoFile, NoNewFile}
 use Rattle.mot_endpoints.specs.declared.status_file.StatusFile.{StatusFile}
@@ -48,13 +48,8 @@ pub data ChecksPlace (path disk : List ℕ) (result : Result (Unit {0}) PacketsF
     (old new : List Call) : Type 0 where
   of_disk : result ≡ Err PacketsFault.IsOfDisk → IsOfDisk path disk true old new
       → ChecksPlace path disk result old new
-  refused : (fault : PacketsFault) (inner : List Call) → result ≡ Err fault
-      → IsOfDisk path disk false old inner → Finds path disk (Err fault) inner new
-      → ChecksPlace path disk result old new
-  nothing : (inner : List Call) → result ≡ Ok tt → IsOfDisk path disk false old inner
-      → Finds path disk (Ok false) inner new → ChecksPlace path disk result old new
-  file : (inner seen : List Call) → IsOfDisk path disk false old inner
-      → Finds path disk (Ok true) inner seen → AsksLock path result seen new
+  other : (inner : List Call) → IsOfDisk path disk false old inner
+      → Then (Finds path disk) (IfThere (AsksLock path)) result inner new
       → ChecksPlace path disk result old new
 
 -- what is in the way beside the path is told as that

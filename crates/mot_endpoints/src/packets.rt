@@ -2,7 +2,7 @@
 ghost use Rattle.std.specs.Prelude.{◌≡◌, ◌≢◌, ◌≤◌, ◌↔◌, ◌∷◌, ◌++◌, ℕ, [], None, Some, IfOk, IsTrue};
 ghost use Rattle.std.specs.Prelude.{MatchResult, Ok, Result, length, take};
 ghost use Rattle.mot_endpoints.specs.Packets.{BeginsBeside, BeginsNone, IsAnswer, IsPlace};
-ghost use Rattle.mot_endpoints.specs.Packets.{IsReason, IsTakenAway, OpensOutput, OpensPackets};
+ghost use Rattle.mot_endpoints.specs.Packets.{IsReason, IsTakenAway, OpensPackets, OpensPath};
 ghost use Rattle.mot_endpoints.specs.Packets.{OpensStream, TakesItsPlace, TakesPlace, TellsWhy};
 ghost use Rattle.mot_endpoints.specs.Packets.{destination_of, fault_after, fault_of_turns};
 ghost use Rattle.mot_endpoints.specs.Packets.{opening_destination, opening_handle};
@@ -206,7 +206,7 @@ pub fn open_packets<'a, S: System>(
         (S.calls system.old) (S.calls system.new) }
 {
     if path == OUTPUT {
-        return match open_output(system, path) {
+        return match open_path(system, path, How::Output) {
             Ok(handle) => Ok(Opening {
                 handle,
                 destination: Destination::Output,
@@ -272,11 +272,11 @@ fn new_file<'a, S: System>(
     }
 }
 
-/// Standard output, if it is no terminal.
-fn open_output<S: System>(system: &mut S, path: &str) -> Result<Handle, PacketsFault>
-    ensures { OpensOutput path.now result (S.calls system.old) (S.calls system.new) }
+/// Opens what the path names so, if it is no terminal.
+fn open_path<S: System>(system: &mut S, path: &str, how: How) -> Result<Handle, PacketsFault>
+    ensures { OpensPath path.now how result (S.calls system.old) (S.calls system.new) }
 {
-    let handle = match system.open(path, How::Output) {
+    let handle = match system.open(path, how) {
         Ok(handle) => handle,
         Err(fault) => return Err(PacketsFault::from(fault)),
     };
@@ -291,13 +291,10 @@ fn open_output<S: System>(system: &mut S, path: &str) -> Result<Handle, PacketsF
 fn open_stream<S: System>(system: &mut S, path: &str) -> Result<Handle, PacketsFault>
     ensures { OpensStream path.now result (S.calls system.old) (S.calls system.new) }
 {
-    let handle = match system.open(path, How::Stream) {
+    let handle = match open_path(system, path, How::Stream) {
         Ok(handle) => handle,
-        Err(fault) => return Err(PacketsFault::from(fault)),
+        Err(fault) => return Err(fault),
     };
-    if system.is_terminal(handle) {
-        return Err(PacketsFault::Terminal);
-    }
     let found = match system.look_at(handle) {
         Ok(found) => found,
         Err(fault) => return Err(PacketsFault::from(fault)),

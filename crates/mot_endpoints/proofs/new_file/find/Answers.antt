@@ -1,12 +1,6 @@
-use Rattle.std.proofs.Common.{Bool, Err, Ok, ap, refl, if◌then◌else◌, true, Result}
+use Rattle.std.proofs.Common.{false, refl, true}
 use Rattle.mot_endpoints.specs.Placing.Finds.{file, no_file, unseen}
-use Rattle.mot_endpoints.specs.declared.fault.PacketsFault.{PacketsFault}
-use Rattle.mot_endpoints.specs.declared.fault.PacketsFault.TheVariants.{IsDisk}
-use Rattle.mot_files.proofs.Laws.{step}
 use Rattle.mot_endpoints.proofs.new_file.find.Goals as goal
-
-abbrev answers : (is_disk : Bool) → Result Bool PacketsFault
-answers is_disk = if is_disk then Err IsDisk else Ok true
 
 pub returns-in-Err : goal.returns-in-Err
 returns-in-Err g c = unseen c.in-Err.fault c.unless_absent.ensures c.in-Err.ensures
@@ -17,10 +11,10 @@ returns-then-not-is_regular g c =
 
 pub returns-then-leads_to : goal.returns-then-leads_to
 returns-then-leads_to g c =
-    file c.in-Ok.named c.if-leads_to.ensures.0 (c.if-not-is_regular.ensures.0 refl)
-    (ap answers c.if-leads_to.ensures.2) (step _ c.if-leads_to.ensures.1 c.in-Ok.ensures)
+    file c.in-Ok.named true (c.if-not-is_regular.ensures.0 refl)
+    (rw c.in-Ok.ensures at c.if-leads_to.ensures) refl
 
 pub returns : goal.returns
 returns g c =
-    file c.in-Ok.named c.if-leads_to.ensures.0 (c.if-not-is_regular.ensures.0 refl)
-    (ap answers c.if-leads_to.ensures.2) (step _ c.if-leads_to.ensures.1 c.in-Ok.ensures)
+    file c.in-Ok.named false (c.if-not-is_regular.ensures.0 refl)
+    (rw c.in-Ok.ensures at c.if-leads_to.ensures) refl

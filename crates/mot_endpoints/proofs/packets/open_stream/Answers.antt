@@ -1,6 +1,7 @@
 use Rattle.std.proofs.Common.{Err, None, Ok, Option, Some, ap, false, refl, true, ℕ, ◌≡◌, ◌≢◌}
 use Rattle.std.specs.Prelude.{is_some}
-use Rattle.mot_endpoints.specs.Packets.OpensStream.{block, device, pipe, terminal, unopened, unseen}
+use Rattle.mot_endpoints.specs.Packets.IsStream.{block, device, pipe, unseen}
+use Rattle.mot_endpoints.specs.Placing.Then.{both, refused}
 use Rattle.mot_files.proofs.Laws.{step}
 use Rattle.mot_endpoints.proofs.packets.open_stream.Goals as goal
 
@@ -14,42 +15,33 @@ is_absent None is = refl
 is_absent (Some n) is = absurd (cc (is))
 
 pub returns-in-Err : goal.returns-in-Err
-returns-in-Err g c = unopened c.in-Err.fault (ap Err c.from.ensures) c.in-Err.ensures
-
-pub returns-then-is_terminal : goal.returns-then-is_terminal
-returns-then-is_terminal g c =
-    terminal c.in-Ok.handle refl (step _ c.if-is_terminal.ensures c.in-Ok.ensures)
+returns-in-Err g c = refused c.in-Err.fault refl c.in-Err.ensures
 
 pub returns-in-Err-look_at : goal.returns-in-Err-look_at
 returns-in-Err-look_at g c =
-    unseen c.in-Ok.handle c.in-Err-look_at.fault (ap Err c.from-in-Err-look_at.ensures)
-    (step _ c.in-Err-look_at.ensures (step _ c.if-is_terminal.ensures c.in-Ok.ensures))
+    both c.in-Ok.handle _ c.in-Ok.ensures
+    (unseen c.in-Err-look_at.fault (ap Err c.from.ensures) c.in-Err-look_at.ensures)
 
 pub returns-then-is_some : goal.returns-then-is_some
 returns-then-is_some g c =
-    block c.in-Ok.handle c.in-Ok-look_at.found
-    (is_there c.in-Ok-look_at.found.block c.if-is_some.ensures) refl
-    (step _ c.in-Ok-look_at.ensures (step _ c.if-is_terminal.ensures c.in-Ok.ensures))
+    both c.in-Ok.handle _ c.in-Ok.ensures (block c.in-Ok-look_at.found
+    (is_there c.in-Ok-look_at.found.block c.if-is_some.ensures) refl c.in-Ok-look_at.ensures)
 
 pub returns-then-not-is_pipe : goal.returns-then-not-is_pipe
 returns-then-not-is_pipe g c =
-    device c.in-Ok.handle c.in-Ok-look_at.found
+    both c.in-Ok.handle _ c.in-Ok.ensures (device c.in-Ok-look_at.found
     (is_absent c.in-Ok-look_at.found.block c.if-is_some.ensures)
-    (λ is. let h = c.if-not-is_pipe.ensures.1 is in cc) refl
-    (step _ c.in-Ok-look_at.ensures (step _ c.if-is_terminal.ensures c.in-Ok.ensures))
+    (λ is. let h = c.if-not-is_pipe.ensures.1 is in cc) refl c.in-Ok-look_at.ensures)
 
 pub returns-in-Ok-lock : goal.returns-in-Ok-lock
 returns-in-Ok-lock g c =
-    pipe c.in-Ok.handle c.in-Ok-look_at.found (Ok tt)
+    both c.in-Ok.handle _ c.in-Ok.ensures (pipe c.in-Ok-look_at.found (Ok tt)
     (is_absent c.in-Ok-look_at.found.block c.if-is_some.ensures)
-    (c.if-not-is_pipe.ensures.0 refl) refl
-    (step _ c.in-Ok-lock.ensures (step _ c.in-Ok-look_at.ensures (step _ c.if-is_terminal.ensures
-    c.in-Ok.ensures)))
+    (c.if-not-is_pipe.ensures.0 refl) refl (step _ c.in-Ok-lock.ensures c.in-Ok-look_at.ensures))
 
 pub returns-in-Err-lock : goal.returns-in-Err-lock
 returns-in-Err-lock g c =
-    pipe c.in-Ok.handle c.in-Ok-look_at.found (Err c.in-Err-lock.fault)
+    both c.in-Ok.handle _ c.in-Ok.ensures (pipe c.in-Ok-look_at.found (Err c.in-Err-lock.fault)
     (is_absent c.in-Ok-look_at.found.block c.if-is_some.ensures)
     (c.if-not-is_pipe.ensures.0 refl) (ap Err c.from-in-Err-lock.ensures)
-    (step _ c.in-Err-lock.ensures (step _ c.in-Ok-look_at.ensures (step _ c.if-is_terminal.ensures
-    c.in-Ok.ensures)))
+    (step _ c.in-Err-lock.ensures c.in-Ok-look_at.ensures))

@@ -1,7 +1,7 @@
 use Rattle.std.proofs.Common.{Err, ap, false, refl, true}
-use Rattle.mot_endpoints.specs.Packets.OpensOutput.{asked, unopened}
+use Rattle.mot_endpoints.specs.Packets.OpensPath.{asked, unopened}
 use Rattle.mot_files.proofs.Laws.{step}
-use Rattle.mot_endpoints.proofs.packets.open_output.Goals as goal
+use Rattle.mot_endpoints.proofs.packets.open_path.Goals as goal
 
 pub returns-in-Err : goal.returns-in-Err
 returns-in-Err g c = unopened c.in-Err.fault (ap Err c.from.ensures) c.in-Err.ensures
