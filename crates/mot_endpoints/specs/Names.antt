@@ -1,5 +1,5 @@
 -- Which names are those of files of the disk.
-use Rattle.std.specs.Prelude.{◌≡◌, ℕ, Bool, true, false, List, [], ◌∷◌, ◌++◌, Result, Ok, Err}
+use Rattle.std.specs.Prelude.{◌≡◌, ℕ, Bool, true, false, List, [], ◌∷◌, ◌++◌, Ok, Err}
 use Rattle.std.specs.Prelude.{Option, Some, None, bytes_eq, codes, take, drop, length, ◌&&◌}
 use Rattle.std.specs.Path.{path_file_name, path_parent}
 use Rattle.mot_endpoints.specs.Placing.{LeadsTo}

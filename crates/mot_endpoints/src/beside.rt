@@ -1,12 +1,9 @@
 //! What the names of files beside others are, and whether a path leads to one file.
-ghost use Rattle.std.specs.Prelude.{◌≡◌, ◌∷◌, ◌++◌, [], Result};
+ghost use Rattle.std.specs.Prelude.{◌≡◌};
 ghost use Rattle.std.specs.Path.{path_file_name};
 ghost use Rattle.mot_endpoints.specs.Names.{IsOfDisk, IsSameFolder, folder_of, is_store_name};
 ghost use Rattle.mot_endpoints.specs.Placing.{LeadsTo};
 ghost use Rattle.mot_devices.specs.Beside.{is_store_end};
-ghost use Rattle.mot_files.specs.Call.{followed};
-ghost use Rattle.mot_files.specs.declared.system.Fault.{Fault};
-ghost use Rattle.mot_files.specs.declared.system.Seen.{Seen};
 
 use mot_files::{Seen, System};
 use std::path::Path;
