@@ -64,7 +64,7 @@ PROMISES = [
     ]),
     ("On the air", [
         ("mot_update", "update_laws", ""), ("mot_update", "look", ""), ("mot_listening", "listening_laws", ""),
-        ("mot_feed", "feed", ""), ("mot_feed", "feed_often", ""), ("mot_feed", "feed_every", ""), ("mot_folder", "look_at_folder", ""), ("mot_suffixes", "FileTypes::new", ""),
+        ("mot_feed", "feed", ""), ("mot_feed", "feed_laws", ""), ("mot_folder", "look_at_folder", ""), ("mot_suffixes", "FileTypes::new", ""),
         ("mot_suffixes", "FileTypes::add", ""), ("mot_suffixes", "FileTypes::of_name", ""), ("mot_endpoints", "file_types", ""),
         ("mot_feed_lines", "answer_there", ""), ("mot_feed_lines", "Lines::new", ""), ("mot_feed_lines", "Lines::update", ""),
         ("mot_air", "play", ""), ("mot_sync_command", "sync", ""), ("mot_air", "play_disk", ""),

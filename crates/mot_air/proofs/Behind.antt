@@ -11,7 +11,7 @@ use Rattle.mot_air.specs.Directory.{IsFrame}
 use Rattle.mot_update.specs.Ending.{IsEnd, Leaves}
 use Rattle.mot_update.specs.Ending as opening
 use Rattle.mot_air.specs.Playing.{HasAired, Plays, Tale}
-use Rattle.mot_air.specs.declared.manner.Manner.{Manner}
+use Rattle.mot_feed.specs.declared.manner.Manner.{Manner}
 use Rattle.mot_air.specs.Telling.{first_sources, tale_with}
 use Rattle.mot_update.proofs.Laws.{AllAre}
 use Rattle.mot_update.specs.Opening.{IsUnopened}

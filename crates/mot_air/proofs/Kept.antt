@@ -8,7 +8,7 @@ use Rattle.disk_model.specs.Disk.{IsHonestDisk, OnlySyncs, State}
 use Rattle.disk_model.proofs.Laws.{weakens}
 use Rattle.mot_air.specs.Lives.{KeepsDone, AirsOn}
 use Rattle.mot_air.specs.Playing.{Plays, Tale, WritesPackets}
-use Rattle.mot_air.specs.declared.manner.Manner.{Manner}
+use Rattle.mot_feed.specs.declared.manner.Manner.{Manner}
 use Rattle.mot_feed.specs.Feeding.{EndsFeed, Event, Stage, commands_among, fault_at}
 use Rattle.mot_feed.specs.Feeding.EndsFeed.{all_numbers, all_turns, of_call, of_packet, of_write}
 use Rattle.mot_journal.specs.Image.{Standing}

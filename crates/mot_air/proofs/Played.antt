@@ -6,8 +6,9 @@ use Rattle.std.proofs.lemmas.Bool.{ne_eqb}
 use Rattle.std.proofs.lemmas.Bool.Decides.{nat_tests}
 use Rattle.disk_model.proofs.Laws.{keeps_on}
 use Rattle.disk_model.specs.Disk.{State, IsHonestDisk, KeepsLength, OnlySyncs}
-use Rattle.mot_air.specs.Playing.{HasAired, IsServed, Plays, Tale, look_of_feed, place_at_start}
-use Rattle.mot_air.specs.declared.manner.Manner.{Manner}
+use Rattle.mot_air.specs.Playing.{HasAired, IsServed, Plays, Tale, each_packet, look_of_feed}
+use Rattle.mot_air.specs.Playing.{place_at_start}
+use Rattle.mot_feed.specs.declared.manner.Manner.{Manner}
 use Rattle.mot_air.specs.Playing.{tale_of}
 use Rattle.mot_air.specs.Commands.{PlaysInto, Sends}
 use Rattle.mot_endpoints.specs.declared.packets.Destination.{Destination}
@@ -15,13 +16,10 @@ use Rattle.mot_files.specs.Call.{Call}
 use Rattle.mot_files.specs.declared.system.Handle.{Handle}
 use Rattle.mot_update.proofs.Laws.{ends_off, opened_leaves}
 use Rattle.mot_endpoints.specs.declared.packets.Target.{Target}
-use Rattle.mot_feed.specs.Ends.{NobodyStarves}
-use Rattle.mot_feed.specs.Feeding.{AreOf, AreTold, Event, FedPacketsAreContinuous}
-use Rattle.mot_feed.specs.Feeding.{Feeds, Happen, HasFed, IsFeedFault, RulesAreKept, Stage}
+use Rattle.mot_feed.specs.Feeding.{AreOf, AreTold, Event, Happen, HasFed, IsFeedFault}
+use Rattle.mot_feed.specs.Feeding.{RulesAreKept, Stage}
 use Rattle.mot_feed.specs.Feeding.{fault_at}
-use Rattle.mot_feed.specs.Listening.{ListenersHear}
-use Rattle.mot_feed.specs.Often.{IsOften, is_often, place_for, server_for}
-use Rattle.mot_feed.specs.OnAir.{ChangedTurnsOnAirRead, TurnsOnAirRead}
+use Rattle.mot_feed.specs.Often.{Feeds, IsOften, is_often, place_for, server_for}
 use Rattle.mot_journal.specs.Image.{Standing}
 use Rattle.mot_numbers.specs.Geometry.{IsValid, packet_room}
 use Rattle.mot_numbers.specs.declared.geometry.Geometry.{Geometry}
@@ -33,8 +31,9 @@ use Rattle.mot_objects.specs.declared.command.Command.{Command}
 use Rattle.mot_player.specs.Place.{Place}
 use Rattle.mot_player.specs.Turn.{turn_of_carousel}
 use Rattle.mot_update.proofs.Laws.{AllAre, all_hold, openable}
-use Rattle.mot_feed.proofs.Laws.{happen-apart, often-front, rules_behind, rules_front, rules_of_turn}
-use Rattle.mot_feed.proofs.Laws.{rules_of_window}
+use Rattle.mot_feed.proofs.Laws.{changed_turns_read, continuous, happen-apart, listeners_hear}
+use Rattle.mot_feed.proofs.Laws.{nobody_starves, often-front, rules_behind, rules_front}
+use Rattle.mot_feed.proofs.Laws.{rules_of_turn, rules_of_window, turns_read}
 use Rattle.mot_update.specs.Opening.{IsOpenable, first_place}
 use Rattle.mot_repository.proofs.Laws.{rules_kept, standings-are_sound}
 use Rattle.mot_repository.specs.Opening.{IsOpened}
@@ -63,10 +62,7 @@ module _ {D : Type 0} (state : D → State) (disk : D) (server new : ServerView 
     (going : IsFalse server.view.halted)
     (at_start : (s : Standing) → Agrees server.view s → place_in server s ≡ first_place s)
     (valid : is_valid server.view.journal.geometry ≡ true)
-    (keeps : KeepsLength (state server.disk) (state new.disk))
-    (continuous : FedPacketsAreContinuous) (turns_read : TurnsOnAirRead)
-    (changed_read : ChangedTurnsOnAirRead) (listeners : ListenersHear)
-    (serves : NobodyStarves) where
+    (keeps : KeepsLength (state server.disk) (state new.disk)) where
   holds_opened : (s : Standing) → (state new.disk).IsHonest → AllAre s (state disk)
       → Holds server.view s (state server.disk)
   holds_opened s honest all =
@@ -137,7 +133,7 @@ module _ {D : Type 0} (state : D → State) (disk : D) (server new : ServerView 
         new = mid.mid;
         came = front.before;
         happened = mid.before;
-        serves = serves limit size front.now front.mid before during (record {
+        serves = nobody_starves limit size front.now front.mid before during (record {
           first = s.carousel;
           address = s.geometry.address;
           room = packet_room s.geometry;
@@ -166,8 +162,8 @@ module _ {D : Type 0} (state : D → State) (disk : D) (server new : ServerView 
     has_played : (s : Standing) (stage : Stage) (events : List Event) (commands : List Command)
         (marks : List Bool) (packets : List (List ℕ)) → (state new.disk).IsHonest
         → AllAre s (state disk)
-        → (fed : HasFed (server_for how.directory how.early server) new (state server.disk) (state new.disk) s
-        commands marks (fault_at stage) events)
+        → (fed : HasFed (server_for how server) new (state server.disk) (state new.disk) s commands
+        marks (fault_at stage) events)
         → AreOf events packets
         → AreTold tells (look_of_feed how) s.geometry.objects first s.carousel stage events commands
         marks last fed.leaves.last.carousel
@@ -178,7 +174,7 @@ module _ {D : Type 0} (state : D → State) (disk : D) (server new : ServerView 
         let holds = holds_opened s honest all in
         let made : Standing = fed.leaves.last in
         let happened = subst (λ (p : Place). Happen s.geometry.objects s.geometry.segment
-        s.carousel (place_for how.directory how.early p) events made.carousel (place_in new made))
+        s.carousel (place_for how p) events made.carousel (place_in new made))
         (at_start s holds.agrees) fed.happened in
         record {
           last = made;
@@ -213,7 +209,7 @@ module _ {D : Type 0} (state : D → State) (disk : D) (server new : ServerView 
                     (place_at_start how s).follows before during place after of
                     is_valid.1 (is_valid.4, is_valid.5) (room s holds.agrees)
                     (sound_carousel s honest all) came begins rules goes is_one are_of),
-                (λ ended. changed_read s.geometry.objects s.geometry.segment s.carousel c left
+                (λ ended. changed_turns_read s.geometry.objects s.geometry.segment s.carousel c left
                     s.geometry.address (packet_room s.geometry)
                     (place_at_start how s).follows before during place after of
                     is_valid.1 (is_valid.4, is_valid.5) (room s holds.agrees)
@@ -230,7 +226,7 @@ module _ {D : Type 0} (state : D → State) (disk : D) (server new : ServerView 
               (rules_behind limit s.geometry.segment s.carousel c
               (place_at_start how s) place before (during ++ others)
               (subst (λ l. RulesAreKept limit s.carousel l) (sym all_of) fed.rules) came) in
-              listeners limit s.geometry.segment how.directory c place before during of (record {
+              listeners_hear limit s.geometry.segment how.directory c place before during of (record {
                 first = s.carousel;
                 address = s.geometry.address;
                 room = packet_room s.geometry;
@@ -258,9 +254,8 @@ module _ {D : Type 0} (state : D → State) (disk : D) (server new : ServerView 
         → OnOk result (StaysCalm server new (state server.disk) (state new.disk))
         → IfErr result (λ r. IsFeedFault server (state server.disk) (state new.disk) r)
         → ((s : Standing) → Holds server.view s (state server.disk) → (state new.disk).IsHonest
-        → (feeds : Feeds tells (look_of_feed how) how.turns (fault_of result) first last
-        (server_for how.directory how.early server) new (state server.disk) (state new.disk) s before after)
-        × (0 < how.directory → IsOften how.directory feeds.events))
+        → Feeds tells (each_packet how) (fault_of result) first last server new (state server.disk)
+        (state new.disk) s before after)
         → Plays tale how (fault_of result) before after (state disk) (state new.disk)
     plays before after result stays why feeds = record {
       keeps = keeps_from;
@@ -269,15 +264,14 @@ module _ {D : Type 0} (state : D → State) (disk : D) (server new : ServerView 
         ends_off server new (state disk) (state server.disk) (state new.disk) result going calm
             (both (StaysCalm server new (state server.disk) (state new.disk))
             (λ r. IsFeedFault server (state server.disk) (state new.disk) r) result stays why),
-        λ s honest all. let found = feeds s (holds_opened s honest all) honest in
-            let fed = found.0 in record {
-              stage = fed.stage;
-              events = fed.events;
-              packets = fed.packets;
-              played = has_played s fed.stage fed.events fed.commands fed.marks fed.packets honest
-                  all fed.fed fed.are fed.told found.1;
-              ends = fed.ends;
-            },
+        λ s honest all. let fed = feeds s (holds_opened s honest all) honest in record {
+          stage = fed.stage;
+          events = fed.events;
+          packets = fed.packets;
+          played = has_played s fed.stage fed.events fed.commands fed.marks fed.packets honest
+              all fed.fed fed.are fed.told fed.often;
+          ends = fed.ends;
+        },
       );
     }
 

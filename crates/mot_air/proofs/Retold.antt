@@ -3,7 +3,7 @@ use Rattle.std.proofs.Common.{◌≡◌, ◌∙◌, ℕ, Bool, false, List, [], 
 use Rattle.std.proofs.Common.{refl, subst, sym}
 use Rattle.disk_model.specs.Disk.{State}
 use Rattle.mot_air.specs.Playing.{HasAired, Plays, Tale, look_of_feed, tale_of}
-use Rattle.mot_air.specs.declared.manner.Manner.{Manner}
+use Rattle.mot_feed.specs.declared.manner.Manner.{Manner}
 use Rattle.mot_air.specs.Inner.Beside.{SourcesOf, beside, tells_answered}
 use Rattle.mot_air.specs.Inner.Beside.{tells_lines_of, tells_reported}
 use Rattle.mot_air.specs.Inner.Fed.{Fed, IsEndOf, disk_of, ending_of}

@@ -7,7 +7,7 @@ use Rattle.disk_store.specs.Beginning.{SinceOpened}
 use Rattle.disk_store.specs.declared.file.start.Start.{Ghosts}
 use Rattle.mot_air.specs.Directory.{IsFrame, directory_of, early_of, look_of}
 use Rattle.mot_air.specs.Playing.{Plays, Tale}
-use Rattle.mot_air.specs.declared.manner.Manner.{Manner}
+use Rattle.mot_feed.specs.declared.manner.Manner.{Manner}
 use Rattle.mot_air.specs.Telling.{EndsReading, Hands, lines_at, tale_with, watch_in, watched}
 use Rattle.mot_endpoints.specs.declared.packets.Target.{Target}
 use Rattle.mot_endpoints.specs.declared.packets.Target.TheVariants.{File, Output}

@@ -4,7 +4,7 @@ use Rattle.std.specs.Prelude.{is_some}
 use Rattle.std.specs.Option.{option_map_or}
 use Rattle.disk_model.specs.Disk.{State}
 use Rattle.mot_update.specs.Ending.{EndsBy, Leaves}
-use Rattle.mot_air.specs.declared.manner.Manner.{Manner}
+use Rattle.mot_feed.specs.declared.manner.Manner.{Manner}
 use Rattle.mot_feed.specs.Ends.{ServesAll}
 use Rattle.mot_feed.specs.Feeding.{AreOf, AreTold, EndsFeed, Event, Happen, Stage}
 use Rattle.mot_feed.specs.Feeding.{commands_among, fault_at, is_between_turns}
@@ -30,11 +30,14 @@ use Rattle.mot_update.specs.declared.moment.Moment.{Moment}
 -- Where a server that was opened of a disk that stood for s begins to be played so: it follows
 -- changes where the directory is sent again within turns, and else a change begins the turn anew.
 abbrev pub place_at_start : Manner → Standing → Place
-place_at_start how s = place_for how.directory how.early (first_place s)
+place_at_start how s = place_for how (first_place s)
 
--- the looks of a feed that is so: one may come in front of each packet, or only between turns
+-- a look may come in front of each packet, or only between turns
+abbrev pub each_packet : Manner → Manner
+each_packet how = record how { look = min how.look 1 }
+
 abbrev pub look_of_feed : Manner → ℕ
-look_of_feed how = look_in how.directory (min how.look 1)
+look_of_feed how = look_in (each_packet how)
 
 -- What is told of the events of a feed, up to a stage: with room for so many objects they lead from
 -- one carousel to the other, by these commands with their marks, which come of something beside the

@@ -2,7 +2,7 @@
 use Rattle.std.specs.Prelude.{◌≡◌, ◌⊎◌, ℕ, ◌&&◌, nat_lt, Bool, false, if◌then◌else◌, List, []}
 use Rattle.std.specs.Prelude.{Option, Some, None}
 use Rattle.mot_air.specs.Playing.{Tale, look_of_feed}
-use Rattle.mot_air.specs.declared.manner.Manner.{Manner}
+use Rattle.mot_feed.specs.declared.manner.Manner.{Manner}
 use Rattle.mot_feed_lines.specs.Answering.{TellsInTurn}
 use Rattle.mot_feed.specs.Feeding.{AreTold}
 use Rattle.mot_folder.specs.Looked.{LooksSoFar, TellsLooks, Watch, so_far, watch}

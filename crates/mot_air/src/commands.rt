@@ -3,7 +3,7 @@ ghost use Rattle.std.specs.Prelude.{◌≡◌, option_map};
 ghost use Rattle.mot_air.specs.Commands.{IsUnplayed};
 ghost use Rattle.mot_outcome.specs.Outcome.{Concludes};
 ghost use Rattle.mot_air.specs.Commands.{PlaysTask, needs_of, objects_at};
-ghost use Rattle.mot_air.specs.declared.manner.Manner.{Manner};
+ghost use Rattle.mot_feed.specs.declared.manner.Manner.{Manner};
 ghost use Rattle.mot_air.specs.Telling.{folder_in, watch_in, watched};
 ghost use Rattle.mot_endpoints.specs.Opened.{AreMet, Need, if_given};
 ghost use Rattle.mot_outcome.specs.Outcome.{Opens};

@@ -6,15 +6,14 @@ mod answered;
 mod commands;
 mod frames;
 mod lives;
-mod manner;
 mod on_air;
 mod playing;
 
 pub use commands::play;
 pub use lives::{keep_done, open_done};
-pub use manner::Manner;
 pub use mot_cli::PlayTask;
 pub use mot_endpoints::{Host, Target};
+pub use mot_feed::Manner;
 pub use mot_line_folder::LineFolder;
 pub use mot_outcome::{Exit, UsedDisk};
 pub use mot_status::Telling;

@@ -2,7 +2,7 @@
 ghost use Rattle.std.specs.Prelude.{◌≡◌, ◌↔◌, ◌⊎◌, ◌-◌, ℕ, [], IsSomeAnd, IsTrue, List};
 ghost use Rattle.std.specs.Prelude.{None, Some, false, true};
 ghost use Rattle.mot_air.specs.Lives.{AirsOn, KeepsDone};
-ghost use Rattle.mot_air.specs.Playing.{Plays, tale_of};
+ghost use Rattle.mot_air.specs.Playing.{Plays, each_packet, tale_of};
 ghost use Rattle.mot_air.specs.Telling.{EndsReading, HandsOut, folder_in, lines_at, no_looks};
 ghost use Rattle.mot_air.specs.Telling.{tale_with, watch_in, watched};
 ghost use Rattle.mot_air.specs.Inner.Beside.{SourcesOf, beside, tells_answered, tells_lines_of};
@@ -20,11 +20,10 @@ ghost use Rattle.mot_shelf.specs.Reader.{reader_path, view};
 ghost use Rattle.mot_playout.specs.Attempts.{fault_of};
 
 use crate::Ended;
-use crate::manner::Manner;
 use disk_model::Disk;
 use mot_endpoints::Cause;
 use mot_events::Inlet;
-use mot_feed::feed_every;
+use mot_feed::{Manner, feed};
 use mot_feed_lines::{Lines, Reported};
 use mot_files::{CallLog, System};
 use mot_folder::{FileTypes, Folder, Looks};
@@ -465,15 +464,18 @@ fn feed_disk<D: Disk, U: Update, O: Outlet>(
     };
     // Its sizes are in their ranges: each packet has room. (The line is there for the proof.)
     let _ = server.geometry();
-    let result = feed_every(
-        &mut server,
-        alloc,
-        update,
-        outlet,
-        how.turns,
-        how.directory,
-        how.look.min(1),
-        how.early,
-    );
+    let result = feed(&mut server, alloc, update, outlet, each_packet(how));
     Ok((server, result))
+}
+
+/// The looks of a feed: one may come in front of each packet, or only between turns.
+fn each_packet(how: Manner) -> Manner
+    ensures { result ≡ each_packet how }
+{
+    Manner {
+        directory: how.directory,
+        look: how.look.min(1),
+        early: how.early,
+        turns: how.turns,
+    }
 }

@@ -1,5 +1,5 @@
 -- Updates and packets, one after the other.
-use Rattle.std.proofs.Common.{◌≡◌, ℕ, zero, suc, ◌+◌, ◌-◌, Bool, true, false, List, []}
+use Rattle.std.proofs.Common.{◌≡◌, ◌<◌, ℕ, zero, suc, ◌+◌, ◌-◌, Bool, true, false, List, []}
 use Rattle.std.proofs.Common.{◌∷◌, ◌++◌, length, map, Option, Some, None, Ok, Err, refl}
 use Rattle.std.proofs.Common.{sym, ap}
 use Rattle.std.proofs.Common.{◌∙◌, subst, arith, length-append, append-nil, inl, inr, take}
@@ -9,7 +9,7 @@ use Rattle.std.specs.Prelude.{◌⊎◌, ◌≢◌, if◌then◌else◌, is_some
 use Rattle.std.specs.Option.{option_map_or}
 use Rattle.disk_model.specs.Disk.{State, IsHonestDisk, IsUnchanged}
 use Rattle.mot_feed.specs.Feeding.{AreOf, AreTold, EndsFeed, Event, FedPacketsAreContinuous}
-use Rattle.mot_feed.specs.Feeding.{Feeds, Happen, HasFed, RulesAreKept, Stage}
+use Rattle.mot_feed.specs.Feeding.{Happen, HasFed, RulesAreKept, Stage}
 use Rattle.mot_feed.specs.OnAir.{is_turn}
 use Rattle.mot_feed.specs.Feeding.{commands_among, is_between_turns, left_after}
 use Rattle.mot_feed.specs.Feeding.{left_behind, moment_at, moment_behind, sents_in, turns_in}
@@ -17,7 +17,8 @@ use Rattle.mot_feed.specs.Feeding.AreTold.{no_call, one_asked, one_call, one_pla
 use Rattle.mot_feed.specs.Feeding.EndsFeed.{all_numbers, all_turns, of_call, of_packet, of_write}
 use Rattle.mot_feed.specs.Feeding.Stage.{Called, Ready}
 use Rattle.mot_feed.specs.Feeding.Event.{Accepted, Asked, Played}
-use Rattle.mot_feed.specs.Often.{IsOften, is_due, pause}
+use Rattle.mot_feed.specs.Often.{Feeds, is_due, look_in, pause, server_for}
+use Rattle.mot_feed.specs.declared.manner.Manner.{Manner}
 use Rattle.mot_feed.specs.Sending.{SendsPacket}
 use Rattle.mot_feed.specs.Sending as one
 use Rattle.mot_feed.proofs.Hearing.{OftenUpTo, asks, left_for, often-accepted, often-all}
@@ -472,9 +473,9 @@ module _ {D : Type 0} where
   -- ---- feeding
 
   -- what was fed so far: so many turns are left, and so many packets were sent
-  pub record SoFar {U : Type 0} (tells : U → U → Moment → Telling) (look : ℕ) (stage : Stage)
+  pub record SoFar {U : Type 0} (tells : U → U → Moment → Telling) (how : Manner) (stage : Stage)
       (first last : U) (old new : ServerView D) (start now : State) (s : Standing)
-      (turns left : ℕ) (between_turns : Bool) (rest count : ℕ)
+      (left : ℕ) (between_turns : Bool) (until : Option ℕ) (rest count : ℕ)
       (before after : Option (List (List ℕ))) : Type 0 where
     -- what happened so far
     pub events : List Event
@@ -482,7 +483,7 @@ module _ {D : Type 0} where
     pub commands : List Command
     pub marks : List Bool
     -- this is what was fed, without a fault
-    pub fed : HasFed old new start now s commands marks None events
+    pub fed : HasFed (server_for how old) new start now s commands marks None events
     -- the packets so far
     pub packets : List (List ℕ)
     -- they are what was sent
@@ -490,31 +491,32 @@ module _ {D : Type 0} where
     -- each was written in one write
     pub written : Grows before after packets
     -- the update tells of them
-    pub told : AreTold tells look s.geometry.objects first s.carousel stage events commands marks
-        last fed.leaves.last.carousel
+    pub told : AreTold tells (look_in how) s.geometry.objects first s.carousel stage events commands
+        marks last fed.leaves.last.carousel
     -- whether a turn has ended behind them, or none was begun
     pub ended : is_between_turns true events ≡ between_turns
     -- how many packets of the rest go out before a look may come
-    pub behind : left_after look true 0 events ≡ rest
+    pub behind : left_after (look_in how) true 0 events ≡ rest
     -- the turns to come and those that ended are all
-    pub counted : left + turns_in events ≡ turns
+    pub counted : left + turns_in events ≡ how.turns
     -- how many packets were sent
     pub many : length packets ≡ count
     -- where no turn is to come, none is under way
     pub done : left ≡ 0 → between_turns ≡ true
+    -- until so many packets are sent the directory is not asked for
+    pub often : 0 < how.directory → OftenUpTo how.directory between_turns until events
 
   -- feeding that begins has sent nothing
-  pub fed_none : {U : Type 0} (tells : U → U → Moment → Telling) (look : ℕ) (first : U)
+  pub fed_none : {U : Type 0} (tells : U → U → Moment → Telling) (how : Manner) (first : U)
       (old mid : ServerView D) (start now : State) (s : Standing)
-      (turns : ℕ) (contents : Option (List (List ℕ)))
-      → mid.view ≡ old.view → place_in mid s ≡ place_in old s → IsHonestDisk start
-      → now.IsHonest → IsUnchanged start now → Holds old.view s start
-      → SoFar tells look Ready first first old mid start now s turns turns true 0 0 contents
+      (contents : Option (List (List ℕ)))
+      → mid.view ≡ old.view → place_in mid s ≡ place_in (server_for how old) s
+      → IsHonestDisk start → now.IsHonest → IsUnchanged start now → Holds old.view s start
+      → SoFar tells how Ready first first old mid start now s how.turns true (Some 0) 0 0 contents
       contents
-  fed_none tells look first old mid start now s turns contents view same sound honest still
-      holds =
-      let fed = fed-read old mid start now s None [] sound view honest still holds refl
-      (refl, sym same) in
+  fed_none tells how first old mid start now s contents view same sound honest still holds =
+      let fed = fed-read (server_for how old) mid start now s None [] sound view honest still holds
+      refl (refl, sym same) in
       record {
         events = [];
         commands = [];
@@ -523,34 +525,32 @@ module _ {D : Type 0} where
         packets = [];
         are = are-none;
         written = grows_nil contents;
-        told = subst (λ (d : Standing). AreTold tells look s.geometry.objects first s.carousel
-            Ready [] [] [] first d.carousel) (sym fed.1) no_call;
+        told = subst (λ (d : Standing). AreTold tells (look_in how) s.geometry.objects first
+            s.carousel Ready [] [] [] first d.carousel) (sym fed.1) no_call;
         ended = refl;
         behind = refl;
         counted = omega arith;
         many = refl;
         done = λ e. refl;
+        often = λ asked. often-none how.directory;
       }
 
-  pub none_often : {U : Type 0} (tells : U → U → Moment → Telling) (every look : ℕ) (first : U)
-      (old mid : ServerView D) (start now : State) (s : Standing)
-      (turns : ℕ) (contents : Option (List (List ℕ)))
-      (view : mid.view ≡ old.view) (same : place_in mid s ≡ place_in old s)
-      (sound : IsHonestDisk start) (honest : now.IsHonest) (still : IsUnchanged start now)
-      (holds : Holds old.view s start) → OftenUpTo every true (Some 0)
-      (fed_none tells look first old mid start now s turns contents view same sound honest still
-      holds).events
-  unfolding fed_none
-  none_often tells every look first old mid start now s turns contents view same sound honest
-      still holds = often-none every
-
-  module _ {U : Type 0} {tells : U → U → Moment → Telling} {look : ℕ} {stage : Stage}
+  module _ {U : Type 0} {tells : U → U → Moment → Telling} {how : Manner} {stage : Stage}
       {first since : U} {old mid : ServerView D} {start between : State} {s : Standing}
-      {turns left : ℕ} {between_turns : Bool} {rest count : ℕ}
+      {left : ℕ} {between_turns : Bool} {until : Option ℕ} {rest count : ℕ}
       {before after : Option (List (List ℕ))}
-      (so_far : SoFar tells look stage first since old mid start between s turns left
-      between_turns rest count before after)
+      (so_far : SoFar tells how stage first since old mid start between s left between_turns until
+      rest count before after)
     where
+      abbrev look : ℕ
+      look = look_in how
+
+      abbrev every : ℕ
+      every = how.directory
+
+      abbrev from : ServerView D
+      from = server_for how old
+
       -- where the update comes now
       abbrev moment : Moment
       moment = moment_at look between_turns rest
@@ -570,7 +570,7 @@ module _ {D : Type 0} where
 
       -- all turns were fed, or too many packets
       pub fed_all : stage ≡ Ready → (left ≡ 0) ⊎ (count ≡ 18446744073709551615)
-          → Feeds tells look turns None first since old mid start between s before after
+          → Feeds tells how None first since old mid start between s before after
       fed_all ready end = record {
         stage = Ready;
         events = so_far.events;
@@ -581,24 +581,15 @@ module _ {D : Type 0} where
         packets = so_far.packets;
         are = so_far.are;
         ends = all_ended end;
+        often = λ asked. often-all every between_turns until so_far.events (so_far.often asked);
       }
         where
           all_ended : (left ≡ 0) ⊎ (count ≡ 18446744073709551615)
-              → EndsFeed turns so_far.events so_far.packets before after None Ready
+              → EndsFeed how.turns so_far.events so_far.packets before after None Ready
           all_ended (inl none) = all_turns
               (let all = so_far.counted in omega (arith, none, all))
               (so_far.ended ∙ so_far.done none) so_far.written
           all_ended (inr many) = all_numbers (so_far.many ∙ many) so_far.written
-
-      -- the same, with the directory often
-      pub fed_often : (every : ℕ) (until : Option ℕ)
-          → OftenUpTo every between_turns until so_far.events
-          → stage ≡ Ready → (left ≡ 0) ⊎ (count ≡ 18446744073709551615)
-          → (feeds : Feeds tells look turns None first since old mid start between s before after)
-          × IsOften every feeds.events
-      unfolding fed_all
-      fed_often every until often ready end =
-          (fed_all ready end, often-all every between_turns until so_far.events often)
 
       -- an update more
       module _ {up : ServerView D} {then_state : State} {last : U} {fault : Option Refusal}
@@ -617,9 +608,9 @@ module _ {D : Type 0} where
         updated_marks = so_far.marks ++ update.marks
 
         -- an update behind what was fed, as one run of all commands
-        updated_fed : FedTo old up start then_state s updated_commands updated_marks fault
+        updated_fed : FedTo from up start then_state s updated_commands updated_marks fault
             updated_events update.run.leaves.last
-        updated_fed = fed-join old mid up start between then_state s update.run.leaves.last
+        updated_fed = fed-join from mid up start between then_state s update.run.leaves.last
             so_far.commands update.commands so_far.marks update.marks fault so_far.events
             (map Accepted done_by) so_far.fed
             (fed-run mid up between then_state so_far.fed.leaves.last fault update.commands
@@ -659,8 +650,13 @@ module _ {D : Type 0} where
             ∙ left-map look (is_between_turns true so_far.events)
             (left_after look true 0 so_far.events) done_by ∙ so_far.behind
 
+        -- it asks for no directory
+        updated_often : 0 < every → OftenUpTo every between_turns until updated_events
+        updated_often asked =
+            often-accepted every between_turns until so_far.events done_by (so_far.often asked)
+
         -- it ends no turn
-        updated_turns : left + turns_in updated_events ≡ turns
+        updated_turns : left + turns_in updated_events ≡ how.turns
         updated_turns = omega (
           arith,
           turns-append so_far.events (map Accepted done_by),
@@ -674,7 +670,7 @@ module _ {D : Type 0} where
           → IsUpdating (tells since last moment) mid up between then_state
           so_far.fed.leaves.last (Some refusal)
           → refusal ≢ WriteFault
-          → Feeds tells look turns (Some refusal) first last old up start then_state s before after
+          → Feeds tells how (Some refusal) first last old up start then_state s before after
       update_fault {up} {then_state} {last} {refusal} ready update other = record {
         stage = Called (Some refusal);
         events = updated_events update;
@@ -685,14 +681,16 @@ module _ {D : Type 0} where
         packets = so_far.packets;
         are = updated_are update;
         ends = of_call refusal other so_far.written;
+        often = λ asked. often-all every between_turns until (updated_events update)
+            (updated_often update asked);
       }
 
       -- what was fed so far, with an update that had no fault
       pub updated : {up : ServerView D} {then_state : State} {last : U}
           → stage ≡ Ready → IsUpdating (tells since last moment) mid up between then_state
           so_far.fed.leaves.last None
-          → SoFar tells look (Called None) first last old up start then_state s turns left
-          between_turns rest count before after
+          → SoFar tells how (Called None) first last old up start then_state s left between_turns
+          until rest count before after
       updated {up} {then_state} {last} ready update = record {
         events = updated_events update;
         commands = updated_commands update;
@@ -707,34 +705,8 @@ module _ {D : Type 0} where
         counted = updated_turns update;
         many = so_far.many;
         done = so_far.done;
+        often = updated_often update;
       }
-
-      -- commands ask for no directory
-      pub updated_often : {up : ServerView D} {then_state : State} {last : U}
-          (every : ℕ) (until : Option ℕ)
-          → OftenUpTo every between_turns until so_far.events
-          → (ready : stage ≡ Ready) (update : IsUpdating (tells since last moment) mid up between
-          then_state so_far.fed.leaves.last None)
-          → OftenUpTo every between_turns until (updated ready update).events
-      unfolding updated
-      updated_often every until often ready update =
-          often-accepted every between_turns until so_far.events (done_by update) often
-
-      -- and a fault of an update behind them
-      pub update_fault_often : {up : ServerView D} {then_state : State} {last : U}
-          {refusal : Refusal} (every : ℕ) (until : Option ℕ)
-          → OftenUpTo every between_turns until so_far.events → stage ≡ Ready
-          → IsUpdating (tells since last moment) mid up between then_state
-          so_far.fed.leaves.last (Some refusal)
-          → refusal ≢ WriteFault
-          → (feeds : Feeds tells look turns (Some refusal) first last old up start then_state s
-          before after) × IsOften every feeds.events
-      unfolding update_fault
-      update_fault_often every until often ready update other = (
-        update_fault ready update other,
-        often-all every between_turns until (updated_events update)
-            (often-accepted every between_turns until so_far.events (done_by update) often),
-      )
 
       abbrev t : Standing
       t = so_far.fed.leaves.last
@@ -750,8 +722,8 @@ module _ {D : Type 0} where
         more_fed : (more : List Event) → commands_among more ≡ []
             → Happen t.geometry.objects t.geometry.segment t.carousel (place_in mid t) more
             t.carousel (place_in new t)
-            → FedTo old new start now s so_far.commands so_far.marks None (so_far.events ++ more) t
-        more_fed more none happened = fed-on old mid new start between now s t so_far.commands
+            → FedTo from new start now s so_far.commands so_far.marks None (so_far.events ++ more) t
+        more_fed more none happened = fed-on from mid new start between now s t so_far.commands
             so_far.marks so_far.events more so_far.fed
             (fed-read mid new between now t None more sound view honest still held none happened)
 
@@ -760,7 +732,7 @@ module _ {D : Type 0} where
           abbrev sent_events : List Event
           sent_events = so_far.events ++ Played step.sent ∷ []
 
-          sent_fed : FedTo old new start now s so_far.commands so_far.marks None sent_events t
+          sent_fed : FedTo from new start now s so_far.commands so_far.marks None sent_events t
           sent_fed = more_fed (Played step.sent ∷ []) refl
               (played t.geometry.objects t.geometry.segment t.carousel (place_in mid t)
               (place_in new t) packet ends step)
@@ -779,11 +751,12 @@ module _ {D : Type 0} where
 
         -- the directory asked for, or not
         module _ (due : Bool) (asked : place_in new t
-            ≡ (if due then hear_directory (place_in mid t) else place_in mid t)) where
+            ≡ (if due then hear_directory (place_in mid t) else place_in mid t))
+            (n : ℕ) (at : until ≡ Some n) (is_so : 0 < every → due ≡ is_due between_turns n) where
           abbrev asked_for : List Event
           asked_for = if due then Asked ∷ [] else []
 
-          asked_fed : FedTo old new start now s so_far.commands so_far.marks None
+          asked_fed : FedTo from new start now s so_far.commands so_far.marks None
               (so_far.events ++ asked_for) t
           asked_fed = more_fed asked_for (commands-asked due)
               (happen-asked t.geometry.objects t.geometry.segment t.carousel
@@ -805,8 +778,8 @@ module _ {D : Type 0} where
               so_far.commands so_far.marks since d.carousel) (sym asked_fed.1)
               (told-asked due (so_far_told (Called None) called))
 
-          pub asked_on : stage ≡ Called None → SoFar tells look (Called None) first since old new
-              start now s turns left between_turns rest count before after
+          pub asked_on : stage ≡ Called None → SoFar tells how (Called None) first since old new
+              start now s left between_turns (left_for due n) rest count before after
           asked_on called = record {
             events = so_far.events ++ asked_for;
             commands = so_far.commands;
@@ -829,19 +802,13 @@ module _ {D : Type 0} where
             );
             many = so_far.many;
             done = so_far.done;
+            often = λ some. often-asked every n between_turns so_far.events due (is_so some)
+                (subst (λ u. OftenUpTo every between_turns u so_far.events) at (so_far.often some));
           }
-
-          pub asked_often : (called : stage ≡ Called None) (every until : ℕ)
-              → due ≡ is_due between_turns until
-              → OftenUpTo every between_turns (Some until) so_far.events
-              → OftenUpTo every between_turns (left_for due until) (asked_on called).events
-          unfolding asked_on
-          asked_often called every until is often =
-              often-asked every until between_turns so_far.events due is often
 
         -- where no packet was made, nothing more was fed
         unsent_fed : place_in new t ≡ place_in mid t
-            → FedTo old new start now s so_far.commands so_far.marks None (so_far.events ++ []) t
+            → FedTo from new start now s so_far.commands so_far.marks None (so_far.events ++ []) t
         unsent_fed same = more_fed [] refl (refl, sym same)
 
         -- and nothing more is told
@@ -854,134 +821,101 @@ module _ {D : Type 0} where
             (subst (λ l. Told (Called None) l so_far.commands so_far.marks since t.carousel)
             (sym (append-nil so_far.events)) (so_far_told (Called None) called))
 
-        send_fault-cases : {last : Option (List (List ℕ))} (refusal : Refusal)
-            → stage ≡ Called None
-            → SendsPacket (Err refusal) (place_in mid t) (place_in new t) after last
-            → Feeds tells look turns (Some refusal) first since old new start now s before last
-        send_fault-cases {last} refusal called (one.whole packet e is step w) =
-            absurd (not_fine e refusal (sym is))
-        send_fault-cases {last} refusal called (one.short packet e n is step lt w) = record {
-          stage = Ready;
-          events = sent_events step;
-          commands = so_far.commands;
-          marks = so_far.marks;
-          fed = (sent_fed step).0;
-          told = sent_told step called;
-          packets = so_far.packets ++ packet ∷ [];
-          are = sent_are step;
-          ends = subst (λ r. EndsFeed turns (sent_events step) (so_far.packets ++ packet ∷ [])
-              before last (Some r) Ready) (sym (same_err refusal WriteFault is))
-              (of_write so_far.packets packet n refl lt
-              (grows_trans before after last so_far.packets (take n packet ∷ []) so_far.written w));
-        }
-        send_fault-cases {last} refusal called (one.none r other is same w) = record {
-          stage = Called None;
-          events = so_far.events ++ [];
-          commands = so_far.commands;
-          marks = so_far.marks;
-          fed = (unsent_fed same).0;
-          told = unsent_told same called;
-          packets = so_far.packets;
-          are = subst (λ l. AreOf l so_far.packets) (sym (append-nil so_far.events)) so_far.are;
-          ends = of_packet refusal (λ e. other (sym (same_err refusal r is) ∙ e))
-              (grows_kept before after last so_far.packets so_far.written w);
-        }
+        -- the directory was asked for, if it was due
+        module _ (n : ℕ) (due : Bool) (at : until ≡ left_for due n)
+            (is_so : 0 < every → due ≡ is_due between_turns n) where
+          often_now : 0 < every → OftenUpTo every between_turns (left_for due n) so_far.events
+          often_now asked =
+              subst (λ u. OftenUpTo every between_turns u so_far.events) at (so_far.often asked)
 
-        -- feeding that a fault of a packet or of its write ends
-        pub send_fault : {last : Option (List (List ℕ))} (refusal : Refusal)
-            → stage ≡ Called None → ((d : Standing) → Holds mid.view d between
-            → SendsPacket (Err refusal) (place_in mid d) (place_in new d) after last)
-            → Feeds tells look turns (Some refusal) first since old new start now s before last
-        send_fault refusal called sends = send_fault-cases refusal called (sends t held)
-
-        -- the same, with the directory often
-        module _ (every until : ℕ) (due : Bool)
-            (often : OftenUpTo every between_turns (left_for due until) so_far.events)
-            (is_so : due ≡ is_due between_turns until) where
-          fault_often-cases : {last : Option (List (List ℕ))} (refusal : Refusal)
-              (called : stage ≡ Called None)
-              (one : SendsPacket (Err refusal) (place_in mid t) (place_in new t) after last)
-              → IsOften every (send_fault-cases refusal called one).events
-          unfolding send_fault-cases
-          fault_often-cases {last} refusal called (one.whole packet e is step w) =
+          send_fault-cases : {last : Option (List (List ℕ))} (refusal : Refusal)
+              → stage ≡ Called None
+              → SendsPacket (Err refusal) (place_in mid t) (place_in new t) after last
+              → Feeds tells how (Some refusal) first since old new start now s before last
+          send_fault-cases {last} refusal called (one.whole packet e is step w) =
               absurd (not_fine e refusal (sym is))
-          fault_often-cases {last} refusal called (one.short packet e n is step lt w) =
-              often-cut every until between_turns due so_far.events step.sent often is_so
-          fault_often-cases {last} refusal called (one.none r other is same w) = often []
+          send_fault-cases {last} refusal called (one.short packet e m is step lt w) = record {
+            stage = Ready;
+            events = sent_events step;
+            commands = so_far.commands;
+            marks = so_far.marks;
+            fed = (sent_fed step).0;
+            told = sent_told step called;
+            packets = so_far.packets ++ packet ∷ [];
+            are = sent_are step;
+            ends = subst (λ r. EndsFeed how.turns (sent_events step) (so_far.packets ++ packet ∷ [])
+                before last (Some r) Ready) (sym (same_err refusal WriteFault is))
+                (of_write so_far.packets packet m refl lt
+                (grows_trans before after last so_far.packets (take m packet ∷ []) so_far.written w));
+            often = λ asked. often-cut every n between_turns due so_far.events step.sent
+                (often_now asked) (is_so asked);
+          }
+          send_fault-cases {last} refusal called (one.none r other is same w) = record {
+            stage = Called None;
+            events = so_far.events ++ [];
+            commands = so_far.commands;
+            marks = so_far.marks;
+            fed = (unsent_fed same).0;
+            told = unsent_told same called;
+            packets = so_far.packets;
+            are = subst (λ l. AreOf l so_far.packets) (sym (append-nil so_far.events)) so_far.are;
+            ends = of_packet refusal (λ e. other (sym (same_err refusal r is) ∙ e))
+                (grows_kept before after last so_far.packets so_far.written w);
+            often = λ asked. so_far.often asked [];
+          }
 
-          pub send_fault_often : {last : Option (List (List ℕ))} (refusal : Refusal)
+          -- feeding that a fault of a packet or of its write ends
+          pub send_fault : {last : Option (List (List ℕ))} (refusal : Refusal)
               → stage ≡ Called None → ((d : Standing) → Holds mid.view d between
               → SendsPacket (Err refusal) (place_in mid d) (place_in new d) after last)
-              → (feeds : Feeds tells look turns (Some refusal) first since old new start now s
-              before last) × IsOften every feeds.events
-          unfolding send_fault
-          send_fault_often refusal called sends =
-              (send_fault refusal called sends, fault_often-cases refusal called (sends t held))
+              → Feeds tells how (Some refusal) first since old new start now s before last
+          send_fault refusal called sends = send_fault-cases refusal called (sends t held)
 
-        -- one that was written whole
-        module _ (called : stage ≡ Called None) (some : left ≡ 0 → ⊥) (ends : Bool) (fewer : ℕ)
-            (is_fewer : fewer + (if ends then 1 else 0) ≡ left) (then_rest : ℕ)
-            (is_rest : (sent : Sent) → place_in new t ≡ sent.place
-            → left_behind look between_turns rest sent ≡ then_rest)
-            {last : Option (List (List ℕ))} where
-          sent_on-cases : SendsPacket (Ok ends) (place_in mid t) (place_in new t) after last
-              → SoFar tells look Ready first since old new start now s turns fewer ends then_rest
-              (count + 1) before last
-          sent_on-cases (one.whole packet e is step w) =
-              let same : step.sent.ends_turn ≡ ends = sym step.ends ∙ sym (same_ok ends e is) in
-              record {
-                events = sent_events step;
-                commands = so_far.commands;
-                marks = so_far.marks;
-                fed = (sent_fed step).0;
-                packets = so_far.packets ++ packet ∷ [];
-                are = sent_are step;
-                written = grows_trans before after last so_far.packets (packet ∷ [])
-                    so_far.written w;
-                told = sent_told step called;
-                ended = ended-append true so_far.events (Played step.sent ∷ []) ∙ same;
-                behind = left-append look true 0 so_far.events (Played step.sent ∷ [])
-                    ∙ ap (λ e. left_behind look e (left_after look true 0 so_far.events) step.sent)
-                    so_far.ended
-                    ∙ ap (λ n. left_behind look between_turns n step.sent) so_far.behind
-                    ∙ is_rest step.sent step.place;
-                counted = more_turns so_far.events step.sent ends fewer left turns same is_fewer
-                    so_far.counted;
-                many = length-append so_far.packets (packet ∷ []) ∙ omega (arith, so_far.many);
-                done = λ none. done-cases ends fewer left none is_fewer some;
-              }
-          sent_on-cases (one.short packet e n is step lt w) = absurd (not_fine ends _ is)
-          sent_on-cases (one.none refusal other is same w) = absurd (not_fine ends refusal is)
+          -- one that was written whole
+          module _ (called : stage ≡ Called None) (some : left ≡ 0 → ⊥) (ends : Bool) (fewer : ℕ)
+              (is_fewer : fewer + (if ends then 1 else 0) ≡ left) (then_rest : ℕ)
+              (is_rest : (sent : Sent) → place_in new t ≡ sent.place
+              → left_behind look between_turns rest sent ≡ then_rest) (next : ℕ)
+              (anew : (d : Standing) → next ≡ (if due then pause every (place_in new d) else n - 1))
+              {last : Option (List (List ℕ))} where
+            sent_on-cases : SendsPacket (Ok ends) (place_in mid t) (place_in new t) after last
+                → SoFar tells how Ready first since old new start now s fewer ends (Some next)
+                then_rest (count + 1) before last
+            sent_on-cases (one.whole packet e is step w) =
+                let same : step.sent.ends_turn ≡ ends = sym step.ends ∙ sym (same_ok ends e is) in
+                record {
+                  events = sent_events step;
+                  commands = so_far.commands;
+                  marks = so_far.marks;
+                  fed = (sent_fed step).0;
+                  packets = so_far.packets ++ packet ∷ [];
+                  are = sent_are step;
+                  written = grows_trans before after last so_far.packets (packet ∷ [])
+                      so_far.written w;
+                  told = sent_told step called;
+                  ended = ended-append true so_far.events (Played step.sent ∷ []) ∙ same;
+                  behind = left-append look true 0 so_far.events (Played step.sent ∷ [])
+                      ∙ ap (λ e. left_behind look e (left_after look true 0 so_far.events) step.sent)
+                      so_far.ended
+                      ∙ ap (λ m. left_behind look between_turns m step.sent) so_far.behind
+                      ∙ is_rest step.sent step.place;
+                  counted = more_turns so_far.events step.sent ends fewer left how.turns same
+                      is_fewer so_far.counted;
+                  many = length-append so_far.packets (packet ∷ []) ∙ omega (arith, so_far.many);
+                  done = λ none. done-cases ends fewer left none is_fewer some;
+                  often = λ asked. often-sent every n next between_turns ends due so_far.events
+                      step.sent (often_now asked) (is_so asked) same
+                      (anew t ∙ ap (λ p. if due then pause every p else n - 1) step.place);
+                }
+            sent_on-cases (one.short packet e m is step lt w) = absurd (not_fine ends _ is)
+            sent_on-cases (one.none refusal other is same w) = absurd (not_fine ends refusal is)
 
-          -- one more packet, which was made and written
-          pub sent_on : ((d : Standing) → Holds mid.view d between
-              → SendsPacket (Ok ends) (place_in mid d) (place_in new d) after last)
-              → SoFar tells look Ready first since old new start now s turns fewer ends then_rest
-              (count + 1) before last
-          sent_on sends = sent_on-cases (sends t held)
-
-          -- the same, with the directory often
-          module _ (every until next : ℕ) (due : Bool)
-              (often : OftenUpTo every between_turns (left_for due until) so_far.events)
-              (is_so : due ≡ is_due between_turns until)
-              (anew : due ≡ true → (d : Standing) → next ≡ pause every (place_in new d))
-              (less : due ≡ false → suc next ≡ until) where
-            sent_often-cases : (one : SendsPacket (Ok ends) (place_in mid t) (place_in new t)
-                after last) → OftenUpTo every ends (Some next) (sent_on-cases one).events
-            unfolding sent_on-cases
-            sent_often-cases (one.whole packet e is step w) =
-                often-sent every until next between_turns ends due so_far.events step.sent often
-                is_so (sym step.ends ∙ sym (same_ok ends e is))
-                (λ e. anew e t ∙ ap (pause every) step.place) less
-            sent_often-cases (one.short packet e n is step lt w) = absurd (not_fine ends _ is)
-            sent_often-cases (one.none refusal other is same w) =
-                absurd (not_fine ends refusal is)
-
-            pub sent_often : (sends : (d : Standing) → Holds mid.view d between
+            -- one more packet, which was made and written
+            pub sent_on : ((d : Standing) → Holds mid.view d between
                 → SendsPacket (Ok ends) (place_in mid d) (place_in new d) after last)
-                → OftenUpTo every ends (Some next) (sent_on sends).events
-            unfolding sent_on
-            sent_often sends = sent_often-cases (sends t held)
+                → SoFar tells how Ready first since old new start now s fewer ends (Some next)
+                then_rest (count + 1) before last
+            sent_on sends = sent_on-cases (sends t held)
 
 -- ---- continuity
 

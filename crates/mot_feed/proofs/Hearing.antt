@@ -1,7 +1,6 @@
 -- The directory asked for often.
-use Rattle.std.proofs.Common.{◌≡◌, ℕ, suc, ◌-◌, Bool, true, false, not, ◌&&◌, List, [], ◌∷◌, ◌++◌}
+use Rattle.std.proofs.Common.{◌≡◌, ℕ, ◌-◌, Bool, true, false, not, ◌&&◌, List, [], ◌∷◌, ◌++◌}
 use Rattle.std.proofs.Common.{map, Option, Some, None, refl, sym, ap, ◌∙◌, append_assoc, append-nil}
-use Rattle.std.proofs.Common.{arith}
 use Rattle.std.specs.Prelude.{if◌then◌else◌}
 use Rattle.mot_feed.specs.Feeding.{Event}
 use Rattle.mot_feed.specs.Feeding.Event.{Accepted, Asked, Played}
@@ -72,32 +71,29 @@ often-asked every until ended events due is often =
     often-on every ended ended (Some until) (left_for due until) events (asks due) often
     (asked-on every until ended due is)
 
-less_one : (until next : ℕ) → suc next ≡ until → until - 1 ≡ next
-less_one until next less = omega (arith, less)
-
 sent-on : (every until next : ℕ) (ended then_ended due : Bool) (sent : Sent)
     → due ≡ is_due ended until → sent.ends_turn ≡ then_ended
-    → (due ≡ true → next ≡ pause every sent.place) → (due ≡ false → suc next ≡ until)
+    → next ≡ (if due then pause every sent.place else until - 1)
     → (others : List Event)
     → is_often every ended (left_for due until) (Played sent ∷ others)
     ≡ is_often every then_ended (Some next) others
-sent-on every until next ended then_ended true sent is same anew less others =
+sent-on every until next ended then_ended true sent is same anew others =
     ap (λ e. is_often every e (Some (pause every sent.place)) others) same
-    ∙ ap (λ n. is_often every then_ended (Some n) others) (sym (anew refl))
-sent-on every until next ended then_ended false sent is same anew less others =
+    ∙ ap (λ n. is_often every then_ended (Some n) others) (sym anew)
+sent-on every until next ended then_ended false sent is same anew others =
     ap (λ d. not d && is_often every sent.ends_turn (Some (until - 1)) others) (sym is)
     ∙ ap (λ e. is_often every e (Some (until - 1)) others) same
-    ∙ ap (λ n. is_often every then_ended (Some n) others) (less_one until next (less refl))
+    ∙ ap (λ n. is_often every then_ended (Some n) others) (sym anew)
 
 -- a packet was sent
 pub often-sent : (every until next : ℕ) (ended then_ended due : Bool) (events : List Event)
     (sent : Sent) → OftenUpTo every ended (left_for due until) events
     → due ≡ is_due ended until → sent.ends_turn ≡ then_ended
-    → (due ≡ true → next ≡ pause every sent.place) → (due ≡ false → suc next ≡ until)
+    → next ≡ (if due then pause every sent.place else until - 1)
     → OftenUpTo every then_ended (Some next) (events ++ Played sent ∷ [])
-often-sent every until next ended then_ended due events sent often is same anew less =
+often-sent every until next ended then_ended due events sent often is same anew =
     often-on every ended then_ended (left_for due until) (Some next) events (Played sent ∷ []) often
-    (sent-on every until next ended then_ended due sent is same anew less)
+    (sent-on every until next ended then_ended due sent is same anew)
 
 -- a packet was made, and was not written whole
 pub often-cut : (every until : ℕ) (ended due : Bool) (events : List Event) (sent : Sent)

@@ -9,3 +9,8 @@ pub use Rattle.mot_feed.proofs.Grown.{grows_nil}
 pub use Rattle.mot_feed.proofs.Listening.{often-front, rules_of_window}
 -- what happens in two parts
 pub use Rattle.mot_feed.proofs.Ends.{HappenApart, happen-apart}
+-- the laws of any feed
+pub use Rattle.mot_feed.proofs.Ends.{nobody_starves}
+pub use Rattle.mot_feed.proofs.Fed.{continuous}
+pub use Rattle.mot_feed.proofs.Listening.{listeners_hear}
+pub use Rattle.mot_feed.proofs.OnAir.{changed_turns_read, turns_read}

@@ -179,22 +179,6 @@ pub data EndsFeed (turns : ℕ) (events : List Event) (packets : List (List ℕ)
       → count < length last → Grows before after (others ++ take count last ∷ [])
       → EndsFeed turns events packets before after (Some WriteFault) Ready
 
--- Turns were fed, so many if nothing ended feeding before. All commands that were run are those of
--- the calls of the update, which was the first and is the last.
-pub record Feeds {D U : Type 0} (tells : U → U → Moment → Telling) (look turns : ℕ)
-    (ending : Option Refusal) (first last : U) (old new : ServerView D) (start now : State)
-    (s : Standing) (before after : Option (List (List ℕ))) : Type 0 where
-  pub stage : Stage
-  pub events : List Event
-  pub commands : List Command
-  pub marks : List Bool
-  pub fed : HasFed old new start now s commands marks (fault_at stage) events
-  pub told : AreTold tells look s.geometry.objects first s.carousel stage events commands marks
-      last fed.leaves.last.carousel
-  pub packets : List (List ℕ)
-  pub are : AreOf events packets
-  pub ends : EndsFeed turns events packets before after ending stage
-
 -- why feeding ended, on every disk: as an update does, or since a write failed
 abbrev pub IsFeedFault : {D : Type 0} → ServerView D → (start now : State) → Refusal → Type 0
 IsFeedFault old start now refusal = IsUpdateFault old start now refusal

@@ -1,10 +1,18 @@
--- The directory asked for often, while a server is fed from.
-use Rattle.std.specs.Prelude.{◌≡◌, ◌==◌, ℕ, ◌*◌, ◌-◌, max, nat_eq, Bool, true, false, not, ◌||◌}
+-- What feeding in a manner does: the directory is asked for often, or not.
+use Rattle.std.specs.Prelude.{◌≡◌, ◌==◌, ◌<◌, ℕ, ◌*◌, ◌-◌, max, nat_eq, Bool, true, false, not, ◌||◌}
 use Rattle.std.specs.Prelude.{◌&&◌, if◌then◌else◌}
 use Rattle.std.specs.Prelude.{List, [], ◌∷◌, Option, Some, None}
-use Rattle.mot_feed.specs.Feeding.{Accepted, Asked, Event, Played}
+use Rattle.disk_model.specs.Disk.{State}
+use Rattle.mot_feed.specs.Feeding.{Accepted, AreOf, AreTold, Asked, EndsFeed, Event, HasFed, Played}
+use Rattle.mot_feed.specs.Feeding.{Stage, fault_at}
+use Rattle.mot_feed.specs.declared.manner.Manner.{Manner}
+use Rattle.mot_journal.specs.Image.{Standing}
+use Rattle.mot_numbers.specs.declared.refusal.Refusal.{Refusal}
+use Rattle.mot_objects.specs.declared.command.Command.{Command}
 use Rattle.mot_player.specs.Place.{Place, directory_packets}
 use Rattle.mot_playout.specs.Server.{ServerView}
+use Rattle.mot_update.specs.Between.{Telling}
+use Rattle.mot_update.specs.declared.moment.Moment.{Moment}
 
 -- how many packets go out before the directory is asked for again, at least ten times those that it
 -- takes itself
@@ -34,21 +42,38 @@ is_often every ended (Some left) (Played sent ∷ events) =
 abbrev pub IsOften : ℕ → List Event → Type 0
 IsOften every events = is_often every true (Some 0) events ≡ true
 
--- after how many packets a look may come within a turn, where the directory is sent again after so
--- many: where that is 0, changes begin the turn anew, and looks come between turns
-abbrev pub look_in : (every look : ℕ) → ℕ
-look_in every look = if every == 0 then 0 else look
+-- after how many packets of a turn a look may come: where the directory does not come within turns,
+-- looks come between turns alone
+abbrev pub look_in : Manner → ℕ
+look_in how = if how.directory == 0 then 0 else how.look
 
--- and the server as it is fed then: one that follows, with at most so many bodies early, or as it
--- was
-abbrev pub server_for : {D : Type 0} → (every early : ℕ) → ServerView D → ServerView D
-server_for every early server = record server {
+-- The server as it is fed: where the directory comes within turns, it follows changes, with at most
+-- so many bodies early; and else it is as it was, and a change begins the turn anew.
+abbrev pub server_for : {D : Type 0} → Manner → ServerView D → ServerView D
+server_for how server = record server {
   player = record server.player {
-    follows = if every == 0 then server.player.follows else Some early;
+    follows = if how.directory == 0 then server.player.follows else Some how.early;
   };
 }
 
 -- and where it stands then
-abbrev pub place_for : (every early : ℕ) → Place → Place
-place_for every early place =
-    record place { follows = if every == 0 then place.follows else Some early }
+abbrev pub place_for : Manner → Place → Place
+place_for how place =
+    record place { follows = if how.directory == 0 then place.follows else Some how.early }
+
+-- Turns were fed, so many if nothing ended feeding before. All commands that were run are those of
+-- the calls of the update, which was the first and is the last.
+pub record Feeds {D U : Type 0} (tells : U → U → Moment → Telling) (how : Manner)
+    (ending : Option Refusal) (first last : U) (old new : ServerView D) (start now : State)
+    (s : Standing) (before after : Option (List (List ℕ))) : Type 0 where
+  pub stage : Stage
+  pub events : List Event
+  pub commands : List Command
+  pub marks : List Bool
+  pub fed : HasFed (server_for how old) new start now s commands marks (fault_at stage) events
+  pub told : AreTold tells (look_in how) s.geometry.objects first s.carousel stage events commands
+      marks last fed.leaves.last.carousel
+  pub packets : List (List ℕ)
+  pub are : AreOf events packets
+  pub ends : EndsFeed how.turns events packets before after ending stage
+  pub often : 0 < how.directory → IsOften how.directory events

@@ -2,9 +2,11 @@
 #![tactic(auto)]
 
 mod feeding;
-mod often;
+mod law;
+mod manner;
 mod sending;
 
 pub use feeding::feed;
+pub use law::feed_laws;
+pub use manner::Manner;
 pub use mot_packets::Outlet;
-pub use often::{feed_every, feed_often};

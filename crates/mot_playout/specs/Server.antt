@@ -1,5 +1,5 @@
 -- What contracts see of a server.
-use Rattle.std.specs.Prelude.{ℕ, List, map, Some}
+use Rattle.std.specs.Prelude.{ℕ, List, map}
 use Rattle.mot_journal.specs.Image as journal
 use Rattle.mot_objects.specs.Carousel.{Carousel, Object}
 use Rattle.mot_player.specs.Place.{Place}
@@ -14,11 +14,6 @@ pub record ServerView (D : Type 0) : Type 0 where
 
 abbrev pub bodies_of : Carousel → List (List ℕ)
 bodies_of c = map (λ (o : Object). o.body) c.objects
-
--- a server that was told to follow changed turns, with at most so many bodies early
-abbrev pub following_server : {D : Type 0} → (early : ℕ) → ServerView D → ServerView D
-following_server early server =
-    record server { player = record server.player { follows = Some early } }
 
 -- where it stands in playing what the disk stands for
 abbrev pub place_in : {D : Type 0} → ServerView D → journal.Standing → Place

@@ -2,7 +2,7 @@
 use Rattle.std.specs.Prelude.{◌-◌, ℕ, Bool, List, [], Option, Some, None, option_map}
 use Rattle.mot_air.specs.Playing.{Tale}
 use Rattle.mot_air.specs.Telling.{folder_in, lines_at, tale_with, watch_in, watched}
-use Rattle.mot_air.specs.declared.manner.Manner.{Manner}
+use Rattle.mot_feed.specs.declared.manner.Manner.{Manner}
 use Rattle.mot_air.specs.declared.on_air.Airing.{Airing}
 use Rattle.mot_feed_lines.specs.Answering.{TellsInTurn, TellsOnTime}
 use Rattle.mot_feed_lines.specs.declared.lines.Lines.{Lines}

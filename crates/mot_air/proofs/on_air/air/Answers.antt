@@ -7,7 +7,7 @@ use Rattle.mot_air.specs.Inner.Beside.{lines_in, tale_aired}
 use Rattle.mot_air.specs.Commands.{played_as}
 use Rattle.mot_air.specs.Directory.{IsFrame}
 use Rattle.mot_air.specs.Playing.{Plays, Tale}
-use Rattle.mot_air.specs.declared.manner.Manner.{Manner}
+use Rattle.mot_feed.specs.declared.manner.Manner.{Manner}
 use Rattle.mot_air.specs.Telling.{HandsOut, folder_in}
 use Rattle.mot_update.specs.Opening.{IsUnopened}
 use Rattle.mot_feed.proofs.Laws.{grows_nil}

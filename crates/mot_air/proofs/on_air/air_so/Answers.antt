@@ -3,7 +3,7 @@ use Rattle.std.specs.Prelude.{option_map}
 use Rattle.disk_model.specs.Disk.{State}
 use Rattle.mot_air.specs.Inner.Beside.{lines_in}
 use Rattle.mot_air.specs.Playing.{Plays}
-use Rattle.mot_air.specs.declared.manner.Manner.{Manner}
+use Rattle.mot_feed.specs.declared.manner.Manner.{Manner}
 use Rattle.mot_air.specs.Telling.{HandsOut, folder_in, tale_with, watch_in, watched}
 use Rattle.mot_air.proofs.on_air.air_so.Goals as goal
 use Rattle.mot_folder.specs.Looked.{Watch}

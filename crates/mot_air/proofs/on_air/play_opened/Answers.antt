@@ -3,7 +3,7 @@ use Rattle.std.proofs.Common.{Option, Some}
 use Rattle.disk_model.specs.Disk.{State}
 use Rattle.mot_air.specs.Directory.{IsFrame}
 use Rattle.mot_air.specs.Playing.{Plays, Tale}
-use Rattle.mot_air.specs.declared.manner.Manner.{Manner}
+use Rattle.mot_feed.specs.declared.manner.Manner.{Manner}
 use Rattle.mot_air.specs.Commands.{EndsSending, PlaysInto}
 use Rattle.mot_air.specs.Telling.{EndsReading}
 use Rattle.mot_air.proofs.Behind.{frame_behind}

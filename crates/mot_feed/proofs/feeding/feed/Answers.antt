@@ -1,33 +1,44 @@
-use Rattle.std.proofs.Common.{◌≡◌, ◌+◌, Bool, true, false, None, Some, refl, arith, inl, inr}
-use Rattle.std.proofs.Common.{subst}
-use Rattle.std.specs.Prelude.{if◌then◌else◌}
+use Rattle.std.proofs.Common.{◌≡◌, ℕ, ◌+◌, ◌-◌, Bool, Some, None}
+use Rattle.std.proofs.Common.{refl, ap, ◌∙◌, arith, inl, inr, subst, sym}
+use Rattle.std.specs.Prelude.{◌==◌, if◌then◌else◌}
+use Rattle.disk_model.specs.Disk.{IsUnchanged, KeepsLength}
 use Rattle.disk_model.proofs.Laws.{keeps_none, keeps_on, unchanged_none}
-use Rattle.mot_feed.proofs.Fed.{SoFar, fed_all, fed_none, rest_else, rest_then, send_fault}
+use Rattle.mot_feed.proofs.Fed.{SoFar, asked_on, fed_all, fed_none, rest_else, rest_then, send_fault}
 use Rattle.mot_feed.proofs.Fed.{sent_on, update_fault, updated}
-use Rattle.mot_feed.specs.Feeding.{left_behind}
+use Rattle.mot_feed.proofs.Hearing.{left_for}
+use Rattle.mot_feed.specs.Feeding.{left_behind, moment_at}
 use Rattle.mot_feed.specs.Feeding.Stage.{Called}
-use Rattle.mot_player.specs.Place.{Sent}
 use Rattle.mot_feed.proofs.Sent.{feed_fault_on, not_of_writing, sent_calm}
 use Rattle.mot_feed.proofs.feeding.feed.Given as given
 use Rattle.mot_feed.proofs.feeding.feed.Goals as goal
-use Rattle.mot_feed.proofs.feeding.feed.Goals.{else-between_turns, then-between_turns}
-use Rattle.mot_feed.proofs.feeding.feed.Goals.{After-send_one}
+use Rattle.mot_feed.proofs.feeding.feed.Goals.{After-send_one, else-between_turns}
+use Rattle.mot_feed.proofs.feeding.feed.Goals.{then-between_turns}
 use Rattle.mot_journal.specs.Image.{Standing}
 use Rattle.mot_numbers.proofs.Laws.{same_error}
-use Rattle.mot_repository.specs.Repository.{Holds}
-use Rattle.mot_update.specs.Between.{IsUpdating}
-use Rattle.mot_update.proofs.Laws.{calm_here, calm_on, fault_on}
+use Rattle.mot_player.specs.Place.{Place, Sent}
+use Rattle.mot_repository.specs.Repository.{Agrees, Holds, RepositoryView}
+use Rattle.mot_playout.specs.Server.{place_in}
+use Rattle.mot_update.specs.Between.{IsUpdating, may_look}
+use Rattle.mot_update.proofs.Laws.{calm_on, fault_on}
 
 pub loop-init : goal.loop-init
 loop-init g c =
-    let state = g.D.Disk.state c.args.server.now.disk in
+    let state = g.D.Disk.state in
+    let old = c.args.server.now in
+    let mid = c.follow.new.server in
+    let is = c.follow.ensures in
     record {
-      keeps = keeps_none state;
-      calm = calm_here c.args.server.now state;
-      fed = λ s holds honest. fed_none g.U.Update.tells 0 c.args.update.now c.args.server.now
-          c.args.server.now state state s c.args.turns
-          (g.O.Outlet.writes c.args.outlet.now) refl refl
-          (g.met.D.Disk.sound c.args.server.now.disk honest) honest (unchanged_none state) holds;
+      keeps = subst (λ d. KeepsLength (state old.disk) (state d)) (sym is.disk)
+          (keeps_none (state old.disk));
+      calm = sent_calm old mid (state old.disk) (state mid.disk)
+          (ap (λ d. (state d).failures) is.disk) is.view;
+      fed = λ s holds honest.
+          let was = subst (λ d. (state d).IsHonest) is.disk honest in
+          fed_none g.U.Update.tells c.args.how c.args.update.now old mid (state old.disk)
+          (state mid.disk) s (g.O.Outlet.writes c.args.outlet.now) is.view (is.place s)
+          (g.met.D.Disk.sound old.disk was) honest
+          (subst (λ d. IsUnchanged (state old.disk) (state d)) (sym is.disk)
+          (unchanged_none (state old.disk))) holds;
     }
 
 pub returns-then-left-eq0-clause-fed : goal.returns-then-left-eq0-clause-fed
@@ -72,34 +83,46 @@ returns-in_err-between_turns-clause-fault g c =
     let old = c.args.server.now in
     let mid = c.loop.server in
     let up = c.update.new.server in
+    let heard = c.ask.new.server in
     let new = c.send_one.new.server in
     let refusal = c.in_err-between_turns.field-0.0 in
-    let calm = calm_on old mid up (state old.disk) (state mid.disk) (state up.disk)
-    c.loop.invariant.calm c.in_ok-update.ensures.faults in
+    let calm = calm_on old up heard (state old.disk) (state up.disk) (state heard.disk)
+    (calm_on old mid up (state old.disk) (state mid.disk) (state up.disk)
+    c.loop.invariant.calm c.in_ok-update.ensures.faults)
+    (sent_calm up heard (state up.disk) (state heard.disk)
+    (ap (λ d. (state d).failures) c.ask.ensures.disk) c.ask.ensures.view) in
     rw (same_error c.from_residual-in_err-between_turns.result refusal
     c.from_residual-in_err-between_turns.ensures.1)
-    (feed_fault_on old up (state old.disk) (state up.disk) (state new.disk) refusal calm
+    (feed_fault_on old heard (state old.disk) (state heard.disk) (state new.disk) refusal calm
     c.in_err-between_turns.ensures.fault)
 
 -- what was fed up to the packet that is sent
 found : (g : given.Over) (c : After-send_one g) (s : Standing)
     → Holds c.args.server.now.view s (g.D.Disk.state c.args.server.now.disk)
-    → (g.D.Disk.state c.update.new.server.disk).IsHonest
-    → SoFar g.U.Update.tells 0 (Called None) c.args.update.now c.update.new.self
-    c.args.server.now c.update.new.server (g.D.Disk.state c.args.server.now.disk)
-    (g.D.Disk.state c.update.new.server.disk) s c.args.turns c.loop.left
-    c.loop.between_turns 0 c.loop.counter (g.O.Outlet.writes c.args.outlet.now)
-    (g.O.Outlet.writes c.loop.outlet)
+    → (g.D.Disk.state c.ask.new.server.disk).IsHonest
+    → SoFar g.U.Update.tells c.args.how (Called None) c.args.update.now c.update.new.self
+    c.args.server.now c.ask.new.server (g.D.Disk.state c.args.server.now.disk)
+    (g.D.Disk.state c.ask.new.server.disk) s c.loop.left c.loop.between_turns
+    (left_for c.is_due-due.result c.loop.until) c.loop.rest c.loop.counter
+    (g.O.Outlet.writes c.args.outlet.now) (g.O.Outlet.writes c.loop.outlet)
 found g c s holds honest =
     let state = g.D.Disk.state in
-    let mid = c.loop.server in
     let up = c.update.new.server in
+    let heard = c.ask.new.server in
     let one = c.in_ok-update.ensures in
-    let so_far = c.loop.invariant.fed s holds (one.keeps.was_honest honest) in
-    updated so_far refl
+    let then_honest : (state up.disk).IsHonest =
+    subst (λ d. (state d).IsHonest) c.ask.ensures.disk honest in
+    let so_far = c.loop.invariant.fed s holds (one.keeps.was_honest then_honest) in
+    let mid = c.loop.server in
+    let behind = updated so_far refl
     (subst (λ m. IsUpdating (g.U.Update.tells c.loop.update c.update.new.self m) mid up
     (state mid.disk) (state up.disk) so_far.fed.leaves.last None) c.moment_at-moment.ensures
-    (one.run so_far.fed.leaves.last (so_far.fed.leaves.going refl) honest))
+    (one.run so_far.fed.leaves.last (so_far.fed.leaves.going refl) then_honest)) in
+    asked_on behind heard (g.met.D.Disk.sound up.disk then_honest) c.ask.ensures.view honest
+    (subst (λ d. IsUnchanged (state up.disk) (state d)) (sym c.ask.ensures.disk)
+    (unchanged_none (state up.disk))) c.is_due-due.result
+    (c.ask.ensures.asked behind.fed.leaves.last (behind.fed.leaves.going refl).agrees)
+    c.loop.until refl c.is_due-due.ensures refl
 
 pub returns-in_err-between_turns-clause-fed : goal.returns-in_err-between_turns-clause-fed
 returns-in_err-between_turns-clause-fed g c = λ s holds honest.
@@ -109,14 +132,19 @@ returns-in_err-between_turns-clause-fed g c = λ s holds honest.
     rw (same_error c.from_residual-in_err-between_turns.result c.in_err-between_turns.field-0.0
     c.from_residual-in_err-between_turns.ensures.1)
     (send_fault (found g from s holds then_honest) c.send_one.new.server
-    (g.met.D.Disk.sound c.update.new.server.disk then_honest) two.view honest
-    (two.only_reads.unchanged honest) c.in_err-between_turns.field-0.0 refl
-    (λ d held. two.sent d held honest))
+    (g.met.D.Disk.sound c.ask.new.server.disk then_honest) two.view honest
+    (two.only_reads.unchanged honest) c.loop.until c.is_due-due.result refl c.is_due-due.ensures
+    c.in_err-between_turns.field-0.0 refl (λ d held. two.sent d held honest))
 
--- no packets are counted where no look comes within a turn
-none_left : (ended : Bool) (sent : Sent) → left_behind 0 ended 0 sent ≡ 0
-none_left true sent = omega arith
-none_left false sent = omega arith
+-- how many packets more come before a look within a turn
+rest_is : (look : ℕ) (ended : Bool) (rest : ℕ) (may : Bool) (then_rest : ℕ) (place : Place)
+    (sent : Sent) → place ≡ sent.place → may ≡ may_look (moment_at look ended rest)
+    → then_rest ≡ (if may then look else rest) - (if place.early == 0 then 1 else 0)
+    → left_behind look ended rest sent ≡ then_rest
+rest_is look ended rest may then_rest place sent same is less =
+    ap (λ (p : Place). (if may_look (moment_at look ended rest) then look else rest)
+    - (if p.early == 0 then 1 else 0)) (sym same)
+    ∙ ap (λ b. (if b then look else rest) - (if place.early == 0 then 1 else 0)) (sym is) ∙ sym less
 
 pub loop-preserved : goal.loop-preserved
 loop-preserved g c =
@@ -125,29 +153,42 @@ loop-preserved g c =
     let old = c.args.server.now in
     let mid = c.loop.server in
     let up = c.update.new.server in
+    let heard = c.ask.new.server in
     let new = c.send_one.new.server in
     let is = c.loop.invariant in
     let one = c.in_ok-update.ensures in
     let two = c.in_ok-between_turns.ensures in
     let left = c.loop.left in
-    let rest = c.if-between_turns.left in
+    let fewer = c.if-between_turns.left in
     let ends = c.in_ok-between_turns.between_turns in
-    let is_rest : rest + (if ends then 1 else 0) ≡ left = elim c.if-between_turns.branch [
+    let is_fewer : fewer + (if ends then 1 else 0) ≡ left = elim c.if-between_turns.branch [
       | then-between_turns w ↦
-          rest_then ends rest left w.if-between_turns.true w.left-is c.if-left-eq0.false
-      | else-between_turns w ↦ rest_else ends rest left w.if-between_turns.false w.left-is
+          rest_then ends fewer left w.if-between_turns.true w.left-is c.if-left-eq0.false
+      | else-between_turns w ↦ rest_else ends fewer left w.if-between_turns.false w.left-is
     ] in
     record {
-      keeps = keeps_on (state old.disk) (state up.disk) (state new.disk)
-          (keeps_on (state old.disk) (state mid.disk) (state up.disk) is.keeps one.keeps)
+      keeps = keeps_on (state old.disk) (state heard.disk) (state new.disk)
+          (subst (λ d. KeepsLength (state old.disk) (state d)) (sym c.ask.ensures.disk)
+          (keeps_on (state old.disk) (state mid.disk) (state up.disk) is.keeps one.keeps))
           two.only_reads.keeps;
-      calm = calm_on old up new (state old.disk) (state up.disk) (state new.disk)
+      calm = calm_on old heard new (state old.disk) (state heard.disk) (state new.disk)
+          (calm_on old up heard (state old.disk) (state up.disk) (state heard.disk)
           (calm_on old mid up (state old.disk) (state mid.disk) (state up.disk) is.calm one.faults)
-          (sent_calm up new (state up.disk) (state new.disk) two.calm two.view);
+          (sent_calm up heard (state up.disk) (state heard.disk)
+          (ap (λ d. (state d).failures) c.ask.ensures.disk) c.ask.ensures.view))
+          (sent_calm heard new (state heard.disk) (state new.disk) two.calm two.view);
       fed = λ s holds honest.
           let then_honest = two.only_reads.keeps.was_honest honest in
-          sent_on (found g from s holds then_honest) new (g.met.D.Disk.sound up.disk then_honest)
-          two.view honest (two.only_reads.unchanged honest) refl c.if-left-eq0.false ends rest
-          is_rest 0 (λ sent same. none_left c.loop.between_turns sent)
-          (λ d held. two.sent d held honest);
+          let so_far = found g from s holds then_honest in
+          let last : Standing = so_far.fed.leaves.last in
+          let agrees = subst (λ (v : RepositoryView). Agrees v last) (sym two.view)
+          (so_far.fed.leaves.going refl).agrees in
+          sent_on so_far new (g.met.D.Disk.sound heard.disk then_honest) two.view honest
+          (two.only_reads.unchanged honest) c.loop.until c.is_due-due.result refl
+          c.is_due-due.ensures refl c.if-left-eq0.false ends fewer is_fewer c.rest_after-rest.result
+          (λ sent same. rest_is _ c.loop.between_turns c.loop.rest c.may_look.result
+          c.rest_after-rest.result (place_in new last) sent same
+          (c.may_look.ensures ∙ ap may_look c.moment_at-moment.ensures)
+          (c.rest_after-rest.ensures last agrees)) c.until_after-until.result
+          c.until_after-until.ensures (λ d held. two.sent d held honest);
     }

@@ -1,3 +1,4 @@
+use Rattle.std.proofs.Common.{Some}
 use Rattle.disk_model.specs.Disk.{KeepsLength}
 use Rattle.mot_feed.proofs.Fed.{SoFar}
 use Rattle.mot_feed.specs.Feeding.Stage.{Ready}
@@ -8,13 +9,13 @@ use Rattle.mot_feed.proofs.feeding.feed.Given as goal
 
 abbrev pub invariant-loop : goal.invariant-loop
 invariant-loop g l = record {
-  keeps : KeepsLength (g.D.Disk.state l.initial.server.disk) (g.D.Disk.state l.server.disk);
-  calm : StaysCalm l.initial.server l.server (g.D.Disk.state l.initial.server.disk)
+  keeps : KeepsLength (g.D.Disk.state l.fn.server.disk) (g.D.Disk.state l.server.disk);
+  calm : StaysCalm l.fn.server l.server (g.D.Disk.state l.fn.server.disk)
       (g.D.Disk.state l.server.disk);
-  fed : (s : Standing) → Holds l.initial.server.view s (g.D.Disk.state l.initial.server.disk)
+  fed : (s : Standing) → Holds l.fn.server.view s (g.D.Disk.state l.fn.server.disk)
       → (g.D.Disk.state l.server.disk).IsHonest
-      → SoFar g.U.Update.tells 0 Ready l.initial.update l.update l.initial.server l.server
-      (g.D.Disk.state l.initial.server.disk) (g.D.Disk.state l.server.disk) s
-      l.turns l.left l.between_turns 0 l.counter
-      (g.O.Outlet.writes l.initial.outlet) (g.O.Outlet.writes l.outlet);
+      → SoFar g.U.Update.tells l.how Ready l.fn.update l.update l.fn.server l.server
+      (g.D.Disk.state l.fn.server.disk) (g.D.Disk.state l.server.disk) s
+      l.left l.between_turns (Some l.until) l.rest l.counter
+      (g.O.Outlet.writes l.fn.outlet) (g.O.Outlet.writes l.outlet);
 }
