@@ -1,4 +1,4 @@
-use Rattle.std.proofs.Common.{ℕ, Bool, List, Option, ◌≡◌, ◌∙◌, [], ◌∷◌, ap, false, inl, inr, refl, subst, sym, true}
+use Rattle.std.proofs.Common.{ℕ, Bool, List, Option, ◌∙◌, [], ◌∷◌, ap, false, inl, refl, subst, sym, true}
 use Rattle.std.proofs.KnownBytes.{Keeps-refl}
 use Rattle.std.specs.Result.{result_unwrap_or}
 use Rattle.disk_model.specs.Disk.{KeepsLength, State}
@@ -79,15 +79,6 @@ returns-in-Ok-disk-clause-ended g c =
       ),
     ))
 
-pub returns-in-Err-disk-clause-ended : goal.returns-in-Err-disk-clause-ended
-returns-in-Err-disk-clause-ended g c =
-    let task = c.args.task.now in
-    let old = g.W.Write.contents c.args.log.now in
-    subst (λ (f : _). Concludes (IsUnsynced task.types) (λ all ending.
-    SyncsTask task all ending f.disk old old) f.result f.disk old old)
-    (sym c.unopened.ensures)
-    (inl (inr refl, record { untouched = tt; silent = Keeps-refl _ }))
-
 pub returns-in-Ok-disk-clause-opens : goal.returns-in-Ok-disk-clause-opens
 returns-in-Ok-disk-clause-opens g c =
     let calls = g.M.System.System.calls in
@@ -102,22 +93,3 @@ returns-in-Ok-disk-clause-opens g c =
           c.in-Ok.ensures.opens (then, c.folder-shelf.ensures.calls, refl),
       ap calls c.clear_after.ensures ∙ c.in-Ok-disk.ensures.calls,
     )
-
-pub returns-in-Err-disk-clause-opens : goal.returns-in-Err-disk-clause-opens
-returns-in-Err-disk-clause-opens g c =
-    let calls = g.M.System.System.calls in
-    let task = c.args.task.now in
-    let then = calls c.folder-shelf.new.self.system in
-    subst (λ (f : _). Opens (synced_with task) task.disk.now (fault_of f.result) f.disk
-    (calls c.args.host.now.system) (calls c.disk.new.self.system))
-    (sym c.unopened.ensures)
-    (inr (
-      refl,
-      (
-        then,
-        both_met (if_given Need.types task.types) (Need.folder task.folder.now ∷ [])
-            (calls c.args.host.now.system) (calls c.file_types.new.host.system) then c.in-Ok.ensures.opens
-            (then, c.folder-shelf.ensures.calls, refl),
-        c.in-Err-disk.ensures.calls,
-      ),
-    ))
