@@ -70,7 +70,7 @@ class Often(AirCase):
         """Packets without end, until nobody reads them."""
         disk = self.place(length)
         before = self.turns(disk, 2)
-        words = [self.program, "play", disk, "-", *more]
+        words = [self.program, "play", disk, "-", "--early", "1", *more]
         with subprocess.Popen(words, stdout=subprocess.PIPE, stderr=subprocess.PIPE) as player:
             stream = player.stdout.read(int(length) * 9_000)
             player.stdout.close()
@@ -162,7 +162,9 @@ class Changes(AirCase):
         self.objects_of = self.folder({f"{it}.txt": bytes([it]) * 20_000 for it in range(6)})
         self.sync(self.place, self.objects_of)
         self.ids = [it[0] for it in self.objects(self.place).values()]
-        heard = Heard([self.program, "play", self.place, "-", *more], self.room / "log", cwd=self.room)
+        # (with --early 1 no body comes before the turn at the start)
+        words = [self.program, "play", self.place, "-", "--early", "1", *more]
+        heard = Heard(words, self.room / "log", cwd=self.room)
         self.addCleanup(heard.kill)
         heard.hear_packets(300)
         return heard

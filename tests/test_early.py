@@ -1,7 +1,9 @@
 """How many changed bodies come before the rest of the turn, by `--early`: the order of the bodies behind commands that
-were all answered in front of the first packet."""
+were all answered in front of the first packet. And with which an endless `play` begins."""
+import subprocess
+
 from . import dab
-from .air import AirCase, send
+from .air import AirCase, send, whole_packets
 
 NAMES = "abcdef"
 USUAL = ("--directory", "340")
@@ -66,3 +68,49 @@ class Early(AirCase):
         """If the directory comes once a turn, a change begins the turn again."""
         lines = [replace(it) for it in NAMES]
         self.expect("all in their places", NAMES, self.order(lines, "--directory", "0", "--early", "2"))
+
+
+class Newest(AirCase):
+    """The objects of Early. An endless `play` begins with those that changed last."""
+
+    def place(self, *more):
+        disk = self.new_disk("disk", "--segment", "100", "--objects", "40", "--data", "60000", *more)
+        self.serve(disk, [put(it) for it in NAMES])
+        return disk
+
+    def order(self, disk, *more):
+        """The names of the first eight bodies, in the order in which they begin."""
+        words = [self.program, "play", disk, "-", *more]
+        with subprocess.Popen(words, stdout=subprocess.PIPE, stderr=subprocess.DEVNULL) as player:
+            stream = player.stdout.read(96 * 200)
+            player.kill()
+        segments = [dab.segment_of(it.bytes) for it in dab.groups_of(whole_packets(stream)) if it.is_whole]
+        found = {it[0]: name for name, it in self.objects(disk).items()}
+        return "".join(found[it.tid] for it in segments if it.kind == dab.BODY and it.number == 0)[:8]
+
+    def test_first(self):
+        disk = self.place()
+        for row, wanted, more in (
+                ("two, if nothing is said", "efabcdef", ()), ("and again at each start", "efabcdef", ()),
+                ("one fewer than may come early", "defabcde", ("--early", "4")), ("none", "abcdefab", ("--early", "1")),
+                ("nor with 0", "abcdefab", ("--early", "0")), ("all", "abcdefab", ("--early", "250")),
+                ("none if the directory comes once a turn", "abcdefab", ("--directory", "0"))):
+            self.expect(row, wanted, self.order(disk, *more))
+        ended = self.play(disk, "-", "--turns", "1", *USUAL)[1]
+        self.expect("nor in so many turns, which can go round", 6, len(dab.entities_of(dab.packets_in(ended))) - 1)
+
+    def test_changed(self):
+        disk = self.place()
+        self.serve(disk, [replace("b")])
+        self.expect("what was replaced", "bfabcdef", self.order(disk))
+        self.serve(disk, ["period 7", "withdraw f", "period 8"])
+        self.expect("whatever else was changed since", "beabcdea", self.order(disk))
+
+    def test_round(self):
+        self.expect("also where the ids have gone round", "efabcdef", self.order(self.place("--after", "65530")))
+
+    def test_change_at_the_start(self):
+        disk, asked = self.place(), self.folder(name="asked")
+        send(asked, "a.lines", replace("a").encode() + b"\n")
+        self.expect("a change before the first packet comes early, too", "efaabcde",
+                    self.order(disk, "--lines", asked, "--every", "1"))

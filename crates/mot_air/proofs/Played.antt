@@ -1,5 +1,5 @@
 -- Playing a disk, from its opening on.
-use Rattle.std.proofs.Common.{◌≡◌, ◌∙◌, ◌<◌, arith, ℕ, Bool, true, false, List, Option, Some}
+use Rattle.std.proofs.Common.{◌≡◌, ◌∙◌, ◌<◌, arith, ℕ, Bool, true, false, List, None, Option, Some}
 use Rattle.std.proofs.Common.{Result, Ok, Err, ap, append_assoc, inl, inr, subst, sym, ◌++◌}
 use Rattle.std.specs.Prelude.{IsFalse, OnOk, IfErr, MatchResult, ◌==◌, if◌then◌else◌}
 use Rattle.std.proofs.lemmas.Bool.{ne_eqb}
@@ -7,7 +7,7 @@ use Rattle.std.proofs.lemmas.Bool.Decides.{nat_tests}
 use Rattle.disk_model.proofs.Laws.{keeps_on}
 use Rattle.disk_model.specs.Disk.{State, IsHonestDisk, KeepsLength, OnlySyncs}
 use Rattle.mot_air.specs.Playing.{HasAired, IsServed, Plays, Tale, each_packet, look_of_feed}
-use Rattle.mot_air.specs.Playing.{place_at_start}
+use Rattle.mot_air.specs.Playing.{is_endless, place_at_start}
 use Rattle.mot_feed.specs.declared.manner.Manner.{Manner}
 use Rattle.mot_air.specs.Playing.{tale_of}
 use Rattle.mot_air.specs.Commands.{PlaysInto, Sends}
@@ -19,7 +19,7 @@ use Rattle.mot_endpoints.specs.declared.packets.Target.{Target}
 use Rattle.mot_feed.specs.Feeding.{AreOf, AreTold, Event, Happen, HasFed, IsFeedFault}
 use Rattle.mot_feed.specs.Feeding.{RulesAreKept, Stage}
 use Rattle.mot_feed.specs.Feeding.{fault_at}
-use Rattle.mot_feed.specs.Often.{Feeds, IsOften, is_often, place_for, server_for}
+use Rattle.mot_feed.specs.Often.{Feeds, IsOften, follows_in, is_often, server_for}
 use Rattle.mot_journal.specs.Image.{Standing}
 use Rattle.mot_numbers.specs.Geometry.{IsValid, packet_room}
 use Rattle.mot_numbers.specs.declared.geometry.Geometry.{Geometry}
@@ -29,12 +29,13 @@ use Rattle.mot_objects.specs.Carousel.{Carousel, IsSound}
 use Rattle.mot_objects.specs.Rules.{AllKeepRules}
 use Rattle.mot_objects.specs.declared.command.Command.{Command}
 use Rattle.mot_player.specs.Place.{Place}
+use Rattle.mot_player.specs.Start.{start_place}
 use Rattle.mot_player.specs.Turn.{turn_of_carousel}
 use Rattle.mot_update.proofs.Laws.{AllAre, all_hold, openable}
 use Rattle.mot_feed.proofs.Laws.{changed_turns_read, continuous, happen-apart, listeners_hear}
 use Rattle.mot_feed.proofs.Laws.{nobody_starves, often-front, rules_behind, rules_front}
 use Rattle.mot_feed.proofs.Laws.{rules_of_turn, rules_of_window, turns_read}
-use Rattle.mot_update.specs.Opening.{IsOpenable, first_place}
+use Rattle.mot_update.specs.Opening.{IsOpenable}
 use Rattle.mot_repository.proofs.Laws.{rules_kept, standings-are_sound}
 use Rattle.mot_repository.specs.Opening.{IsOpened}
 use Rattle.mot_repository.specs.Repository.{Agrees, Holds}
@@ -60,7 +61,9 @@ module _ {D : Type 0} (state : D → State) (disk : D) (server new : ServerView 
     (opened : (state server.disk).IsHonest → IsOpened (state disk) (state server.disk) server.view)
     (calm : (state server.disk).failures ≡ (state disk).failures)
     (going : IsFalse server.view.halted)
-    (at_start : (s : Standing) → Agrees server.view s → place_in server s ≡ first_place s)
+    (how : Manner)
+    (at_start : (s : Standing) → Agrees server.view s
+    → place_in (server_for how server) s ≡ place_at_start how s)
     (valid : is_valid server.view.journal.geometry ≡ true)
     (keeps : KeepsLength (state server.disk) (state new.disk)) where
   holds_opened : (s : Standing) → (state new.disk).IsHonest → AllAre s (state disk)
@@ -104,24 +107,25 @@ module _ {D : Type 0} (state : D → State) (disk : D) (server new : ServerView 
   sizes s agrees = subst IsValid agrees.geometry (valid_is server.view.journal.geometry valid)
 
   -- nobody starved among any of the events, where changes are followed
-  served : (s : Standing) (how : Manner) (events : List Event) (made : Carousel) (after : Place)
+  served : (s : Standing) (events : List Event) (made : Carousel) (after : Place)
       → (state new.disk).IsHonest → AllAre s (state disk) → Agrees server.view s
       → 0 < how.directory
       → Happen s.geometry.objects s.geometry.segment s.carousel (place_at_start how s) events made
       after
       → RulesAreKept s.geometry.objects s.carousel events → (before during others : List Event)
       → before ++ (during ++ others) ≡ events → IsServed s how before during
-  served s how events made after honest all agrees asked happened rules before during others
-      all_of =
+  served s events made after honest all agrees asked happened rules before during others all_of =
       let limit = s.geometry.objects in
       let size = s.geometry.segment in
       let is_valid = sizes s agrees in
       let some : (how.directory == 0) ≡ false =
       ne_eqb how.directory 0 (λ e. omega (arith, e, asked)) in
-      let start : place_at_start how s ≡ record (first_place s) { follows = Some how.early } =
-      ap (λ (b : Bool). record (first_place s) {
-        follows = if b then (first_place s).follows else Some how.early;
-      }) some in
+      let turn = turn_of_carousel s.carousel size in
+      let room_is = packet_room s.geometry in
+      let start : place_at_start how s
+      ≡ start_place s.geometry.address room_is size turn s.carousel.cursor (Some how.early) (is_endless how) =
+      ap (λ (b : Bool). start_place s.geometry.address room_is size turn s.carousel.cursor
+      (if b then None else Some how.early) (is_endless how)) some in
       let front = happen-apart limit size s.carousel made (place_at_start how s) after before
       (during ++ others) (subst (λ (es : List Event). Happen limit size s.carousel
       (place_at_start how s) es made after) (sym all_of) happened) in
@@ -138,6 +142,7 @@ module _ {D : Type 0} (state : D → State) (disk : D) (server new : ServerView 
           address = s.geometry.address;
           room = packet_room s.geometry;
           most = how.early;
+          newest_first = is_endless how;
           few = is_valid.1;
           some_size = omega (arith, is_valid.4);
           some = room s agrees;
@@ -154,7 +159,7 @@ module _ {D : Type 0} (state : D → State) (disk : D) (server new : ServerView 
         });
       }
 
-  module _ {U : Type 0} (tells : U → U → Moment → Telling) (first last : U) (how : Manner) where
+  module _ {U : Type 0} (tells : U → U → Moment → Telling) (first last : U) where
     -- what is told of it
     abbrev tale : Tale
     tale = tale_of tells how first last
@@ -174,7 +179,7 @@ module _ {D : Type 0} (state : D → State) (disk : D) (server new : ServerView 
         let holds = holds_opened s honest all in
         let made : Standing = fed.leaves.last in
         let happened = subst (λ (p : Place). Happen s.geometry.objects s.geometry.segment
-        s.carousel (place_for how p) events made.carousel (place_in new made))
+        s.carousel p events made.carousel (place_in new made))
         (at_start s holds.agrees) fed.happened in
         record {
           last = made;
@@ -192,9 +197,9 @@ module _ {D : Type 0} (state : D → State) (disk : D) (server new : ServerView 
               (opens.still was) fed.leaves;
           are = are;
           continuous = continuous s.geometry.objects s.geometry.segment s.carousel
-              made.carousel s.geometry.address (packet_room s.geometry)
+              made.carousel s.geometry.address (packet_room s.geometry) s.carousel.cursor
               (turn_of_carousel s.carousel s.geometry.segment)
-              (place_at_start how s).follows events (place_in new made) packets
+              (follows_in how) (is_endless how) events (place_in new made) packets
               (room s holds.agrees) happened are;
           turns_read = λ before during others all_of c left place after of came goes is_one
               are_of.
@@ -206,12 +211,12 @@ module _ {D : Type 0} (state : D → State) (disk : D) (server new : ServerView 
               (subst (λ l. RulesAreKept limit s.carousel l) (sym all_of) fed.rules) came) in (
                 (λ begins. turns_read s.geometry.objects s.geometry.segment s.carousel c left
                     s.geometry.address (packet_room s.geometry)
-                    (place_at_start how s).follows before during place after of
+                    (follows_in how) (is_endless how) before during place after of
                     is_valid.1 (is_valid.4, is_valid.5) (room s holds.agrees)
                     (sound_carousel s honest all) came begins rules goes is_one are_of),
                 (λ ended. changed_turns_read s.geometry.objects s.geometry.segment s.carousel c left
                     s.geometry.address (packet_room s.geometry)
-                    (place_at_start how s).follows before during place after of
+                    (follows_in how) (is_endless how) before during place after of
                     is_valid.1 (is_valid.4, is_valid.5) (room s holds.agrees)
                     (sound_carousel s honest all) came ended (rules_first s honest all)
                     (rules_front limit s.carousel before (during ++ others)
@@ -230,7 +235,8 @@ module _ {D : Type 0} (state : D → State) (disk : D) (server new : ServerView 
                 first = s.carousel;
                 address = s.geometry.address;
                 room = packet_room s.geometry;
-                follows = (place_at_start how s).follows;
+                follows = follows_in how;
+                newest_first = is_endless how;
                 few = is_valid.1;
                 range = (is_valid.4, is_valid.5);
                 some = room s holds.agrees;
@@ -245,7 +251,7 @@ module _ {D : Type 0} (state : D → State) (disk : D) (server new : ServerView 
               }) (λ asked. often-front how.directory true (Some 0) (before ++ during) others
               (ap (λ (es : List Event). is_often how.directory true (Some 0) es)
               (append_assoc before during others ∙ all_of) ∙ often asked));
-          nobody_starves = λ asked. served s how events made.carousel (place_in new made) honest all
+          nobody_starves = λ asked. served s events made.carousel (place_in new made) honest all
               holds.agrees asked happened fed.rules;
         }
 

@@ -1,6 +1,6 @@
 -- What playing a disk writes, and what it leaves of the disk.
 use Rattle.std.specs.Prelude.{◌≡◌, ℕ, ◌<◌, min, Bool, true, false, List, [], ◌++◌, length, Option}
-use Rattle.std.specs.Prelude.{is_some}
+use Rattle.std.specs.Prelude.{is_some, not, ◌&&◌, ◌==◌}
 use Rattle.std.specs.Option.{option_map_or}
 use Rattle.disk_model.specs.Disk.{State}
 use Rattle.mot_update.specs.Ending.{EndsBy, Leaves}
@@ -10,9 +10,10 @@ use Rattle.mot_feed.specs.Feeding.{AreOf, AreTold, EndsFeed, Event, Happen, Stag
 use Rattle.mot_feed.specs.Feeding.{commands_among, fault_at, is_between_turns}
 use Rattle.mot_feed.specs.Feeding.Stage.{Ready}
 use Rattle.mot_feed.specs.Listening.{HearsFirstChanges, IsHeard, IsHeardInTime, is_quiet}
-use Rattle.mot_feed.specs.Often.{IsOften, look_in, place_for}
+use Rattle.mot_feed.specs.Often.{IsOften, follows_in, look_in}
 use Rattle.mot_feed.specs.OnAir.{asks, begins_turn, is_turn}
 use Rattle.mot_journal.specs.Image.{Standing}
+use Rattle.mot_numbers.specs.Geometry.{packet_room}
 use Rattle.mot_numbers.specs.Refusal.{is_device_fault}
 use Rattle.mot_numbers.specs.declared.refusal.Refusal.{Refusal}
 use Rattle.mot_objects.specs.Carousel.{Carousel}
@@ -21,16 +22,25 @@ use Rattle.mot_packets.specs.Outlet.{Grows}
 use Rattle.mot_player.specs.Continuity.{IsContinuous}
 use Rattle.mot_player.specs.Place.{Place}
 use Rattle.mot_player.specs.Repeats.{ReadAsTurn, ReadsOnceAs}
-use Rattle.mot_update.specs.Opening.{first_place}
+use Rattle.mot_player.specs.Start.{start_place}
+use Rattle.mot_player.specs.Turn.{turn_of_carousel}
 use Rattle.mot_repository.specs.Repository.{IsOf}
 use Rattle.mot_playout.specs.Runs.{IsAfter, accepted_commands}
 use Rattle.mot_update.specs.Between.{Telling}
 use Rattle.mot_update.specs.declared.moment.Moment.{Moment}
 
--- Where a server that was opened of a disk that stood for s begins to be played so: it follows
--- changes where the directory is sent again within turns, and else a change begins the turn anew.
+-- it is played without end
+abbrev pub is_endless : Manner → Bool
+is_endless how = how.turns == 18446744073709551615
+
+-- Where a server that was opened of a disk that stood for s begins to be played so: where the
+-- directory is sent again within turns it follows changes, and without end it begins with the newest
+-- bodies; and else a change begins the turn anew.
 abbrev pub place_at_start : Manner → Standing → Place
-place_at_start how s = place_for how (first_place s)
+place_at_start how s =
+    start_place s.geometry.address (packet_room s.geometry) s.geometry.segment
+    (turn_of_carousel s.carousel s.geometry.segment) s.carousel.cursor (follows_in how)
+    (is_endless how)
 
 -- a look may come in front of each packet, or only between turns
 abbrev pub each_packet : Manner → Manner
@@ -60,7 +70,8 @@ TurnReads s how before during =
     (place_at_start how s) before c place
     → Happen s.geometry.objects s.geometry.segment c place during made new
     → is_turn during ≡ true → AreOf during packets
-    → (begins_turn (is_some (place_at_start how s).follows) true true before ≡ true
+    → (begins_turn (is_some (follows_in how)) true
+    (not (is_some (follows_in how) && is_endless how)) before ≡ true
     → ReadAsTurn (asks during) packets c s.geometry.segment)
     × (is_between_turns true before ≡ true → ReadsOnceAs packets c s.geometry.segment)
 

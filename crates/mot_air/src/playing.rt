@@ -1,8 +1,8 @@
 //! Playing a disk, and making its carousel equal to a folder.
 ghost use Rattle.std.specs.Prelude.{◌≡◌, ◌↔◌, ◌⊎◌, ◌-◌, ℕ, [], IsSomeAnd, IsTrue, List};
-ghost use Rattle.std.specs.Prelude.{None, Some, false, true};
+ghost use Rattle.std.specs.Prelude.{IfErr, None, OnOk, Some, false, true};
 ghost use Rattle.mot_air.specs.Lives.{AirsOn, KeepsDone};
-ghost use Rattle.mot_air.specs.Playing.{Plays, each_packet, tale_of};
+ghost use Rattle.mot_air.specs.Playing.{Plays, each_packet, place_at_start, tale_of};
 ghost use Rattle.mot_air.specs.Telling.{EndsReading, HandsOut, folder_in, lines_at, no_looks};
 ghost use Rattle.mot_air.specs.Telling.{tale_with, watch_in, watched};
 ghost use Rattle.mot_air.specs.Inner.Beside.{SourcesOf, beside, tells_answered, tells_lines_of};
@@ -13,7 +13,12 @@ ghost use Rattle.mot_folder.specs.Looked.{so_far, watch};
 ghost use Rattle.mot_lines.specs.Hand.{bytes_in_hand};
 ghost use Rattle.mot_numbers.specs.declared.geometry.Geometry.{Geometry};
 ghost use Rattle.mot_objects.specs.declared.command.Command.{Command};
-ghost use Rattle.mot_update.specs.Opening.{IsUnopened};
+ghost use Rattle.mot_feed.specs.Often.{server_for};
+ghost use Rattle.mot_journal.specs.Image.{Standing};
+ghost use Rattle.mot_numbers.specs.declared.refusal.Refusal.TheVariants.{OutOfMemory};
+ghost use Rattle.mot_playout.specs.Server.{place_in};
+ghost use Rattle.mot_repository.specs.Repository.{Agrees};
+ghost use Rattle.mot_update.specs.Opening.{IsUnopened, first_place};
 ghost use Rattle.mot_line_folder.specs.Spool.{SpoolView, open_file, spool_system, spool_view};
 ghost use Rattle.mot_line_folder.specs.Spooling.{GaveLines};
 ghost use Rattle.mot_shelf.specs.Reader.{reader_path, view};
@@ -464,8 +469,32 @@ fn feed_disk<D: Disk, U: Update, O: Outlet>(
     };
     // Its sizes are in their ranges: each packet has room. (The line is there for the proof.)
     let _ = server.geometry();
+    if let Err(refusal) = begin(&mut server, alloc, how) {
+        return Err(Refused {
+            refusal,
+            reason: None,
+            disk: server.into_disk(),
+        });
+    }
     let result = feed(&mut server, alloc, update, outlet, each_packet(how));
     Ok((server, result))
+}
+
+/// If the directory is to come within turns, and these have no end, begins the turn of a server that
+/// was just opened with its newest bodies, one fewer than may come early. What changed last stands
+/// last in the directory: where runs are shorter than a turn, nobody would hear it.
+fn begin<D: Disk>(server: &mut Server<D>, alloc: Global, how: Manner) -> Result<(), Refusal>
+    ensures disk { server.new.disk ≡ server.old.disk }
+    ensures view { server.new.view ≡ server.old.view }
+    ensures begun { OnOk result ((s : Standing) → Agrees server.old.view s
+        → place_in server.old s ≡ first_place s
+        → place_in (server_for how server.new) s ≡ place_at_start how s) }
+    ensures refused { IfErr result (λ refusal. refusal ≡ OutOfMemory) }
+{
+    if how.directory == 0 || how.turns < u64::MAX {
+        return Ok(());
+    }
+    server.begin_newest(alloc, how.early.saturating_sub(1) as usize)
 }
 
 /// The looks of a feed: one may come in front of each packet, or only between turns.

@@ -10,7 +10,7 @@ use Rattle.mot_feed.specs.Feeding.{Event, Happen, RulesAreKept, sents_in, turns_
 use Rattle.mot_feed.specs.Feeding.Event.{Accepted, Asked, Played}
 use Rattle.mot_listening.specs.Ends.{AreFollowed, HasBodies, added_packets, turn_behind}
 use Rattle.mot_listening.specs.Waits.{left_packets, longest_group}
-use Rattle.mot_listening.proofs.Laws.{IsOnAir, bodies_come_whole, opened-on, room-kept}
+use Rattle.mot_listening.proofs.Laws.{IsOnAir, bodies_come_whole, room-kept, start-on}
 use Rattle.mot_listening.proofs.Laws.{turns_end_soon}
 use Rattle.mot_numbers.specs.declared.geometry.TheConstants.{MAX_OBJECTS}
 use Rattle.mot_objects.specs.Carousel.{Carousel, IsSound, carousel_if_accepted, change}
@@ -20,13 +20,14 @@ use Rattle.mot_objects.specs.declared.command.Command.{Command}
 use Rattle.mot_player.specs.Followable.{IsFollowable, IsOneChange, put, replaced, same, withdrawn}
 use Rattle.mot_player.specs.Place.{Change, Directory, Follow, Place, Request}
 use Rattle.mot_player.specs.Place.{Sent, Step, change_between, change_turn, changed}
-use Rattle.mot_player.specs.Place.{follow, hear_directory, opened_place, sent_by}
+use Rattle.mot_player.specs.Place.{follow, hear_directory, sent_by}
+use Rattle.mot_player.specs.Start.{start_place}
 use Rattle.mot_player.specs.Staying.{AreFewEarly, HasDirectory, Stays, begun_by}
 use Rattle.mot_player.specs.Staying.{none_ends, touches}
 use Rattle.mot_player.specs.Turn.{Turn, turn_of_carousel}
 use Rattle.mot_player.proofs.Laws.{AreOthers, StaysFew, apart-carousel, between-put}
 use Rattle.mot_player.proofs.Laws.{between-replaced, between-same, between-withdrawn, few-followed}
-use Rattle.mot_player.proofs.Laws.{few-heard, few-opened, few-sent, few-steps, has-directory}
+use Rattle.mot_player.proofs.Laws.{few-heard, few-sent, few-start, few-steps, has-directory}
 use Rattle.mot_player.proofs.Laws.{map-ids, others-both}
 use Rattle.mot_feed.proofs.Fed.{rules_behind, rules_front}
 use Rattle.mot_feed.proofs.Listening.{on-behind}
@@ -333,22 +334,35 @@ none-ended (Played sent ∷ events) none =
 none-ended (Accepted command ∷ events) none = none-ended events none
 none-ended (Asked ∷ events) none = none-ended events none
 
+start-follows : (address room size : ℕ) (turn : Turn) (cursor most : ℕ) (newest_first : Bool) →
+    is_some (start_place address room size turn cursor (Some most) newest_first).follows ≡ true
+start-follows address room size turn cursor most true = refl
+start-follows address room size turn cursor most false = refl
+
+start-room : (address room size : ℕ) (turn : Turn) (cursor most : ℕ) (newest_first : Bool) →
+    (start_place address room size turn cursor (Some most) newest_first).room ≡ room
+start-room address room size turn cursor most true = refl
+start-room address room size turn cursor most false = refl
+
 module _ (limit size : ℕ) (now : Carousel) (place : Place) (before during : List Event)
     (w : IsFollowing limit size now place before during) where
   abbrev opened : Place
-  opened = record (opened_place w.address w.room size (turn_of_carousel w.first size)) {
-    follows = Some w.most;
-  }
+  opened =
+      start_place w.address w.room size (turn_of_carousel w.first size) w.first.cursor (Some w.most) w.newest_first
 
   abbrev first : Turn
   first = turn_of_carousel w.first size
 
   first_few : AreFewEarly opened
-  first_few = few-opened w.address w.room size first (Some w.most)
+  first_few = few-start w.address w.room size first w.first.cursor (Some w.most) w.newest_first
+
+  opened-follows : is_some opened.follows ≡ true
+  opened-follows =
+      start-follows w.address w.room size first w.first.cursor w.most w.newest_first
 
   came-by : sent_by opened (steps_of_feed limit size w.first before)
       ≡ Some (sents_in before, place)
-  came-by = sends limit size before w.first now opened place refl first_few w.came
+  came-by = sends limit size before w.first now opened place opened-follows first_few w.came
 
   stays-few : StaysFew opened place
   stays-few =
@@ -356,7 +370,7 @@ module _ (limit size : ℕ) (now : Carousel) (place : Place) (before during : Li
       came-by
 
   follows : is_some place.follows ≡ true
-  follows = ap (λ (o : Option ℕ). is_some o) stays-few.1
+  follows = ap (λ (o : Option ℕ). is_some o) stays-few.1 ∙ opened-follows
 
   sound-now : IsSound now
   sound-now = sound-behind limit size w.first now opened place before w.few w.sound w.came
@@ -377,10 +391,11 @@ module _ (limit size : ℕ) (now : Carousel) (place : Place) (before during : Li
       turn-behind limit size before w.first now opened place w.came in
       let on : IsOnAir size turn place =
       on-behind limit size w.first now opened place before w.few w.some_size w.sound
-      (opened-on w.address w.room size first (Some w.most) w.some) w.came in
+      (start-on w.address w.room size first w.first.cursor (Some w.most) w.newest_first w.some w.some_size
+      (has-directory w.first size)) w.came in
       record {
         turns_end = λ none.
-            let fewer = turns_end_soon w.address w.room size w.most first earlier steps
+            let fewer = turns_end_soon w.address w.room size w.most w.first.cursor w.newest_first first earlier steps
             (sents_in before) (sents_in during) place w.new w.some w.some_size
             (has-bodies limit size w.first w.sound w.rules_first)
             (all-followed limit size before w.first now opened place w.few w.sound w.came
@@ -390,7 +405,8 @@ module _ (limit size : ℕ) (now : Carousel) (place : Place) (before during : Li
             rules-during)) sends-during (none-ended during none) in
             subst (λ (n : ℕ). length (sents_in during) < longest_group place + left_packets place
             + added_among limit n size now during)
-            (sym (room-behind limit size before w.first now opened place w.came))
+            (sym (room-behind limit size before w.first now opened place w.came
+            ∙ start-room w.address w.room size first w.first.cursor w.most w.newest_first))
             (subst (λ (n : ℕ). length (sents_in during) < longest_group place + left_packets place
             + n) (adds limit size w.room during now)
             (subst (λ (t : Turn). length (sents_in during) < longest_group place

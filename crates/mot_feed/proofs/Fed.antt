@@ -36,10 +36,11 @@ use Rattle.mot_objects.specs.declared.command.Command.{Command}
 use Rattle.mot_packets.specs.Outlet.{Grows}
 use Rattle.mot_packets.specs.Packet.{PacketFields, read_packet}
 use Rattle.mot_packets.specs.Written.{bytes_of_packet}
-use Rattle.mot_player.proofs.Laws.{steps-are-continuous}
+use Rattle.mot_player.proofs.Laws.{start-continuous}
 use Rattle.mot_player.specs.Laws.{AreSent, IsStep}
 use Rattle.mot_player.specs.Place.{Place, Sent, Step, Request, NewTurn, Directory, Follow}
-use Rattle.mot_player.specs.Place.{change_turn, changed, follow, hear_directory, opened_place}
+use Rattle.mot_player.specs.Place.{change_turn, changed, follow, hear_directory}
+use Rattle.mot_player.specs.Start.{start_place}
 use Rattle.mot_player.specs.Place.{sent_by}
 use Rattle.mot_player.specs.Turn.{Turn, turn_of_carousel}
 use Rattle.mot_objects.specs.Rules.{AllKeepRules}
@@ -953,8 +954,8 @@ steps-of limit size c last place new (Asked ∷ events) is =
 
 -- of a server just opened all packets that are fed have their continuity indexes
 pub continuous : FedPacketsAreContinuous
-continuous limit size c last address room turn follows events new packets some happened are =
+continuous limit size c last address room cursor turn follows newest_first events new packets some happened are =
     let steps = steps-of limit size c last
-    (record (opened_place address room size turn) { follows = follows }) new events happened in
-    steps-are-continuous address room size turn follows steps.0 (sents_in events) new packets some
-    steps.1 are.read
+    (start_place address room size turn cursor follows newest_first) new events happened in
+    start-continuous address room size turn cursor follows newest_first steps.0 (sents_in events) new packets
+    some steps.1 are.read

@@ -21,6 +21,7 @@ use Rattle.mot_objects.specs.Carousel.{Carousel, IsSound, carousel_if_accepted, 
 use Rattle.mot_objects.specs.Rules.{AllKeepRules}
 use Rattle.mot_objects.specs.declared.command.Command.{Command}
 use Rattle.mot_player.specs.Laws.{AreSent}
+use Rattle.mot_groups.specs.Group.{Segment}
 use Rattle.mot_listening.specs.Listening.{HearsBodiesIn, HearsCarousel, HearsEntity}
 use Rattle.mot_listening.specs.Listening.{HearsOnly}
 use Rattle.mot_listening.specs.Waits.{early_packets, early_within, left_packets}
@@ -29,16 +30,18 @@ use Rattle.mot_packets.specs.Written.{bytes_of_packet}
 use Rattle.mot_player.specs.Place.{Directory, Place, Request, Sent, Step, change_turn, changed}
 use Rattle.mot_player.specs.Place.{directory_packets, directory_segments}
 use Rattle.mot_player.specs.Place.{early_of, follow}
-use Rattle.mot_player.specs.Place.{hear_directory, left_of, opened_place, packets_of_segments}
+use Rattle.mot_player.specs.Place.{hear_directory, left_of, packets_of_segments}
 use Rattle.mot_player.specs.Place.{sent_by, to_send}
+use Rattle.mot_player.specs.Start.{start_place}
 use Rattle.mot_player.specs.Turn.{Turn, segments_of_turn, turn_of_carousel}
 use Rattle.mot_listening.proofs.Laws.{IsEarlyOn, early-changed, early-heard}
-use Rattle.mot_listening.proofs.Laws.{early-opened, early-sent, early-short, hears-new}
+use Rattle.mot_listening.proofs.Laws.{early-sent, early-short, hears-new}
+use Rattle.mot_listening.proofs.Laws.{start-comes, start-early, start-on, start-rest}
 use Rattle.mot_listening.proofs.Laws.{IsOnAir, IsRest, asked_packets, asks_once, changed-comes}
 use Rattle.mot_listening.proofs.Laws.{changed-on, group-fewer, group_left, heard-on, hears-change}
 use Rattle.mot_listening.proofs.Laws.{hears-directory, hears-only, hears-settled, hears-two_ends}
-use Rattle.mot_listening.proofs.Laws.{hears-within, opened-on, packets-are, rest-behind_turn}
-use Rattle.mot_listening.proofs.Laws.{rest-ended, rest-heard, rest-sent, sent-on, some-packets}
+use Rattle.mot_listening.proofs.Laws.{hears-within, packets-are, rest-behind_turn}
+use Rattle.mot_listening.proofs.Laws.{rest-heard, rest-sent, sent-on, some-packets}
 use Rattle.mot_listening.proofs.Laws.{packets_for, room-kept, until_asked}
 use Rattle.mot_player.proofs.Laws.{has-directory, keep_turn, plays-carousel}
 use Rattle.mot_feed.proofs.OnAir.{accepted-cases, follow-cases, sound-behind, steps_of}
@@ -153,9 +156,8 @@ early-behind limit size c last place new (Asked ∷ events) few some sound early
 module _ (limit size : ℕ) (now : Carousel) (place : Place) (before during : List Event)
     (packets : List (List ℕ)) (w : IsWindow limit size now place before during packets) where
   abbrev start : Place
-  start = record (opened_place w.address w.room size (turn_of_carousel w.first size)) {
-    follows = w.follows;
-  }
+  start = start_place w.address w.room size (turn_of_carousel w.first size) w.first.cursor w.follows
+      w.newest_first
 
   wide : (0 < size) × (size ≤ 8189)
   wide = (omega (arith, w.range.0), w.range.1)
@@ -166,7 +168,8 @@ module _ (limit size : ℕ) (now : Carousel) (place : Place) (before during : Li
   now-on : IsOnAir size (turn_of_carousel now size) place
   now-on =
       on-behind limit size w.first now start place before w.few wide.0 w.sound
-      (opened-on w.address w.room size (turn_of_carousel w.first size) w.follows w.some) w.came
+      (start-on w.address w.room size (turn_of_carousel w.first size) w.first.cursor w.follows w.newest_first w.some
+      wide.0 (has-directory w.first size)) w.came
 
   only-on_air : HearsOnly packets now size
   only-on_air =
@@ -803,14 +806,13 @@ tunes_in_round limit size now place before during packets w settled enough =
     let plays = plays-carousel now size sound w.rules w.range in
     let some : 0 < size = omega (arith, w.range.0) in
     let first : Turn = turn_of_carousel w.first size in
-    let opened : Place = record (opened_place w.address w.room size first) {
-      follows = w.follows;
-    } in
-    let opened_on : IsOnAir size first opened =
-    opened-on w.address w.room size first w.follows w.some in
-    let rest = settled-behind limit size w.first now opened place true before w.few some w.sound
-    (record { on = opened_on; rest = λ e. rest-ended size first opened opened_on refl refl })
-    w.came settled in
+    let has = has-directory w.first size in
+    let rest = settled-behind limit size w.first now
+    (start_place w.address w.room size first w.first.cursor w.follows w.newest_first) place true before w.few some
+    w.sound (record {
+      on = start-on w.address w.room size first w.first.cursor w.follows w.newest_first w.some some has;
+      rest = λ e. start-rest w.address w.room size first w.first.cursor w.follows w.newest_first w.some some has;
+    }) w.came settled in
     hears-settled size now (wide limit size now place before during packets w) sound plays.0
     plays.1 place w.new (steps_in during) (sents_in during) packets
     (now-on limit size now place before during packets w) (steps-keep during)
@@ -860,18 +862,39 @@ changed-size turn place = size-cases (is_some place.follows)
     size-cases true = refl
     size-cases false = refl
 
+-- behind the directory come the bodies that are early
+next_is_heard : (limit size : ℕ) (now : Carousel) (place : Place) (before during : List Event)
+    (packets : List (List ℕ)) → IsWindow limit size now place before during packets →
+    (rest : List Segment) → to_send place
+    ≡ directory_segments (turn_of_carousel now size) size ++ (early_of place ++ rest) →
+    longest_group place + early_packets place
+    + (1 + asks_in during) * directory_packets place ≤ 1 + length packets →
+    HearsEntity packets 6 now.directory (turn_of_carousel now size).directory
+    × HearsBodiesIn packets now size (early_of place)
+next_is_heard limit size now place before during packets w rest next enough =
+    let sound = now-sound limit size now place before during packets w in
+    let plays = plays-carousel now size sound w.rules w.range in
+    hears-change size now (wide limit size now place before during packets w) sound plays.0 plays.1
+    place w.new (steps_in during) (sents_in during) packets rest
+    (now-on limit size now place before during packets w) (steps-keep during)
+    (sent-is limit size now place before during packets w) w.are.read next
+    (omega (
+      arith,
+      enough,
+      left-few limit size now place before during packets w,
+      packets-are place.room (early_of place),
+      directory-is limit size now place before during packets w,
+      count-is limit size now place before during packets w,
+      asked-is limit size now place before during packets w,
+    ))
+
 changes_are_heard : ChangesAreHeard
 changes_are_heard limit size now place before during command packets w enough =
     let earlier : List Event = before ++ Accepted command ∷ [] in
-    let sound = now-sound limit size now place earlier during packets w in
-    let plays = plays-carousel now size sound w.rules w.range in
     let turn : Turn = turn_of_carousel now size in
     let on = now-on limit size now place earlier during packets w in
-    let first : Turn = turn_of_carousel w.first size in
-    let opened : Place = record (opened_place w.address w.room size first) {
-      follows = w.follows;
-    } in
-    let change = change-behind limit size w.first now opened place before command w.came in
+    let change = change-behind limit size w.first now
+    (start limit size now place earlier during packets w) place before command w.came in
     let old_size : change.old.segment_size ≡ size =
     sym (changed-size turn change.old) ∙ ap (λ (p : Place). p.segment_size) (sym change.is)
     ∙ on.size_is in
@@ -884,18 +907,28 @@ changes_are_heard limit size now place before during command packets w enough =
     ++ (early_of (changed turn change.old) ++ comes.0)) old_size
     ∙ ap (λ (p : Place). directory_segments turn size ++ (early_of p ++ comes.0)) (sym change.is)
     in
-    hears-change size now (wide limit size now place earlier during packets w) sound plays.0 plays.1
-    place w.new (steps_in during) (sents_in during) packets comes.0 on (steps-keep during)
-    (sent-is limit size now place earlier during packets w) w.are.read next
-    (omega (
-      arith,
-      enough,
-      left-few limit size now place earlier during packets w,
-      packets-are place.room (early_of place),
-      directory-is limit size now place earlier during packets w,
-      count-is limit size now place earlier during packets w,
-      asked-is limit size now place earlier during packets w,
-    ))
+    next_is_heard limit size now place earlier during packets w comes.0 next enough
+
+-- From a start on the directory is heard, and the bodies that come first.
+starts_are_heard : (limit size : ℕ) (now : Carousel) (place : Place) (during : List Event)
+    (packets : List (List ℕ)) → IsWindow limit size now place [] during packets →
+    longest_group place + early_packets place
+    + (1 + asks_in during) * directory_packets place ≤ 1 + length packets →
+    HearsEntity packets 6 now.directory (turn_of_carousel now size).directory
+    × HearsBodiesIn packets now size (early_of place)
+starts_are_heard limit size now place during packets w enough =
+    let first : Turn = turn_of_carousel w.first size in
+    let begun : Place = start limit size now place [] during packets w in
+    let comes = start-comes w.address w.room size first w.first.cursor w.follows w.newest_first
+    (wide limit size now place [] during packets w).0 (has-directory w.first size) in
+    let next : to_send place
+    ≡ directory_segments (turn_of_carousel now size) size ++ (early_of place ++ comes.0) =
+    ap to_send (sym w.came.1) ∙ comes.1
+    ∙ ap (λ (k : Carousel). directory_segments (turn_of_carousel k size) size
+    ++ (early_of begun ++ comes.0)) w.came.0
+    ∙ ap (λ (p : Place). directory_segments (turn_of_carousel now size) size
+    ++ (early_of p ++ comes.0)) w.came.1 in
+    next_is_heard limit size now place [] during packets w comes.0 next enough
 
 -- ---- in time
 
@@ -960,11 +993,10 @@ module _ (limit size every : ℕ) (now : Carousel) (place : Place) (before durin
   short_here : early_packets place ≤ early_within place
   short_here =
       let early : IsEarlyOn size (turn_of_carousel now size) place =
-      early-behind limit size w.first now
-      (record (opened_place w.address w.room size (turn_of_carousel w.first size)) {
-        follows = w.follows;
-      }) place before w.few (wide limit size now place before during packets w).0 w.sound
-      (early-opened w.address w.room size (turn_of_carousel w.first size) w.follows w.some)
+      early-behind limit size w.first now (start limit size now place before during packets w) place
+      before w.few (wide limit size now place before during packets w).0 w.sound
+      (start-early w.address w.room size (turn_of_carousel w.first size) w.first.cursor w.follows w.newest_first
+      w.some (wide limit size now place before during packets w).0 (has-directory w.first size))
       w.came in
       early-short size (turn_of_carousel now size) place early.on early.few early.comes
 
@@ -991,6 +1023,20 @@ module _ (limit size every : ℕ) (now : Carousel) (place : Place) (before durin
         (λ e f. tunes_in_within limit size now place before during packets w
         (all-enough (longest_group place) (left_packets place) (turn_packets place)
         (directory_packets place) (asks_in during) (length packets) e f));
+    start = λ none enough.
+        in-time (longest_group place + early_within place + 3 * directory_packets place)
+        (HearsEntity packets 6 now.directory (turn_of_carousel now size).directory
+        × HearsBodiesIn packets now size (early_of place)) enough
+        (λ more. let all = tunes_in limit size now place before during packets w more in
+        (all.1, all.2))
+        (λ e f. starts_are_heard limit size now place during packets
+        (subst (λ (b : List Event). IsWindow limit size now place b during packets) none w)
+        (omega (
+          arith,
+          change-enough (longest_group place) (early_within place) (directory_packets place)
+              (asks_in during) (length packets) e f,
+          short_here,
+        )));
     bounded = λ earlier command is enough.
         in-time (longest_group place + early_within place + 3 * directory_packets place)
         (HearsEntity packets 6 now.directory (turn_of_carousel now size).directory
@@ -1054,9 +1100,7 @@ module _ (limit size every : ℕ) (now : Carousel) (place : Place) (before durin
     (packets : List (List ℕ)) (w : IsWindow limit size now place before during packets)
     (often : IsOften every (before ++ during)) where
   abbrev begun : Place
-  begun = record (opened_place w.address w.room size (turn_of_carousel w.first size)) {
-    follows = w.follows;
-  }
+  begun = start limit size now place before during packets w
 
   hears_first_changes : HearsFirstChanges limit size w.first begun now place before packets
   hears_first_changes earlier command old was is came few enough =
@@ -1066,7 +1110,8 @@ module _ (limit size every : ℕ) (now : Carousel) (place : Place) (before durin
       command is enough in
       let early : IsEarlyOn size (turn_of_carousel old size) was =
       early-behind limit size w.first old begun was earlier w.few some w.sound
-      (early-opened w.address w.room size (turn_of_carousel w.first size) w.follows w.some) came in
+      (start-early w.address w.room size (turn_of_carousel w.first size) w.first.cursor w.follows w.newest_first
+      w.some some (has-directory w.first size)) came in
       let sound : IsSound old =
       sound-behind limit size w.first old begun was earlier w.few w.sound came in
       let behind : IsBehind limit size old was command now place =

@@ -4,7 +4,7 @@ use Rattle.std.proofs.Common.{Some, Result, Ok, Err, refl, sym, ap, subst, ◌<�
 use Rattle.std.specs.List.{AllByRecursion}
 use Rattle.std.proofs.lemmas.Bool.{and_parts}
 use Rattle.std.proofs.lemmas.Option.{none-some}
-use Rattle.std.specs.Prelude.{if◌then◌else◌, is_some}
+use Rattle.std.specs.Prelude.{◌&&◌, if◌then◌else◌, is_some}
 use Rattle.mot_feed.specs.Feeding.{Event, Happen, RulesAreKept, is_between_turns, sents_in}
 use Rattle.mot_feed.specs.Feeding.Event.{Accepted, Asked, Played}
 use Rattle.mot_feed.specs.Listening.{is_quiet}
@@ -20,16 +20,17 @@ use Rattle.mot_objects.proofs.Laws.{change-sound}
 use Rattle.mot_player.specs.Followable.{IsFollowable}
 use Rattle.mot_player.specs.Laws.{IsPlace}
 use Rattle.mot_player.specs.Place.{Place, Step, Request, Directory, changed, hear_directory}
-use Rattle.mot_player.specs.Place.{opened_place, sent_by}
+use Rattle.mot_player.specs.Place.{sent_by}
+use Rattle.mot_player.specs.Start.{start_place}
 use Rattle.mot_player.specs.Repeats.{ReadAsTurn, ReadsOnceAs, ends_at_last}
 use Rattle.mot_player.specs.Staying.{AreFewEarly, HasDirectory}
 use Rattle.mot_player.specs.Turn.{IsTurnOf, Turn, bodies_with_ids, turn_of_carousel}
 use Rattle.mot_player.proofs.Laws.{IsApartTurn, IsFresh, apart-carousel, ask_directory, keep_turn}
-use Rattle.mot_player.proofs.Laws.{few-changed, few-heard, few-opened, few-sent, fresh-changed}
-use Rattle.mot_player.proofs.Laws.{fresh-heard, fresh-opened, fresh-place, fresh-reads}
+use Rattle.mot_player.proofs.Laws.{few-changed, few-heard, few-sent, few-start, fresh-changed}
+use Rattle.mot_player.proofs.Laws.{fresh-heard, fresh-place, fresh-reads, fresh-start}
 use Rattle.mot_player.proofs.Laws.{fresh-sent, has-directory}
 use Rattle.mot_player.proofs.Laws.{StandsAt, place-begins, plays-carousel, stands-changed}
-use Rattle.mot_player.proofs.Laws.{stands-heard, stands-opened, stands-sent}
+use Rattle.mot_player.proofs.Laws.{stands-heard, stands-sent, stands-start}
 use Rattle.mot_player.proofs.Laws.{turns-read-with_directories}
 use Rattle.mot_playout.proofs.Laws.{followable}
 
@@ -155,14 +156,13 @@ turn-ends (Played sent ∷ events) e = ends-cases sent.ends_turn events (turn-en
 
 -- each whole turn on air reads as its carousel
 pub turns_read : TurnsOnAirRead
-turns_read limit size c now last address room follows before during place new packets few range some
+turns_read limit size c now last address room follows newest_first before during place new packets few range some
     sound earlier begins rules later is are =
-    let start : Place =
-    record (opened_place address room size (turn_of_carousel c size)) { follows = follows } in
+    let start : Place = start_place address room size (turn_of_carousel c size) c.cursor follows newest_first in
     let turn : Turn = turn_of_carousel now size in
     let stands : StandsAt (is_some follows) true true size turn place =
-    stands-behind limit size c now start place (is_some follows) true true before
-    (stands-opened address room size (turn_of_carousel c size) follows some) earlier begins in
+    stands-behind limit size c now start place (is_some follows) true (not (is_some follows && newest_first)) before
+    (stands-start address room size (turn_of_carousel c size) c.cursor follows newest_first some) earlier begins in
     let now_sound : IsSound now = sound-behind limit size c now start place before few sound earlier
     in
     let plays = plays-carousel now size now_sound rules range in
@@ -263,21 +263,20 @@ fresh-behind limit size c last place new follows ended (Asked ∷ events) few so
 
 -- each whole turn on air, behind one that ended, reads as its carousel
 pub changed_turns_read : ChangedTurnsOnAirRead
-changed_turns_read limit size c now last address room follows before during place new packets few
+changed_turns_read limit size c now last address room follows newest_first before during place new packets few
     range some sound earlier ended first_rules kept later is are =
-    let start : Place =
-    record (opened_place address room size (turn_of_carousel c size)) { follows = follows } in
+    let start : Place = start_place address room size (turn_of_carousel c size) c.cursor follows newest_first in
     let turn : Turn = turn_of_carousel now size in
     let wide : 0 < size = omega (arith, range.0) in
     let there : StandsFresh (is_some follows) true size now place =
     fresh-behind limit size c now start place (is_some follows) true before few wide sound (record {
       between = true;
-      whole = true;
+      whole = not (is_some follows && newest_first);
       rules = first_rules;
-      few = few-opened address room size (turn_of_carousel c size) follows;
-      stands = stands-opened address room size (turn_of_carousel c size) follows some;
-      fresh = λ e. fresh-opened address room size (turn_of_carousel c size) follows
-          (apart-carousel c size sound);
+      few = few-start address room size (turn_of_carousel c size) c.cursor follows newest_first;
+      stands = stands-start address room size (turn_of_carousel c size) c.cursor follows newest_first some;
+      fresh = λ e. fresh-start address room size (turn_of_carousel c size) c.cursor follows newest_first wide
+          (has-directory c size) (apart-carousel c size sound);
     }) earlier kept ended in
     let rules : AllKeepRules now = there.rules in
     let now_sound : IsSound now = sound-behind limit size c now start place before few sound earlier

@@ -13,9 +13,10 @@ use Rattle.mot_objects.specs.Ids.{contains}
 use Rattle.mot_objects.specs.Rules.{AllKeepRules}
 use Rattle.mot_objects.specs.declared.command.Command.{Command}
 use Rattle.mot_player.specs.Place.{Place, change_between, changed, directory_segments}
-use Rattle.mot_player.specs.Place.{fresh_segments, hear_directory, left_of, opened_place}
+use Rattle.mot_player.specs.Place.{fresh_segments, hear_directory, left_of}
 use Rattle.mot_player.specs.Place.{packets_of_segments}
 use Rattle.mot_player.specs.Repeats.{ends_at_last}
+use Rattle.mot_player.specs.Start.{start_place}
 use Rattle.mot_player.specs.Staying.{begun_with}
 use Rattle.mot_player.specs.Turn.{bodies_with_ids, turn_of_carousel}
 
@@ -75,15 +76,15 @@ pub record IsFollowing (limit size : ℕ) (now : Carousel) (place : Place)
   pub address : ℕ
   pub room : ℕ
   pub most : ℕ
+  pub newest_first : Bool
   pub few : limit ≤ MAX_OBJECTS
   pub some_size : 0 < size
   pub some : 0 < room
   pub sound : IsSound first
   pub rules_first : AllKeepRules first
   pub came : Happen limit size first
-      (record (opened_place address room size (turn_of_carousel first size)) {
-        follows = Some most;
-      }) before now place
+      (start_place address room size (turn_of_carousel first size) first.cursor (Some most)
+      newest_first) before now place
   pub last : Carousel
   pub new : Place
   pub happened : Happen limit size now place during last new

@@ -12,8 +12,9 @@ use Rattle.mot_objects.specs.declared.command.Command.{Command}
 use Rattle.mot_packets.specs.Outlet.{Grows}
 use Rattle.mot_player.specs.Continuity.{IsContinuous}
 use Rattle.mot_player.specs.Laws.{AreSent}
-use Rattle.mot_player.specs.Place.{Place, Sent, changed, hear_directory, opened_place, request}
+use Rattle.mot_player.specs.Place.{Place, Sent, changed, hear_directory, request}
 use Rattle.mot_player.specs.Sending.{packets_sent}
+use Rattle.mot_player.specs.Start.{start_place}
 use Rattle.mot_player.specs.Turn.{Turn, turn_of_carousel}
 use Rattle.mot_playout.specs.RunEnds.{RunLeaves}
 use Rattle.mot_playout.specs.Runs.{accepted_commands}
@@ -188,8 +189,9 @@ IsFeedFault old start now refusal = IsUpdateFault old start now refusal
 -- whatever updates come between them.
 abbrev pub FedPacketsAreContinuous : Type 0
 FedPacketsAreContinuous =
-    (limit size : ℕ) (c last : Carousel) (address room : ℕ) (turn : Turn) (follows : Option ℕ)
-    (events : List Event) (new : Place) (packets : List (List ℕ)) → 0 < room
-    → Happen limit size c (record (opened_place address room size turn) { follows = follows })
-    events last new
+    (limit size : ℕ) (c last : Carousel) (address room cursor : ℕ) (turn : Turn)
+    (follows : Option ℕ) (newest_first : Bool) (events : List Event) (new : Place)
+    (packets : List (List ℕ)) → 0 < room
+    → Happen limit size c (start_place address room size turn cursor follows newest_first) events last
+    new
     → AreOf events packets → IsContinuous packets

@@ -14,7 +14,8 @@ use Rattle.mot_listening.specs.Waits.{all_packets, change_packets, change_within
 use Rattle.mot_listening.specs.Waits.{left_packets, longest_group, round_packets, soon_packets}
 use Rattle.mot_listening.specs.Waits.{turn_packets}
 use Rattle.mot_player.specs.Place.{Place, bodies_not_begun, directory_packets, early_of}
-use Rattle.mot_player.specs.Place.{most_early, opened_place}
+use Rattle.mot_player.specs.Place.{most_early}
+use Rattle.mot_player.specs.Start.{start_place}
 use Rattle.mot_player.specs.Turn.{turn_of_carousel}
 
 -- no command is accepted among these
@@ -52,14 +53,14 @@ pub record IsWindow (limit size : ℕ) (now : Carousel) (place : Place) (before 
   pub address : ℕ
   pub room : ℕ
   pub follows : Option ℕ
+  pub newest_first : Bool
   pub few : limit ≤ MAX_OBJECTS
   pub range : (MIN_SEGMENT ≤ size) × (size ≤ MAX_SEGMENT)
   pub some : 0 < room
   pub sound : IsSound first
   pub came : Happen limit size first
-      (record (opened_place address room size (turn_of_carousel first size)) {
-        follows = follows;
-      }) before now place
+      (start_place address room size (turn_of_carousel first size) first.cursor follows newest_first)
+      before now place
   pub rules : AllKeepRules now
   pub last : Carousel
   pub new : Place
@@ -113,6 +114,11 @@ pub record IsHeardInTime (every size : ℕ) (now : Carousel) (place : Place)
       → HearsCarousel packets now size
   -- and wherever one may have been
   pub all : all_packets place ≤ length packets → HearsCarousel packets now size
+  -- from a start on the directory, and the bodies that come first there: the newest, where changes
+  -- are followed
+  pub start : before ≡ [] → change_within place ≤ length packets
+      → HearsEntity packets 6 now.directory (turn_of_carousel now size).directory
+      × HearsBodiesIn packets now size (early_of place)
   -- the directory of a change, and each body whose segments all come early
   pub change : (earlier : List Event) (command : Command)
       → before ≡ earlier ++ Accepted command ∷ [] → change_packets place ≤ length packets
@@ -146,6 +152,5 @@ ListenersHear =
     IsHeard every size now place before during packets
     × (0 < every → IsHeardInTime every size now place before during packets
     × HearsFirstChanges limit size w.first
-    (record (opened_place w.address w.room size (turn_of_carousel w.first size)) {
-      follows = w.follows;
-    }) now place before packets)
+    (start_place w.address w.room size (turn_of_carousel w.first size) w.first.cursor w.follows
+    w.newest_first) now place before packets)

@@ -56,10 +56,9 @@ server_for how server = record server {
   };
 }
 
--- and where it stands then
-abbrev pub place_for : Manner → Place → Place
-place_for how place =
-    record place { follows = if how.directory == 0 then place.follows else Some how.early }
+-- whether changed turns are followed so, with at most so many bodies early
+abbrev pub follows_in : Manner → Option ℕ
+follows_in how = if how.directory == 0 then None else Some how.early
 
 -- Turns were fed, so many if nothing ended feeding before. All commands that were run are those of
 -- the calls of the update, which was the first and is the last.

@@ -8,13 +8,14 @@ use Rattle.mot_numbers.specs.declared.geometry.TheConstants.{MAX_OBJECTS}
 use Rattle.mot_numbers.specs.declared.numbers.TheConstants.{MAX_SEGMENT, MIN_SEGMENT}
 use Rattle.mot_objects.specs.Carousel.{Carousel, IsSound}
 use Rattle.mot_objects.specs.Rules.{AllKeepRules}
-use Rattle.mot_player.specs.Place.{Place, opened_place}
+use Rattle.mot_player.specs.Place.{Place}
 use Rattle.mot_player.specs.Repeats.{ReadAsTurn, ReadsOnceAs}
+use Rattle.mot_player.specs.Start.{start_place}
 use Rattle.mot_player.specs.Turn.{turn_of_carousel}
 
--- Whether a turn begins behind these: between two groups, where a turn has ended or none was begun,
--- and no command was accepted since if changed turns are followed; and if they are not, behind the
--- group that was under way as a command was accepted.
+-- Whether a turn begins behind these: between two groups, where a turn has ended, or none was begun
+-- and the newest bodies do not come first, and no command was accepted since if changed turns are
+-- followed; and if they are not, behind the group that was under way as a command was accepted.
 abbrev pub begins_turn : (follows between whole : Bool) → List Event → Bool
 begins_turn follows between whole [] = between && whole
 begins_turn follows between whole (Accepted command ∷ events) =
@@ -43,12 +44,13 @@ asks (event ∷ events) = asks events
 abbrev pub TurnsOnAirRead : Type 0
 TurnsOnAirRead =
     (limit size : ℕ) (c now last : Carousel) (address room : ℕ) (follows : Option ℕ)
+    (newest_first : Bool)
     (before during : List Event) (place new : Place) (packets : List (List ℕ))
     → limit ≤ MAX_OBJECTS → (MIN_SEGMENT ≤ size) × (size ≤ MAX_SEGMENT) → 0 < room → IsSound c
     → Happen limit size c
-    (record (opened_place address room size (turn_of_carousel c size)) { follows = follows })
-    before now place
-    → begins_turn (is_some follows) true true before ≡ true → AllKeepRules now
+    (start_place address room size (turn_of_carousel c size) c.cursor follows newest_first) before now
+    place
+    → begins_turn (is_some follows) true (not (is_some follows && newest_first)) before ≡ true → AllKeepRules now
     → Happen limit size now place during last new → is_turn during ≡ true
     → AreOf during packets → ReadAsTurn (asks during) packets now size
 
@@ -59,11 +61,12 @@ TurnsOnAirRead =
 abbrev pub ChangedTurnsOnAirRead : Type 0
 ChangedTurnsOnAirRead =
     (limit size : ℕ) (c now last : Carousel) (address room : ℕ) (follows : Option ℕ)
+    (newest_first : Bool)
     (before during : List Event) (place new : Place) (packets : List (List ℕ))
     → limit ≤ MAX_OBJECTS → (MIN_SEGMENT ≤ size) × (size ≤ MAX_SEGMENT) → 0 < room → IsSound c
     → Happen limit size c
-    (record (opened_place address room size (turn_of_carousel c size)) { follows = follows })
-    before now place
+    (start_place address room size (turn_of_carousel c size) c.cursor follows newest_first) before now
+    place
     → is_between_turns true before ≡ true → AllKeepRules c → RulesAreKept limit c before
     → Happen limit size now place during last new → is_turn during ≡ true
     → AreOf during packets → ReadsOnceAs packets now size

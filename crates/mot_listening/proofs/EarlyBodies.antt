@@ -11,6 +11,7 @@ use Rattle.mot_groups.specs.Entity.{numbered_segments, own_segments, pieces, seg
 use Rattle.mot_groups.specs.Group.{Segment}
 use Rattle.mot_objects.specs.Ids.{contains}
 use Rattle.mot_listening.proofs.Counts.{packets-append, packets_for}
+pub use Rattle.mot_player.proofs.Laws.{IsOneOf}
 use Rattle.mot_player.specs.Place.{bodies_not_begun, without}
 use Rattle.mot_player.specs.Turn.{segments_of_bodies}
 
@@ -18,10 +19,6 @@ abbrev pub Pair : Type 0
 Pair = ℕ × List ℕ
 
 -- ---- one of some bodies
-
-abbrev pub IsOneOf : List Pair → Pair → Type 0
-IsOneOf [] b = ⊥
-IsOneOf (x ∷ xs) b = (b ≡ x) ⊎ IsOneOf xs b
 
 pub one-front : (xs ys : List Pair) (b : Pair) → IsOneOf xs b → IsOneOf (xs ++ ys) b
 one-front [] ys b is = absurd is
@@ -140,9 +137,14 @@ pub record ComesEarly (size : ℕ) (bodies : List Pair) (early : List Segment) :
   begun : (front ≡ []) ⊎ IsBegun size bodies front
   each : AllByRecursion (IsOneOf bodies) whole
 
+-- whole bodies come early
+pub whole-early : (size : ℕ) (bodies whole : List Pair) → AllByRecursion (IsOneOf bodies) whole →
+    ComesEarly size bodies (segments_of_bodies size whole)
+whole-early size bodies whole each =
+    record { front = []; whole = whole; row = refl; begun = inl refl; each = each }
+
 pub none-early : (size : ℕ) (bodies : List Pair) → ComesEarly size bodies []
-none-early size bodies =
-    record { front = []; whole = []; row = refl; begun = inl refl; each = tt }
+none-early size bodies = whole-early size bodies [] tt
 
 -- the first segment is begun
 drop-more : (n : ℕ) (t : Segment) (xs ys : List Segment) → t ∷ xs ≡ drop n ys →

@@ -21,6 +21,7 @@ use Rattle.mot_player.specs.Place.{in_its_place, left_of}
 use Rattle.mot_player.specs.Place.{left_with, next_sent, of_bodies, opened_place, packet_sent}
 use Rattle.mot_player.specs.Place.{request}
 use Rattle.mot_player.specs.Place.{rest_after, rest_of, sent_by, that_stay, to_send, with_begun}
+use Rattle.mot_player.specs.Start.{start_place}
 use Rattle.mot_player.specs.Staying.{HasDirectory, none_ends}
 use Rattle.mot_player.specs.Turn.{Turn, segments_of_bodies, segments_of_turn}
 use Rattle.mot_player.proofs.Laws.{AreOthers, FirstRequest, between-put, between-replaced}
@@ -33,7 +34,8 @@ use Rattle.mot_listening.proofs.DirectoryNext.{group_left, room-kept}
 use Rattle.mot_listening.proofs.Heard.{IsInside, IsOnAir, heard-on, opened-on, sent-on}
 use Rattle.mot_listening.proofs.OfTurn.{followed-on}
 use Rattle.mot_listening.proofs.Renews.{renews}
-use Rattle.mot_listening.proofs.Rest.{IsRest, rest-ended, rest-heard, rest-sent}
+use Rattle.mot_listening.proofs.Rest.{IsRest, rest-heard, rest-sent}
+use Rattle.mot_listening.proofs.Starts.{start-on, start-rest}
 use Rattle.mot_listening.specs.Ends.{AreFollowed, HasBodies, TurnsEndSoon, added_packets}
 use Rattle.mot_listening.specs.Ends.{turn_behind}
 use Rattle.mot_listening.specs.Waits.{left_packets, longest_group}
@@ -318,15 +320,19 @@ record GoesOn (size room : ℕ) (turn : Turn) (place : Place) : Type 0 where
   room_is : place.room ≡ room
   rest : IsRest size turn place.early (left_of place)
 
-opened-goes : (address room size most : ℕ) (turn : Turn) → 0 < room →
-    GoesOn size room turn (record (opened_place address room size turn) { follows = Some most })
-opened-goes address room size most turn some =
-    let place : Place = record (opened_place address room size turn) { follows = Some most } in
-    let on : IsOnAir size turn place = opened-on address room size turn (Some most) some in record {
-      on = on;
-      room_is = refl;
-      rest = rest-ended size turn place on refl refl;
-    }
+start-goes : (address room size most cursor : ℕ) (newest_first : Bool) (turn : Turn) → 0 < room →
+    0 < size → HasDirectory turn →
+    GoesOn size room turn (start_place address room size turn cursor (Some most) newest_first)
+start-goes address room size most cursor newest_first turn some large has = record {
+  on = start-on address room size turn cursor (Some most) newest_first some large has;
+  room_is = start-room address room size most cursor newest_first turn;
+  rest = start-rest address room size turn cursor (Some most) newest_first some large has;
+}
+  where
+    start-room : (address room size most cursor : ℕ) (newest_first : Bool) (turn : Turn) →
+        (start_place address room size turn cursor (Some most) newest_first).room ≡ room
+    start-room address room size most cursor true turn = refl
+    start-room address room size most cursor false turn = refl
 
 sent-goes : (size room : ℕ) (turn : Turn) (place : Place) (s : Sent) → 0 < size →
     GoesOn size room turn place → request place ≡ Some s → GoesOn size room turn s.place
@@ -535,11 +541,12 @@ left-fewer room place (Some u) =
     waits-cases (t ∷ waiting) whole = omega arith
 
 pub turns_end_soon : TurnsEndSoon
-turns_end_soon address room size most first before during earlier sents place new some large is
-    followed came later happens none =
-    let start : Place = record (opened_place address room size first) { follows = Some most } in
+turns_end_soon address room size most cursor newest_first first before during earlier sents place new
+    some large is followed came later happens none =
+    let start : Place = start_place address room size first cursor (Some most) newest_first in
     let at = steps-go size room first before start earlier place large is
-    (opened-goes address room size most first some) followed came in
+    (start-goes address room size most cursor newest_first first some large is.directory) followed
+    came in
     let turn : Turn = turn_behind first before in
     let on : IsOnAir size turn place = at.0.on in
     let long : longest_group place ≡ div_ceil (size + 11) room =

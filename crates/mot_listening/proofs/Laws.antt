@@ -15,6 +15,8 @@ pub use Rattle.mot_listening.proofs.Rest.{IsRest, changed-comes, rest-behind_tur
 pub use Rattle.mot_listening.proofs.Rest.{rest-heard, rest-sent}
 pub use Rattle.mot_listening.proofs.TuneIn.{hears-change, hears-directory, hears-only}
 pub use Rattle.mot_listening.proofs.TuneIn.{hears-settled, hears-two_ends, hears-within}
+-- where a player begins that sends the newest bodies first
+pub use Rattle.mot_listening.proofs.Starts.{start-comes, start-early, start-on, start-rest}
 -- a turn ends however many changes come, and up to its end each body that stays comes whole
 pub use Rattle.mot_listening.proofs.Ends.{turns_end_soon}
 pub use Rattle.mot_listening.proofs.Whole.{bodies_come_whole}

@@ -12,5 +12,6 @@ pub mod OfTurn
 pub mod Renews
 pub mod Rest
 mod Rows
+pub mod Starts
 pub mod TuneIn
 pub mod Whole

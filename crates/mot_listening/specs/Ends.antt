@@ -1,5 +1,5 @@
 -- However many changes are followed, a turn ends, and each body that stays is sent in it.
-use Rattle.std.specs.Prelude.{◌≡◌, ℕ, ◌+◌, ◌*◌, ◌<◌, ◌≤◌, true, List, [], ◌∷◌, Some, length, map}
+use Rattle.std.specs.Prelude.{◌≡◌, ℕ, ◌+◌, ◌*◌, ◌<◌, ◌≤◌, Bool, true, List, [], ◌∷◌, Some, length, map}
 use Rattle.std.specs.Prelude.{⊤}
 use Rattle.std.specs.List.{AllByRecursion}
 use Rattle.mot_groups.specs.Entity.{own_segments}
@@ -11,6 +11,7 @@ use Rattle.mot_player.specs.Place.{Place, Sent, Step, Request, NewTurn, Director
 use Rattle.mot_player.specs.Place.{change_between, directory_segments, fresh_segments, opened_place}
 use Rattle.mot_player.specs.Place.{left_of, packets_of_segments, sent_by}
 use Rattle.mot_player.specs.Repeats.{ends_at_last}
+use Rattle.mot_player.specs.Start.{start_place}
 use Rattle.mot_player.specs.Staying.{HasDirectory, Stays, begun_by, none_ends}
 use Rattle.mot_player.specs.Turn.{Turn}
 
@@ -53,10 +54,10 @@ turn_behind turn (step ∷ steps) = turn_behind turn steps
 -- those of what is to be sent, and those that are added meanwhile.
 abbrev pub TurnsEndSoon : Type 0
 TurnsEndSoon =
-    (address room size most : ℕ) (first : Turn) (before during : List Step)
-    (earlier sents : List Sent) (place new : Place) → 0 < room → 0 < size → HasBodies first →
+    (address room size most cursor : ℕ) (newest_first : Bool) (first : Turn)
+    (before during : List Step) (earlier sents : List Sent) (place new : Place) → 0 < room → 0 < size → HasBodies first →
     AreFollowed first before →
-    sent_by (record (opened_place address room size first) { follows = Some most }) before
+    sent_by (start_place address room size first cursor (Some most) newest_first) before
     ≡ Some (earlier, place) →
     AreFollowed (turn_behind first before) during → sent_by place during ≡ Some (sents, new) →
     none_ends sents ≡ true →

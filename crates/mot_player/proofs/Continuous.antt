@@ -17,8 +17,8 @@ use Rattle.mot_packets.specs.Packet.{PacketFields, read_packet}
 use Rattle.mot_packets.proofs.Laws.{groups_after-last_piece, groups_after-piece, more_left}
 use Rattle.mot_numbers.proofs.Laws.{>>=-some}
 use Rattle.mot_player.specs.Continuity.{kind_of, group_index, contents, changes, index_after}
-use Rattle.mot_player.specs.Continuity.{indexes_after, packet_index, packet_indexes_from}
-use Rattle.mot_player.specs.Laws.{StepsAreContinuous}
+use Rattle.mot_player.specs.Continuity.{IsContinuous, indexes_after, packet_index, packet_indexes_from}
+use Rattle.mot_player.specs.Laws.{AreSent, StepsAreContinuous}
 use Rattle.mot_player.specs.Place.{Last, UnderWay, Place, Sent, Step, Request, NewTurn, Directory}
 use Rattle.mot_player.specs.Place.{Change, Follow, change_between, early_after}
 use Rattle.mot_player.specs.Place.{next_index, hear_directory, follow, directory_segments}
@@ -439,13 +439,31 @@ packets-counted n (p ∷ packets) fields e i =
     let later = packets-counted (n + 1) packets two.0 two.1 (ap (drop 1) split) in
     rw (one.1, later, here) refl
 
--- whatever turns come between requests, the packets have their continuity indexes
-pub steps-are-continuous : StepsAreContinuous
+-- whatever turns come between requests, the packets have their continuity indexes, if nothing was
+-- begun, and what waits are segments of a directory and of bodies
+pub steps-from_opened : (address room size : ℕ) (turn : Turn) (follows : Option ℕ)
+    (waiting : List Segment) (early : ℕ) (steps : List Step) (sents : List Sent) (new : Place)
+    (packets : List (List ℕ)) → 0 < room → AllByRecursion IsKind waiting →
+    sent_by (record (opened_place address room size turn) {
+      follows = follows;
+      waiting = waiting;
+      early = early;
+    }) steps ≡ Some (sents, new) → AreSent sents packets → IsContinuous packets
 unfolding gather_front
-steps-are-continuous address room size turn follows steps sents new packets r h sent =
-    let c = steps-continue steps [] 0
-    (record (opened_place address room size turn) { follows = follows }) sents new
-    (record { inside = tt; directory = refl; body = refl; kinds = tt; index = refl; room = r }) h in
+steps-from_opened address room size turn follows waiting early steps sents new packets r kinds h
+    sent =
+    let c = steps-continue steps [] 0 (record (opened_place address room size turn) {
+      follows = follows;
+      waiting = waiting;
+      early = early;
+    }) sents new (record {
+      inside = tt;
+      directory = refl;
+      body = refl;
+      kinds = kinds;
+      index = refl;
+      room = r;
+    }) h in
     record {
       groups = c.groups;
       begun = c.begun;
@@ -453,3 +471,7 @@ steps-are-continuous address room size turn follows steps sents new packets r h 
       packet_indexes = packets-counted 0 packets (packets_of sents) sent c.packet_indexes;
       group_indexes = c.group_indexes;
     }
+
+pub steps-are-continuous : StepsAreContinuous
+steps-are-continuous address room size turn follows steps sents new packets r h sent =
+    steps-from_opened address room size turn follows [] 0 steps sents new packets r tt h sent

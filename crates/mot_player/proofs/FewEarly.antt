@@ -25,7 +25,7 @@ use Rattle.mot_player.proofs.Followed.{of_bodies-directory, of_bodies-same, rene
 use Rattle.mot_player.proofs.Requests.{FirstRequest, first_request}
 
 -- so many of these bodies' segments, with at most so many bodies that are not begun
-abbrev AreFew : ℕ → ℕ → List Segment → Type 0
+abbrev pub AreFew : ℕ → ℕ → List Segment → Type 0
 AreFew n most segments =
     (n ≤ length segments) × (bodies_not_begun (take n segments) ≤ most)
 
@@ -50,7 +50,7 @@ few-of place few = (
       (early-left place place.under_way few.counted) few.few,
 )
 
-few-place : (place : Place) → AreFew place.early (most_early place) (of_bodies place.waiting) →
+pub few-place : (place : Place) → AreFew place.early (most_early place) (of_bodies place.waiting) →
     AreFewEarly place
 few-place place few = record {
   counted = few.0;

@@ -34,7 +34,7 @@ use Rattle.mot_player.proofs.Passing.{bodies-waiting, course-ended, course-whole
 use Rattle.mot_player.proofs.Segments.{body_entity, length-with_bodies}
 
 -- what a turn plans of its bodies
-plans-are : (ps : List BodyPlan) (bodies : List (List ℕ)) →
+pub plans-are : (ps : List BodyPlan) (bodies : List (List ℕ)) →
     map length bodies ≡ map (λ (b : BodyPlan). b.length) ps → plans (with_bodies ps bodies) ≡ ps
 plans-are [] [] e = refl
 plans-are [] (x ∷ bodies) e = absurd (omega (arith, ap length e))

@@ -31,6 +31,10 @@ pub use Rattle.mot_player.proofs.Beginnings.{stands-heard, place-begins}
 pub use Rattle.mot_player.proofs.FreshTurns.{IsApartTurn, IsFresh, apart-carousel, fresh-changed}
 pub use Rattle.mot_player.proofs.FreshTurns.{fresh-heard, fresh-opened, fresh-place, fresh-reads}
 pub use Rattle.mot_player.proofs.FreshTurns.{fresh-sent, has-directory}
+-- where a player begins that sends the newest bodies first
+pub use Rattle.mot_player.proofs.FirstBodies.{IsOneOf, newest-few, newest-one}
+pub use Rattle.mot_player.proofs.Starts.{few-start, first-bodies, first-left, fresh-start}
+pub use Rattle.mot_player.proofs.Starts.{of-some, stands-start, start-continuous}
 -- a sound carousel that keeps the rules can be played
 pub use Rattle.mot_player.proofs.Ruled.{plays-carousel}
 -- What who begins to listen at any packet stands on (`mot_listening`): what a request sends,

@@ -23,6 +23,7 @@ pub mod Laws
 pub mod Left
 pub mod Moved
 pub mod Nearer
+pub mod FirstBodies
 pub mod NextSegment
 pub mod NotBegun
 pub mod Plans
@@ -34,6 +35,7 @@ pub mod Rows
 pub mod Ruled
 pub mod Segments
 pub mod SomeBodies
+pub mod Starts
 pub mod Staying
 pub mod TurnOnce
 pub mod TurnReads

@@ -2,5 +2,6 @@
 pub mod Course
 pub mod Difference
 pub mod Entities
+pub mod Newest
 pub mod Next
 pub mod Ready

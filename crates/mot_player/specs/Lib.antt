@@ -13,6 +13,7 @@ pub mod Reading
 pub mod Repeats
 pub mod Rounds
 pub mod Sending
+pub mod Start
 pub mod Staying
 pub mod State
 pub mod Turn

@@ -57,6 +57,15 @@ impl Course {
         self.segment = 0;
     }
 
+    /// The whole turn waits, and what is queued here before its bodies.
+    pub fn begin_with(&mut self, queue: Vec<Waiting>)
+        ensures course { course_of self.new ≡ record whole_course { queue = queue.items } }
+    {
+        self.begin_turn();
+        self.at = 0;
+        self.queue = queue;
+    }
+
     /// Whether nothing waits of a turn of so many entities.
     pub fn has_ended(&self, entity_count: usize) -> bool
         ensures value { result ≡ has_ended entity_count (course_of self.now) }

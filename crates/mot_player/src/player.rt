@@ -17,11 +17,12 @@ ghost use Rattle.mot_player.specs.Staying.{DirectoryComes, FewGoEarly, ReplacedK
 ghost use Rattle.mot_player.specs.Staying.{RequestsTakeInOrder};
 ghost use Rattle.mot_player.specs.Repeats.{TurnsReadWithDirectories};
 ghost use Rattle.mot_player.specs.Rounds.{RoundsAreContinuous};
+ghost use Rattle.mot_player.specs.Start.{begin_with, newest};
 
 use crate::lengths::packets_of_entity;
 use crate::state::State;
 use crate::{Bodies, Played, Spare, Turn};
-use mot_numbers::{Address, PacketLength, Refusal, SegmentSize};
+use mot_numbers::{Address, PacketLength, Refusal, SegmentSize, TransportId};
 use mot_packets::Packet;
 use std::alloc::Global;
 use std::marker::Model;
@@ -100,6 +101,27 @@ impl Player {
         ensures size { self.new.segment_size ≡ self.old.segment_size }
     {
         self.state.follows = Some(most);
+    }
+
+    /// The turn begins after the group under way, with its newest bodies, at most so many, before all
+    /// of them: what changed last is heard first. `cursor` is the transport id that was taken last. The
+    /// only refusal is `OutOfMemory`, and then all stays.
+    pub fn begin_newest(
+        &mut self,
+        alloc: Global,
+        cursor: TransportId,
+        most: usize,
+    ) -> Result<(), Refusal>
+        ensures place { OnOk result ((bodies : List (List ℕ)) → AreBodiesFor self.old.turn bodies
+            → place_of self.new bodies
+            ≡ begin_with (newest most cursor (turn_with self.old.turn bodies).bodies)
+            (place_of self.old bodies)) }
+        ensures turn { self.new.turn ≡ self.old.turn }
+        ensures size { self.new.segment_size ≡ self.old.segment_size }
+        ensures refused { IfErr result (λ refusal. refusal ≡ OutOfMemory) }
+        ensures stays { OnErr result (self.new ≡ self.old) }
+    {
+        Ok(self.state.begin_newest(alloc, cursor, most)?)
     }
 
     /// The room that it takes to follow a changed turn. A player that does not follow needs none, and

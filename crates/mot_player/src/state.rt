@@ -9,7 +9,7 @@ use crate::groups::LastGroup;
 use crate::part::{Part, part_at};
 use crate::reading::read_front;
 use crate::{Bodies, Turn};
-use mot_numbers::{Address, GroupKind, PacketLength, Refusal, SegmentSize};
+use mot_numbers::{Address, GroupKind, PacketLength, Refusal, SegmentSize, TransportId};
 use mot_packets::{Packet, cut_packet_into};
 use std::alloc::{AllocError, Global};
 
@@ -61,6 +61,7 @@ impl State {
     ghost use Rattle.mot_player.specs.Inner.Difference.{difference_in};
     ghost use Rattle.mot_player.specs.Followable.{IsFollowable};
     ghost use Rattle.mot_player.specs.Place.{change_turn, follow};
+    ghost use Rattle.mot_player.specs.Start.{begin_with, newest};
     ghost use Rattle.mot_player.specs.PlayerView.{turn_with};
 
     /// The state of a player of a turn, with nothing begun, and room for the largest group.
@@ -210,6 +211,30 @@ impl State {
         let _ = turn.entity_count();
         self.course.begin_turn();
         self.turn = turn;
+    }
+
+    /// The turn begins after the group under way, with its newest bodies, at most so many, before all
+    /// of them.
+    pub fn begin_newest(
+        &mut self,
+        alloc: Global,
+        cursor: TransportId,
+        most: usize,
+    ) -> Result<(), AllocError>
+        requires fitted { IsFitted self.old }
+        ensures fitted { IsFitted self.new }
+        ensures begun { OnOk result ((bodies : List (List ℕ)) → AreBodiesFor self.old.turn bodies
+            → place_with self.new bodies
+            ≡ begin_with (newest most cursor (turn_with self.old.turn bodies).bodies)
+            (place_with self.old bodies)) }
+        ensures turn { self.new.turn ≡ self.old.turn }
+        ensures size { self.new.segment_size ≡ self.old.segment_size }
+        ensures sent { (self.new.sent ≡ self.old.sent) × (self.new.group ≡ self.old.group) }
+        ensures stays { OnErr result (self.new ≡ self.old) }
+    {
+        let queue = self.turn.newest(alloc, cursor, most)?;
+        self.course.begin_with(queue);
+        Ok(())
     }
 
     /// A changed turn is followed, or begins, after the group under way.

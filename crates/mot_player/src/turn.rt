@@ -6,7 +6,9 @@ ghost use Rattle.mot_objects.specs.Stands.{AreBodiesOf, carousel_of};
 ghost use Rattle.mot_objects.specs.declared.object.Object.{Object};
 ghost use Rattle.mot_player.specs.declared.planned_body.PlannedBody.{PlannedBody};
 
+use crate::course::Waiting;
 use crate::difference::{Difference, difference_between};
+use crate::newest::newest;
 use crate::planned_body::PlannedBody;
 use mot_directory::directory_bytes;
 use mot_numbers::{Refusal, SegmentSize, TransportId};
@@ -44,6 +46,8 @@ impl Turn {
     ghost use Rattle.mot_player.specs.Inner.Entities.{entity_tid};
     ghost use Rattle.mot_player.specs.Turn.{IsTurnOf, turn_of_carousel};
     ghost use Rattle.mot_player.specs.Inner.Difference.{difference_from};
+    ghost use Rattle.mot_player.specs.Inner.Newest.{first_from, ids_of};
+    ghost use Rattle.mot_player.specs.Start.{is_new};
 
     /// The turn of a carousel, in segments of this size. The only refusal is `OutOfMemory`.
     pub fn of(
@@ -109,6 +113,21 @@ impl Turn {
         ensures { result ≡ difference_from 1 self.now.bodies next.now.bodies }
     {
         difference_between(&self.bodies, &next.bodies)
+    }
+
+    /// Its newest bodies, at most so many, each from its first segment on. `cursor` is the transport
+    /// id that was taken last.
+    pub(crate) fn newest(
+        &self,
+        alloc: Global,
+        cursor: TransportId,
+        most: usize,
+    ) -> Result<Vec<Waiting>, AllocError>
+        ensures newest { IfOk result (λ queue. queue.items
+            ≡ first_from (is_new most cursor (ids_of self.now.bodies)) most 1 self.now.bodies) }
+        ensures plannable { IsPlannable self.now }
+    {
+        newest(alloc, &self.bodies, cursor, most)
     }
 
     /// The directory's bytes.

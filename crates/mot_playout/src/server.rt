@@ -7,10 +7,11 @@ ghost use Rattle.disk_model.specs.Disk.{Keeps, Costs, OnlyReads, OnlySyncs};
 ghost use Rattle.disk_model.specs.Disk.{Throughout};
 ghost use Rattle.mot_journal.specs.Image as journal;
 ghost use Rattle.mot_numbers.specs.Refusal.{IsCalm};
-ghost use Rattle.mot_numbers.specs.declared.refusal.Refusal.TheVariants.{DeviceFault};
+ghost use Rattle.mot_numbers.specs.declared.refusal.Refusal.TheVariants.{DeviceFault, OutOfMemory};
 ghost use Rattle.mot_numbers.specs.Geometry.{packet_room};
 ghost use Rattle.mot_player.specs.Place.{change_turn, changed, directory_packets, following};
 ghost use Rattle.mot_player.specs.Place.{hear_directory, opened_place};
+ghost use Rattle.mot_player.specs.Start.{begin_with, newest};
 ghost use Rattle.mot_player.specs.Turn.{turn_of_carousel};
 ghost use Rattle.mot_repository.specs.Outcome.{after_command};
 ghost use Rattle.mot_repository.specs.Repository.{Agrees, HasStanding, Holds, IsBeforeOrAfter};
@@ -248,6 +249,21 @@ impl<D: Disk> Server<D> {
             → place_in self.new s ≡ following early (place_in self.old s) }
     {
         self.player.follow_changes(early);
+    }
+
+    /// The turn begins, with its newest bodies, at most so many, before all of them: what changed last
+    /// is heard first. It does not call the disk. The only refusal is `OutOfMemory`.
+    pub fn begin_newest(&mut self, alloc: Global, most: usize) -> Result<(), Refusal>
+        ensures disk { self.new.disk ≡ self.old.disk }
+        ensures view { self.new.view ≡ self.old.view }
+        ensures place { OnOk result ((s : journal.Standing) → Agrees self.old.view s
+            → place_in self.new s
+            ≡ begin_with (newest most s.carousel.cursor (place_in self.old s).turn.bodies)
+            (place_in self.old s)) }
+        ensures refused { IfErr result (λ refusal. refusal ≡ OutOfMemory) }
+    {
+        let cursor = self.bodies.repository.carousel().cursor;
+        self.player.begin_newest(alloc, cursor, most)
     }
 
     /// Whether changed bodies wait, which come before the turn goes on.

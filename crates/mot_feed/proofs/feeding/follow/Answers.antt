@@ -1,4 +1,4 @@
-use Rattle.std.proofs.Common.{◌≡◌, ℕ, false, Bool, Some, arith, subst, sym}
+use Rattle.std.proofs.Common.{◌≡◌, false, Bool, Some, arith, subst, sym}
 use Rattle.std.proofs.lemmas.Bool.{ne_eqb}
 use Rattle.std.specs.Prelude.{◌==◌, if◌then◌else◌}
 use Rattle.mot_feed.proofs.feeding.follow.Goals as goal
