@@ -15,7 +15,7 @@ REASONS = ("1 BadLine", "2 BadName", "3 BadType", "4 BadMime", "5 BadBody", "6 E
            "15 DeviceFault", "16 Halted", "22 ReadFault", "23 WriteFault")
 FAMILIES = ("packets_total turns_total looks_total changes_total refusals_total line_refusals_total "
             "mass_withdrawals_total objects directory_id directory_checksum turn_packets turn_bytes free_bytes "
-            "gap_bytes objects_limit data_bytes last_change_seconds folder_listed info refused_total file_refused "
+            "gap_bytes objects_limit data_bytes last_change_seconds status_seconds folder_listed info refused_total file_refused "
             "object").split()
 # Names of objects and of files that a label, a line or a reader of one might take for something else.
 HOSTILE = ('a".txt', "b\\.txt", "c\\n.txt", 'd\\".txt', "e{}.txt", 'f",id="9.txt', "g}1.txt", "#h.txt",

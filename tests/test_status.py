@@ -28,6 +28,7 @@ motcar_gap_bytes gauge The longest body that has room.
 motcar_objects_limit gauge Objects that the disk holds.
 motcar_data_bytes gauge Bytes that the disk has for bodies.
 motcar_last_change_seconds gauge Seconds from 1970 to the last change; 0 if there was none.
+motcar_status_seconds gauge Seconds from 1970 to when this was written; 0 if that is not known.
 motcar_folder_listed gauge Whether the folder was listed.
 motcar_info gauge The version of the program.
 motcar_refused_total counter Refusals that were logged, by their reasons.
@@ -74,7 +75,7 @@ class Samples(Status):
                   f'info{{version="{version}"}}': 1}
         wanted = {f"motcar_{it}": value for it, value in wanted.items()}
         # (the others have rows of their own)
-        others = "motcar_refused_total", "motcar_object{", "motcar_last_change_seconds"
+        others = "motcar_refused_total", "motcar_object{", "motcar_last_change_seconds", "motcar_status_seconds"
         came = {it: value for it, value in samples(self.path).items() if not it.startswith(others)}
         self.expect("a status", {**wanted, **files}, came)
         others = [it for it in self.path.read_text().splitlines() if not re.match(r"# (HELP|TYPE) motcar_|motcar_", it)]
@@ -119,6 +120,22 @@ class Samples(Status):
         self.expect("without a folder", [0, 1_000, 2_000, 3_000, turns * packets],
                     self.written("--turns", str(turns)))
         self.expect("with all turns", (0, turns), (self.count("looks_total"), self.count("turns_total")))
+
+    def test_when_it_was_written(self):
+        """The second of its writing, each time that it is written."""
+        before = int(time.time())
+        self.shown()
+        first = self.count("status_seconds")
+        self.expect("the time of the machine", True, before <= first <= time.time())
+        until(lambda: int(time.time()) > first)
+        self.motcar("play", self.place, "/dev/null", "--turns", "1", "--status", self.path)
+        self.expect("of a later one without a change", (0, True),
+                    (self.count("last_change_seconds"), first < self.count("status_seconds") <= time.time()))
+        player = self.player(self.place, "/dev/null", "--status", self.path)
+        begun = until(lambda: self.count("packets_total"))
+        last = self.count("status_seconds")
+        self.expect("and while it plays", (True, True), (begun, until(lambda: self.count("status_seconds") > last)))
+        player.end()
 
     def test_a_file_that_is_mended(self):
         self.shown()

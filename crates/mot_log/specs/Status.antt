@@ -14,7 +14,7 @@ use Rattle.mot_log.specs.declared.status.TheConstants.{DIRECTORY, FILES_REFUSED,
 use Rattle.mot_log.specs.declared.status.TheConstants.{LAST_CHANGE, LINE_REFUSALS, LISTED, LOOKS}
 use Rattle.mot_log.specs.declared.status.TheConstants.{OBJECTS, OBJECTS_LIMIT, ON_AIR, PACKETS}
 use Rattle.mot_log.specs.declared.status.TheConstants.{REFUSALS, REFUSED, TURNS, TURN_BYTES}
-use Rattle.mot_log.specs.declared.status.TheConstants.{TURN_PACKETS, VERSION}
+use Rattle.mot_log.specs.declared.status.TheConstants.{TURN_PACKETS, VERSION, WRITTEN}
 use Rattle.mot_events.specs.declared.event.Deed.{Deed}
 use Rattle.mot_events.specs.declared.event.LookEvent.{LookEvent}
 use Rattle.mot_events.specs.declared.event.Met.{Met}
@@ -62,7 +62,7 @@ figure_rows f =
     (OBJECTS.now, length f.objects.now) ∷ (DIRECTORY.now, f.directory) ∷ (CHECKSUM.now, f.checksum)
     ∷ (TURN_PACKETS.now, f.turn_packets) ∷ (TURN_BYTES.now, f.turn_bytes) ∷ (FREE.now, f.free)
     ∷ (GAP.now, f.gap) ∷ (OBJECTS_LIMIT.now, f.objects_limit) ∷ (DATA.now, f.data_bytes)
-    ∷ (LAST_CHANGE.now, f.last_change) ∷ []
+    ∷ (LAST_CHANGE.now, f.last_change) ∷ (WRITTEN.now, f.written) ∷ []
 
 -- whether the last look went by the folder's list
 abbrev pub listed_value : List LookEvent → ℕ

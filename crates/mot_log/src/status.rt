@@ -42,6 +42,8 @@ pub struct Figures<'a> {
     pub data_bytes: u64,
     /// When the program made the last change, in seconds since 1970; 0 if it made none.
     pub last_change: u64,
+    /// When the status is written, in seconds since 1970; 0 if the system does not say.
+    pub written: u64,
 }
 
 // The table of families. Each row is the text in front of a sample's labels: what the family is, and
@@ -131,6 +133,11 @@ const LAST_CHANGE: &str = "\
 # HELP motcar_last_change_seconds Seconds from 1970 to the last change; 0 if there was none.
 # TYPE motcar_last_change_seconds gauge
 motcar_last_change_seconds";
+
+const WRITTEN: &str = "\
+# HELP motcar_status_seconds Seconds from 1970 to when this was written; 0 if that is not known.
+# TYPE motcar_status_seconds gauge
+motcar_status_seconds";
 
 const LISTED: &str = "\
 # HELP motcar_folder_listed Whether the folder was listed.
@@ -233,7 +240,8 @@ fn add_figures(text: &mut Vec<u8>, disk: &[u8], figures: &Figures<'_>) -> Result
     add_row(text, GAP, disk, figures.gap)?;
     add_row(text, OBJECTS_LIMIT, disk, figures.objects_limit)?;
     add_row(text, DATA, disk, figures.data_bytes)?;
-    add_row(text, LAST_CHANGE, disk, figures.last_change)
+    add_row(text, LAST_CHANGE, disk, figures.last_change)?;
+    add_row(text, WRITTEN, disk, figures.written)
 }
 
 /// 1 if the last look went by the folder's list, or else 0.

@@ -12,14 +12,15 @@ use mot_playout::Server;
 pub(crate) const VERSION: &str = "0.3.0";
 
 /// What is known of the carousel of a server, whose disk has this path and whose turn takes so
-/// much, after a last change at this second.
+/// much, after a last change at this second, in a status that is written at that one.
 pub(crate) fn figures_of<'a, D: Disk>(
     disk: &'a str,
     server: &'a Server<D>,
     turn: TurnSize,
     last_change: u64,
+    written: u64,
 ) -> Figures<'a>
-    ensures { AreFigures disk.now server.now.view turn last_change result }
+    ensures { AreFigures disk.now server.now.view turn last_change written result }
 {
     let carousel = server.carousel();
     let geometry = server.geometry();
@@ -38,6 +39,7 @@ pub(crate) fn figures_of<'a, D: Disk>(
         objects_limit: u64::from(geometry.objects),
         data_bytes: data,
         last_change,
+        written,
     }
 }
 

@@ -136,10 +136,12 @@ impl<'a, S: System + Drop, W: Write + Drop> Reporter<'a, S, W> {
     #[inline(never)]
     fn tell_status<D: Disk>(&mut self, server: &Server<D>, alloc: Global, events: &[LookEvent]) {
         self.size = measure(self.size, server, alloc);
-        let figures = figures_of(self.disk, server, turn_of(self.size), self.last_change);
         let Some(status) = &mut self.status else {
             return;
         };
+        let now = seconds_or(status.now(), 0);
+        let turn = turn_of(self.size);
+        let figures = figures_of(self.disk, server, turn, self.last_change, now);
         let counters = &self.log.counters;
         let written = hand(status, &mut self.text, alloc, &figures, counters, events);
         let was = self.is_unwritten;

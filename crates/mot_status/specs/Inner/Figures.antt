@@ -13,7 +13,7 @@ bytes_of objects = sum_by (λ (o : Object). o.length) objects
 
 -- The figures of what a server keeps: its objects are those of the carousel, free is what the data
 -- area has beside their bodies, and the gap is the longest body that has room.
-pub record AreFigures (path : List ℕ) (view : RepositoryView) (size : TurnSize) (seconds : ℕ)
+pub record AreFigures (path : List ℕ) (view : RepositoryView) (size : TurnSize) (changed now : ℕ)
     (f : Figures) : Type 0 where
   pub disk : f.disk.now ≡ path
   pub version : f.version.now ≡ VERSION.now
@@ -26,4 +26,5 @@ pub record AreFigures (path : List ℕ) (view : RepositoryView) (size : TurnSize
   pub gap : IsLongestGap view.extents view.journal.geometry.area f.gap
   pub objects_limit : f.objects_limit ≡ view.journal.geometry.objects
   pub data_bytes : f.data_bytes ≡ view.journal.geometry.area
-  pub last_change : f.last_change ≡ seconds
+  pub last_change : f.last_change ≡ changed
+  pub written : f.written ≡ now
