@@ -60,6 +60,7 @@ PROMISES = [
     ("The program", [
         ("mot_cli", "task_of", ""), ("mot_commands", "format_file", ""), ("mot_commands", "work_on_file", ""),
         ("mot_commands", "serve_memory", ""), ("mot_commands", "put", ""), ("mot_commands", "withdraw_file", ""),
+        ("mot_commands", "tell_health", ""),
         ("mot_copy_command", "copy_file", ""),
     ]),
     ("On the air", [

@@ -16,6 +16,7 @@ use Rattle.mot_cli.specs.declared.task.DiskTask.{DiskTask}
 use Rattle.mot_cli.specs.declared.task.DiskTask.TheVariants.{Serve, Check, Migrate, ListObjects}
 use Rattle.mot_cli.specs.declared.task.DiskTask.TheVariants.{GetBody, Export, Inspect}
 use Rattle.mot_cli.specs.declared.task.Task.TheVariants.{Memory, Format, Copy, Play, Sync}
+use Rattle.mot_cli.specs.declared.task.Task.TheVariants.{Health}
 use Rattle.mot_cli.specs.declared.task.Task.TheVariants.{PutFiles, WithdrawNames, OnDisk}
 
 -- nothing was found where nothing has P
@@ -84,6 +85,8 @@ module _ (rows : List Row) (none : (g : Geometry) → GiveGeometry rows g → �
       clash 0 109 112 (codes "memory") (codes "play") refl refl (omega arith) (sym is ∙ t.0)
   memory_needs_geometry name is (Sync sync) t =
       clash 0 109 115 (codes "memory") (codes "sync") refl refl (omega arith) (sym is ∙ t.0)
+  memory_needs_geometry name is (Health h) t =
+      clash 0 109 104 (codes "memory") (codes "health") refl refl (omega arith) (sym is ∙ t.0)
   memory_needs_geometry name is (PutFiles disk files types) t =
       clash 0 109 112 (codes "memory") (codes "put") refl refl (omega arith) (sym is ∙ t.0)
   memory_needs_geometry name is (WithdrawNames disk names) t =
@@ -105,6 +108,8 @@ module _ (rows : List Row)
       clash 0 102 112 (codes "format") (codes "play") refl refl (omega arith) (sym is ∙ t.0)
   format_needs_both name is (Sync sync) t =
       clash 0 102 115 (codes "format") (codes "sync") refl refl (omega arith) (sym is ∙ t.0)
+  format_needs_both name is (Health h) t =
+      clash 0 102 104 (codes "format") (codes "health") refl refl (omega arith) (sym is ∙ t.0)
   format_needs_both name is (PutFiles disk files types) t =
       clash 0 102 112 (codes "format") (codes "put") refl refl (omega arith) (sym is ∙ t.0)
   format_needs_both name is (WithdrawNames disk names) t =
@@ -124,6 +129,8 @@ module _ (rows : List Row) (none : (after : Option ℕ) → GiveLastId rows afte
       clash 0 99 112 (codes "copy") (codes "play") refl refl (omega arith) t.0
   copy_needs_id (Sync sync) t =
       clash 0 99 115 (codes "copy") (codes "sync") refl refl (omega arith) t.0
+  copy_needs_id (Health h) t =
+      clash 0 99 104 (codes "copy") (codes "health") refl refl (omega arith) t.0
   copy_needs_id (PutFiles disk files types) t =
       clash 0 99 112 (codes "copy") (codes "put") refl refl (omega arith) t.0
   copy_needs_id (WithdrawNames disk names) t =
@@ -142,6 +149,8 @@ module _ (rows : List Row) (none : (p : PlayTask) → IsTask (codes "play") rows
       clash 0 112 99 (codes "play") (codes "copy") refl refl (omega arith) t.0
   play_needs (Sync sync) t =
       clash 0 112 115 (codes "play") (codes "sync") refl refl (omega arith) t.0
+  play_needs (Health h) t =
+      clash 0 112 104 (codes "play") (codes "health") refl refl (omega arith) t.0
   play_needs (PutFiles disk files types) t =
       clash 1 108 117 (codes "play") (codes "put") refl refl (omega arith) t.0
   play_needs (WithdrawNames disk names) t =

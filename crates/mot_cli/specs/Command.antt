@@ -42,6 +42,10 @@ abbrev pub sync_app : App
 sync_app = with_rule (with_looks (with_rule (disk_app (codes "sync")) (word_rule (codes "DIR"))))
     (flag_rule (codes "dry-run"))
 
+abbrev pub health_app : App
+health_app = with_rule (with_rule (new_app (codes "health")) (word_rule (codes "STATUS")))
+    (number_rule (codes "max-age"))
+
 -- single objects: their files, their names, and the name of one
 abbrev pub put_app : App
 put_app = with_rule (with_rule (disk_app (codes "put")) (words_rule (codes "FILE")))
@@ -61,11 +65,12 @@ abbrev pub motcar_app : App
 motcar_app =
     with_subcommand (with_subcommand (with_subcommand (with_subcommand (with_subcommand
     (with_subcommand (with_subcommand (with_subcommand (with_subcommand (with_subcommand
-    (with_subcommand (with_subcommand (with_subcommand (with_subcommand
+    (with_subcommand (with_subcommand (with_subcommand (with_subcommand (with_subcommand
     (record { top = motcar_top; subs = [] })
     format_app.top)
     play_app.top)
     sync_app.top)
+    health_app.top)
     (disk_app (codes "list")).top)
     put_app.top)
     withdraw_app.top)

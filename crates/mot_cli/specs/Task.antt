@@ -16,6 +16,7 @@ use Rattle.mot_cli.specs.declared.task.NoTask.{NoTask}
 use Rattle.mot_cli.specs.declared.task.NoTask.TheVariants.{Lacks, OutOfRange}
 use Rattle.mot_cli.specs.declared.task.Task.{Task}
 use Rattle.mot_cli.specs.declared.task.Task.TheVariants.{Memory, Format, Copy, Play, Sync}
+use Rattle.mot_cli.specs.declared.task.Task.TheVariants.{Health}
 use Rattle.mot_cli.specs.declared.task.Task.TheVariants.{PutFiles, WithdrawNames, OnDisk}
 use Rattle.mot_numbers.specs.declared.refusal.Refusal.{Refusal}
 use Rattle.mot_numbers.specs.declared.refusal.Refusal.TheVariants.{BadGeometry, BadNumber}
@@ -40,6 +41,15 @@ is_rate (Some rate) = nat_le 8 rate && nat_le rate 1824 && rate % 8 == 0
 -- the words give this rate, or none
 abbrev pub GiveRate : List Row → Option ℕ → Type 0
 GiveRate rows rate = IsGiven (first_of (codes "rate") rows) rate × (is_rate rate ≡ true)
+
+-- a status may be so many seconds old, if a number is given: a day at most
+abbrev pub is_age : Option ℕ → Bool
+is_age None = true
+is_age (Some age) = nat_le 1 age && nat_le age 86400
+
+-- the words give this age, or none
+abbrev pub GiveAge : List Row → Option ℕ → Type 0
+GiveAge rows age = IsGiven (first_of (codes "max-age") rows) age × (is_age age ≡ true)
 
 -- a command of this name, with these words behind it, asks for this to be done with a disk
 abbrev pub IsWork : Text → List Row → DiskTask → Type 0
@@ -77,6 +87,8 @@ IsTask name rows (Sync sync) =
     (name ≡ codes "sync") × NameWord rows (codes "DISK") sync.disk.now
     × NameWord rows (codes "DIR") sync.folder.now × NameOption rows (codes "types") sync.types
     × AreRules rows sync.rules × (sync.dry_run ≡ is_set rows (codes "dry-run"))
+IsTask name rows (Health h) =
+    (name ≡ codes "health") × NameWord rows (codes "STATUS") h.status.now × GiveAge rows h.max_age
 IsTask name rows (PutFiles disk files types) =
     (name ≡ codes "put") × NameWord rows (codes "DISK") disk.now
     × NameWords rows (codes "FILE") files.now × NameOption rows (codes "types") types

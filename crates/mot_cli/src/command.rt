@@ -52,6 +52,11 @@ const VERBS: &[Verb] = &[
         arguments: &[DISK, DIR, TYPES, ALLOW_EMPTY, AT_ONCE, DRY_RUN],
     },
     Verb {
+        name: "health",
+        about: "Say whether a disk on air sends packets, by when its status was written",
+        arguments: &[WRITTEN, MAX_AGE],
+    },
+    Verb {
         name: "list",
         about: "Print the objects of a disk",
         arguments: &[DISK],
@@ -285,6 +290,19 @@ const LEVELS: Argument = Argument {
     name: "levels",
     kind: Kind::Flag,
     help: "Put <4> before log lines that tell of a refusal, and <6> before others, for systemd",
+};
+
+/// The status that `health` looks at.
+const WRITTEN: Argument = Argument {
+    name: "STATUS",
+    kind: Kind::Word,
+    help: "The file that play --status writes",
+};
+
+const MAX_AGE: Argument = Argument {
+    name: "max-age",
+    kind: Kind::Number,
+    help: "How many seconds ago it was written at most, 1 to 86400 [default: 120]",
 };
 
 /// The folder of `sync`.

@@ -9,6 +9,7 @@ ghost use Rattle.mot_cli.specs.Inner.Found.{Finds};
 use crate::by_hand::{put_of, withdraw_of};
 use crate::copying::{CopyTask, copy_of};
 use crate::given::word_of;
+use crate::health::{HealthTask, health_of};
 use crate::options::{directory_of, geometry_of};
 use crate::playing::{PlayTask, SyncTask, play_of, rate_of, sync_of};
 use crate::whole::{is_whole, missing_option};
@@ -35,6 +36,8 @@ pub enum Task<'m, 'a> {
     Play(PlayTask<'a>),
     /// Make the carousel of a disk equal to a folder, or print what that would do.
     Sync(SyncTask<'a>),
+    /// Tell whether a disk on air is well.
+    Health(HealthTask<'a>),
     /// Put files, or replace the objects of their names.
     PutFiles {
         /// The path of the disk's file.
@@ -122,13 +125,14 @@ fn asked_of<'m, 'a>(name: &str, words: &'m ArgMatches<'a>) -> Option<Task<'m, 'a
 {
     match name {
         "memory" => Some(Task::Memory(geometry_of(words)?)),
+        "health" => health_of(words),
         _ => disk_task(name, word_of(words, "DISK")?, words),
     }
 }
 
 /// The task of a command on this disk.
 fn disk_task<'m, 'a>(name: &str, disk: &'a str, words: &'m ArgMatches<'a>) -> Option<Task<'m, 'a>>
-    ensures { name.now ≢ codes "memory"
+    ensures { name.now ≢ codes "memory" → name.now ≢ codes "health"
         → NameWord (rows_of (found_of words.now)) (codes "DISK") disk.now
         → Finds (IsTask name.now (rows_of (found_of words.now))) result }
 {

@@ -4,6 +4,7 @@ use Rattle.std.specs.Prelude.{ℕ, ◌≡◌, ◌++◌, ◌∷◌, [], Bool, tru
 use Rattle.std.specs.Prelude.{◌⊎◌, Err, IsErrAnd, IsSomeAnd, Ok, Result, false, option_map}
 use Rattle.std.specs.Fmt.{decimal}
 use Rattle.std.specs.Io.KnownBytes.{Appends, Keeps}
+use Rattle.std.specs.Result.{result_unwrap_or}
 use Rattle.clap.specs.Words.{Row, Text}
 use Rattle.disk_store.specs.declared.file.start.Start.{Ghosts}
 use Rattle.disk_store.specs.declared.file.FileDiskFrom.{FileDiskFrom}
@@ -118,6 +119,10 @@ pub data UsesFiles {S F : Type 0} {start : Ghosts S F} {T : Type 0}
 abbrev pub status_of : (all : Bool) → Option Refusal → ℕ
 status_of true None = 0
 status_of all refusal = 1
+
+-- that of a run whose task came to this
+abbrev pub status_in : Result Bool Refusal → ℕ
+status_in result = status_of (result_unwrap_or result false) (fault_of result)
 
 -- What a run came to. Which words ask for which task IsTask says, and which are wrong IsWrong. The
 -- refusal of a number that no task takes is bad, those before a task is begun are Early, and how a

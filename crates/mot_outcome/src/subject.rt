@@ -46,7 +46,7 @@ pub enum Subject<'a> {
 /// they are told.
 type Range = (&'static str, u32, u32, u32, &'static str);
 
-const RANGES: [Range; 7] = [
+const RANGES: [Range; 8] = [
     ("objects", 1, 250, 1, "1 to 250"),
     ("data", 1, 268_435_456, 1, "1 to 268435456"),
     ("segment", 64, 8_189, 1, "64 to 8189"),
@@ -54,6 +54,7 @@ const RANGES: [Range; 7] = [
     ("packet", 24, 96, 24, "24, 48, 72 or 96"),
     ("after", 0, 65_535, 1, "0 to 65535"),
     ("rate", 8, 1_824, 8, "a multiple of 8, 8 to 1824"),
+    ("max-age", 1, 86_400, 1, "1 to 86400"),
 ];
 
 /// What this refusal of a command with these words is about. Of a disk the reason is told by the path

@@ -12,6 +12,7 @@ use Rattle.mot_cli.specs.declared.task.DiskTask.TheVariants.{Serve, Check, Migra
 use Rattle.mot_cli.specs.declared.task.DiskTask.TheVariants.{GetBody, Export, Inspect}
 use Rattle.mot_cli.specs.declared.task.Task.{Task}
 use Rattle.mot_cli.specs.declared.task.Task.TheVariants.{Memory, Format, Copy, Play, Sync}
+use Rattle.mot_cli.specs.declared.task.Task.TheVariants.{Health}
 use Rattle.mot_cli.specs.declared.task.Task.TheVariants.{PutFiles, WithdrawNames, OnDisk}
 use Rattle.mot_numbers.specs.declared.refusal.Refusal.{Refusal}
 use Rattle.mot_numbers.specs.declared.refusal.Refusal.TheVariants.{BadNumber, OutOfMemory}
@@ -73,6 +74,7 @@ lacks_none name rows (Memory g) is play lack = not_play name (codes "memory") re
 lacks_none name rows (Format p g d) is play lack = not_play name (codes "format") refl is.0 play
 lacks_none name rows (Copy c) is play lack = not_play name (codes "copy") refl is.0 play
 lacks_none name rows (Sync sync) is play lack = not_play name (codes "sync") refl is.0 play
+lacks_none name rows (Health h) is play lack = not_play name (codes "health") refl is.0 play
 lacks_none name rows (PutFiles d f t) is play lack = not_play name (codes "put") refl is.0 play
 lacks_none name rows (WithdrawNames d n) is play lack = not_play name (codes "withdraw") refl is.0 play
 lacks_none name rows (OnDisk d work) is play lack = works_not_play name rows work is.0 play

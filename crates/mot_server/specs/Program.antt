@@ -10,16 +10,19 @@ use Rattle.mot_cli.specs.Command.{motcar_app}
 use Rattle.mot_cli.specs.Task.{AskForNothing, IsTask, LackOption, bad_number}
 use Rattle.mot_cli.specs.declared.task.Task.{Task}
 use Rattle.mot_cli.specs.declared.task.Task.TheVariants.{Memory, Format, Copy, Play, Sync}
+use Rattle.mot_cli.specs.declared.task.Task.TheVariants.{Health}
 use Rattle.mot_cli.specs.declared.task.Task.TheVariants.{PutFiles, WithdrawNames, OnDisk}
 use Rattle.mot_commands.specs.Commands.{DoesOnFile, FormatsFile, FormatsFree, IsUnformatted}
 use Rattle.mot_commands.specs.Commands.{IsUnmade, ServesMemory}
 use Rattle.mot_commands.specs.Changing.{PutReads, PutsFiles, WithdrawsFile, texts}
+use Rattle.mot_commands.specs.Health.{AsksHealth, TellsHealth}
 use Rattle.mot_copy_command.specs.Command.{CopiesFile, OpensTwo}
 use Rattle.mot_endpoints.specs.Opened.{Need, if_given}
 use Rattle.mot_endpoints.specs.Types.{IsUntyped}
 use Rattle.mot_files.specs.Call.{Call}
 use Rattle.mot_numbers.specs.declared.refusal.Refusal.{Refusal}
 use Rattle.mot_numbers.specs.declared.refusal.Refusal.TheVariants.{BadNumber, DeviceFault}
+use Rattle.mot_numbers.specs.declared.refusal.Refusal.TheVariants.{OutOfMemory}
 use Rattle.mot_outcome.specs.Outcome.{ComesTo, Opens, OpensAnd, UsesFiles}
 use Rattle.mot_outcome.specs.declared.exit.Exit.{Exit}
 use Rattle.mot_outcome.specs.declared.used.UsedDisk.{UsedDisk}
@@ -35,6 +38,7 @@ IsBeginningRefusal (Memory g) r = IsUnmade g r
 IsBeginningRefusal (Format path g directory) r = IsUnformatted g r
 IsBeginningRefusal (Play p) r = IsUnplayed p r
 IsBeginningRefusal (Sync sync) r = IsUnsynced sync.types r
+IsBeginningRefusal (Health h) r = r ≡ OutOfMemory
 IsBeginningRefusal (PutFiles path files types) r = IsUntyped types r ⊎ (r ≡ DeviceFault)
 IsBeginningRefusal task r = r ≡ DeviceFault
 
@@ -58,6 +62,8 @@ module _ {S F : Type 0} {start : Ghosts S F} where
       Keeps unread left × PlaysTask p all ending used old new
   Ends (Sync sync) all ending used unread left old new =
       Keeps unread left × SyncsTask sync all ending used old new
+  Ends (Health h) all ending used unread left old new =
+      Keeps unread left × TellsHealth ending used old new
   Ends (PutFiles path files types) all ending used unread left old new =
       Keeps unread left × ((before after : List Call)
       × PutsFiles types (texts files.now) all ending used old new before after)
@@ -66,21 +72,24 @@ module _ {S F : Type 0} {start : Ghosts S F} where
   Ends (OnDisk disk work) all ending used unread left old new =
       IsWhole all ending × DoesOnFile work ending used unread left old new
 
-  -- which calls of its host a task made that ended so
-  abbrev pub UsesFor : (ending : Option Refusal) → Task → UsedDisk S F start
+  -- which calls of its host a task made that ended so, with this exit status
+  abbrev pub UsesFor : (status : ℕ) → (ending : Option Refusal) → Task → UsedDisk S F start
       → (old new : List Call) → Type 0
-  UsesFor ending (Memory g) used old new = new ≡ old
-  UsesFor ending (Format path g directory) used old new = FormatsFree ending path.now used old new
-  UsesFor ending (Copy copy) used old new =
+  UsesFor status ending (Memory g) used old new = new ≡ old
+  UsesFor status ending (Format path g directory) used old new =
+      FormatsFree ending path.now used old new
+  UsesFor status ending (Copy copy) used old new =
       OpensTwo ending copy.disk.now copy.new.now used old new
-  UsesFor ending (Play p) used old new = Opens (needs_of p) p.disk.now ending used old new
-  UsesFor ending (Sync sync) used old new =
+  UsesFor status ending (Play p) used old new = Opens (needs_of p) p.disk.now ending used old new
+  UsesFor status ending (Sync sync) used old new =
       Opens (synced_with sync) sync.disk.now ending used old new
-  UsesFor ending (PutFiles path files types) used old new =
+  UsesFor status ending (Health h) used old new = AsksHealth h status ending old new
+  UsesFor status ending (PutFiles path files types) used old new =
       OpensAnd (if_given Need.types types) path.now (PutReads types (texts files.now) used) ending
       used old new
-  UsesFor ending (WithdrawNames path names) used old new = Opens [] path.now ending used old new
-  UsesFor ending (OnDisk disk work) used old new = Opens [] disk.now ending used old new
+  UsesFor status ending (WithdrawNames path names) used old new =
+      Opens [] path.now ending used old new
+  UsesFor status ending (OnDisk disk work) used old new = Opens [] disk.now ending used old new
 
   -- What a run of these words came to, whatever they ask for: the task was done, or ended by a
   -- refusal, or not begun; or they ask for help, or for nothing.
@@ -91,7 +100,7 @@ module _ {S F : Type 0} {start : Ghosts S F} where
 
   -- which calls of its host it made: none, or just those of the task that the words ask for
   abbrev pub Uses : List Text → Exit S F start → (old new : List Call) → Type 0
-  Uses words exit old new = UsesFiles IsTask (UsesFor exit.refusal) words exit old new
+  Uses words exit old new = UsesFiles IsTask (UsesFor exit.status exit.refusal) words exit old new
 
 -- A run of these words ended with this status. Its exit is not handed out, nor what it came to:
 -- there are some by which it did what it has to do, with no calls before.

@@ -1,5 +1,6 @@
 //! Each command, by its task.
 ghost use Rattle.std.specs.Prelude.{◌≡◌};
+ghost use Rattle.mot_outcome.specs.Outcome.{status_in};
 ghost use Rattle.mot_playout.specs.Attempts.{fault_of};
 ghost use Rattle.mot_server.specs.Inner.Coming.{ComesOut, whole_result};
 ghost use Rattle.mot_server.specs.Program.{UsesFor};
@@ -7,7 +8,7 @@ ghost use Rattle.mot_server.specs.Program.{UsesFor};
 use disk_store::Start;
 use mot_air::play;
 use mot_cli::Task;
-use mot_commands::{format_file, put, serve_memory, withdraw_file, work_on_file};
+use mot_commands::{format_file, put, serve_memory, tell_health, withdraw_file, work_on_file};
 use mot_copy_command::copy_file;
 use mot_endpoints::{Host, Machine};
 use mot_outcome::Finished;
@@ -28,7 +29,7 @@ pub(crate) fn execute<'a, B: Start, R: Read, W: Write, E: Write, M: Machine<File
     ensures ended { ComesOut task.now result.result result.disk
         (R.remaining reader.old) (R.remaining reader.new)
         (W.contents writer.old) (W.contents writer.new) }
-    ensures files { UsesFor (fault_of result.result) task.now result.disk
+    ensures files { UsesFor (status_in result.result) (fault_of result.result) task.now result.disk
         (M.System.calls host.old.system) (M.System.calls host.new.system) }
 {
     match task {
@@ -41,6 +42,7 @@ pub(crate) fn execute<'a, B: Start, R: Read, W: Write, E: Write, M: Machine<File
         Task::Copy(copied) => whole(copy_file(host, alloc, copied, start, writer)),
         Task::Play(played) => play(host, alloc, *played, start, writer, errors),
         Task::Sync(synced) => sync(host, alloc, synced, start, writer),
+        Task::Health(asked) => tell_health(host, alloc, asked, start, writer),
         Task::PutFiles { disk, files, types } => put(
             host, alloc, disk, files, *types, start, writer, errors,
         ),

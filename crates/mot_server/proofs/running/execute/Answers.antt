@@ -5,16 +5,18 @@ use Rattle.mot_air.specs.Commands.{IsUnplayed, PlaysTask}
 use Rattle.mot_sync_command.specs.Commands.{IsUnsynced, SyncsTask}
 use Rattle.mot_cli.specs.declared.task.Task.{Task}
 use Rattle.mot_cli.specs.declared.task.Task.TheVariants.{Memory, Format, Copy, Play, Sync}
+use Rattle.mot_cli.specs.declared.task.Task.TheVariants.{Health}
 use Rattle.mot_cli.specs.declared.task.Task.TheVariants.{PutFiles, WithdrawNames, OnDisk}
 use Rattle.mot_commands.specs.Commands.{DoesOnFile, FormatsFile, FormatsFree, IsUnformatted}
 use Rattle.mot_commands.specs.Commands.{IsUnmade, ServesMemory}
 use Rattle.mot_commands.specs.Changing.{PutsFiles, WithdrawsFile, texts}
+use Rattle.mot_commands.specs.Health.{TellsHealth}
 use Rattle.mot_copy_command.specs.Command.{CopiesFile, OpensTwo}
 use Rattle.mot_endpoints.specs.Types.{IsUntyped}
 use Rattle.mot_files.specs.Call.{Call}
 use Rattle.mot_numbers.specs.declared.refusal.Refusal.{Refusal}
-use Rattle.mot_numbers.specs.declared.refusal.Refusal.TheVariants.{DeviceFault}
-use Rattle.mot_outcome.specs.Outcome.{Opens}
+use Rattle.mot_numbers.specs.declared.refusal.Refusal.TheVariants.{DeviceFault, OutOfMemory}
+use Rattle.mot_outcome.specs.Outcome.{Opens, status_in}
 use Rattle.mot_playout.specs.Attempts.{fault_of}
 use Rattle.mot_server.specs.Inner.Coming.{ComesOut}
 use Rattle.mot_server.specs.Program.{UsesFor}
@@ -99,7 +101,7 @@ returns-in-OnDisk-clause-files g c =
     let old = g.M.System.System.calls c.args.host.now.system in
     let new = g.M.System.System.calls c.work_on_file.new.host.system in
     let done = c.whole-in-OnDisk.result in
-    subst (λ (t : Task). UsesFor (fault_of done.result) t done.disk old new) (sym c.in-OnDisk.is)
+    subst (λ (t : Task). UsesFor (status_in done.result) (fault_of done.result) t done.disk old new) (sym c.in-OnDisk.is)
     (subst (λ (w : _). Opens [] c.in-OnDisk.disk.now (fault_of w.result) w.disk old new)
     (sym c.whole-in-OnDisk.ensures)
     (opens_whole c.work_on_file.result.result c.in-OnDisk.disk.now c.work_on_file.result.disk old new c.work_on_file.ensures.files))
@@ -107,7 +109,7 @@ returns-in-OnDisk-clause-files g c =
 pub returns-in-Memory-clause-files : goal.returns-in-Memory-clause-files
 returns-in-Memory-clause-files g c =
     let old = g.M.System.System.calls c.args.host.now.system in
-    subst (λ (t : Task). UsesFor (fault_of c.whole.result.result) t c.whole.result.disk old old)
+    subst (λ (t : Task). UsesFor (status_in c.whole.result.result) (fault_of c.whole.result.result) t c.whole.result.disk old old)
     (sym c.in-Memory.is) refl
 
 pub returns-in-Format-clause-files : goal.returns-in-Format-clause-files
@@ -115,7 +117,7 @@ returns-in-Format-clause-files g c =
     let old = g.M.System.System.calls c.args.host.now.system in
     let new = g.M.System.System.calls c.format_file.new.host.system in
     let done = c.whole-in-Format.result in
-    subst (λ (t : Task). UsesFor (fault_of done.result) t done.disk old new) (sym c.in-Format.is)
+    subst (λ (t : Task). UsesFor (status_in done.result) (fault_of done.result) t done.disk old new) (sym c.in-Format.is)
     (subst (λ (w : _). FormatsFree (fault_of w.result) c.in-Format.path.now w.disk old new)
     (sym c.whole-in-Format.ensures)
     (subst (λ (e : Option Refusal). FormatsFree e c.in-Format.path.now c.format_file.result.disk old
@@ -123,12 +125,12 @@ returns-in-Format-clause-files g c =
 
 pub returns-in-Play-clause-files : goal.returns-in-Play-clause-files
 returns-in-Play-clause-files g c =
-    subst (λ (t : Task). UsesFor (fault_of c.play.result.result) t c.play.result.disk
+    subst (λ (t : Task). UsesFor (status_in c.play.result.result) (fault_of c.play.result.result) t c.play.result.disk
     (g.M.System.System.calls c.args.host.now.system) (g.M.System.System.calls c.play.new.host.system)) (sym c.in-Play.is) c.play.ensures.opens
 
 pub returns-in-Sync-clause-files : goal.returns-in-Sync-clause-files
 returns-in-Sync-clause-files g c =
-    subst (λ (t : Task). UsesFor (fault_of c.sync.result.result) t c.sync.result.disk
+    subst (λ (t : Task). UsesFor (status_in c.sync.result.result) (fault_of c.sync.result.result) t c.sync.result.disk
     (g.M.System.System.calls c.args.host.now.system) (g.M.System.System.calls c.sync.new.host.system)) (sym c.in-Sync.is) c.sync.ensures.opens
 
 pub returns-in-WithdrawNames-clause-ended : goal.returns-in-WithdrawNames-clause-ended
@@ -165,12 +167,12 @@ returns-in-PutFiles-clause-ended g c =
 
 pub returns-in-PutFiles-clause-files : goal.returns-in-PutFiles-clause-files
 returns-in-PutFiles-clause-files g c =
-    subst (λ (t : Task). UsesFor (fault_of c.put.result.result) t c.put.result.disk
+    subst (λ (t : Task). UsesFor (status_in c.put.result.result) (fault_of c.put.result.result) t c.put.result.disk
     (g.M.System.System.calls c.args.host.now.system) (g.M.System.System.calls c.put.new.host.system)) (sym c.in-PutFiles.is) c.put.ensures.files
 
 pub returns-in-WithdrawNames-clause-files : goal.returns-in-WithdrawNames-clause-files
 returns-in-WithdrawNames-clause-files g c =
-    subst (λ (t : Task). UsesFor (fault_of c.withdraw_file.result.result) t
+    subst (λ (t : Task). UsesFor (status_in c.withdraw_file.result.result) (fault_of c.withdraw_file.result.result) t
     c.withdraw_file.result.disk (g.M.System.System.calls c.args.host.now.system) (g.M.System.System.calls c.withdraw_file.new.host.system))
     (sym c.in-WithdrawNames.is) c.withdraw_file.ensures.files
 
@@ -196,8 +198,28 @@ returns-in-Copy-clause-files g c =
     let new = g.M.System.System.calls c.copy_file.new.host.system in
     let done = c.whole-in-Copy.result in
     let copied = c.in-Copy.copied in
-    subst (λ (t : Task). UsesFor (fault_of done.result) t done.disk old new) (sym c.in-Copy.is)
+    subst (λ (t : Task). UsesFor (status_in done.result) (fault_of done.result) t done.disk old new) (sym c.in-Copy.is)
     (subst (λ (w : _). OpensTwo (fault_of w.result) copied.disk.now copied.new.now w.disk old new)
     (sym c.whole-in-Copy.ensures)
     (subst (λ (e : Option Refusal). OpensTwo e copied.disk.now copied.new.now c.copy_file.result.disk
     old new) (sym (fault_whole c.copy_file.result.result)) c.copy_file.ensures.files))
+
+pub returns-in-Health-clause-ended : goal.returns-in-Health-clause-ended
+returns-in-Health-clause-ended g c =
+    let unread = g.R.Read.remaining c.args.reader.now in
+    let old = g.W.Write.contents c.args.writer.now in
+    let new = g.W.Write.contents c.tell_health.new.writer in
+    let task : Task = Health c.in-Health.asked in
+    let result = c.tell_health.result.result in
+    let used = c.tell_health.result.disk in
+    subst (λ (t : Task). ComesOut t result used unread unread old new) (sym c.in-Health.is)
+    (comes_so task unread unread old new (λ r. r ≡ OutOfMemory)
+    (λ all ending. TellsHealth ending used old new) result used (λ r early. (early, Keeps-refl _))
+    (λ all ending is. (Keeps-refl _, is)) c.tell_health.ensures.ended)
+
+pub returns-in-Health-clause-files : goal.returns-in-Health-clause-files
+returns-in-Health-clause-files g c =
+    let result = c.tell_health.result.result in
+    subst (λ (t : Task). UsesFor (status_in result) (fault_of result) t c.tell_health.result.disk
+    (g.M.System.System.calls c.args.host.now.system) (g.M.System.System.calls c.tell_health.new.host.system))
+    (sym c.in-Health.is) c.tell_health.ensures.asked

@@ -1,0 +1,46 @@
+//! What the command is asked for that tells whether a disk on air is well.
+ghost use Rattle.std.specs.Prelude.{◌≡◌, codes};
+ghost use Rattle.clap.specs.Words.{found_of, rows_of};
+ghost use Rattle.mot_cli.specs.Task.{GiveAge, IsTask, is_age};
+ghost use Rattle.mot_cli.specs.Inner.Found.{Finds};
+
+use crate::given::{number_of, word_of};
+use crate::task::Task;
+use clap::ArgMatches;
+
+/// The status of a disk on air.
+#[derive(Clone, Copy)]
+pub struct HealthTask<'a> {
+    /// The path of its file.
+    pub status: &'a str,
+    /// How many seconds ago it was written at most; 120, if no number is given.
+    pub max_age: Option<u32>,
+}
+
+/// The task of the command `health`.
+pub(crate) fn health_of<'m, 'a>(words: &'m ArgMatches<'a>) -> Option<Task<'m, 'a>>
+    ensures { Finds (IsTask (codes "health") (rows_of (found_of words.now))) result }
+{
+    Some(Task::Health(HealthTask {
+        status: word_of(words, "STATUS")?,
+        max_age: age_of(words)?,
+    }))
+}
+
+/// The age that is given, if one is; `None` if it is out of its range.
+fn age_of(words: &ArgMatches<'_>) -> Option<Option<u32>>
+    ensures { Finds (GiveAge (rows_of (found_of words.now))) result }
+{
+    let age = number_of(words, "max-age")?;
+    if is_age(age) { Some(age) } else { None }
+}
+
+/// Whether a status may be so many seconds old, if a number is given: 1 to 86,400.
+fn is_age(age: Option<u32>) -> bool
+    ensures { result ≡ is_age age }
+{
+    match age {
+        Some(age) => age >= 1 && age <= 86_400,
+        None => true,
+    }
+}

@@ -1,0 +1,39 @@
+-- Whether a disk on air sends packets, by when its status was written last.
+use Rattle.std.specs.Prelude.{◌≡◌, ◌&&◌, ◌-◌, ◌/◌, ◌++◌, ◌∷◌, [], ℕ, Bool, false, List}
+use Rattle.std.specs.Prelude.{Ok, Option, Result, Some, nat_le, unwrap_or}
+use Rattle.disk_store.specs.declared.file.start.Start.{Ghosts}
+use Rattle.mot_cli.specs.declared.health.HealthTask.{HealthTask}
+use Rattle.mot_commands.specs.declared.health.TheConstants.{MAX_AGE}
+use Rattle.mot_files.specs.Call.{Call, followed, told_time}
+use Rattle.mot_files.specs.Listing.{is_file_kind}
+use Rattle.mot_files.specs.declared.system.Fault.{Fault}
+use Rattle.mot_files.specs.declared.system.Seen.{Seen}
+use Rattle.mot_files.specs.declared.system.Time.{Time}
+use Rattle.mot_numbers.specs.declared.refusal.Refusal.{Refusal}
+use Rattle.mot_outcome.specs.Outcome.{IsUntouched, Prints, status_of}
+use Rattle.mot_outcome.specs.declared.used.UsedDisk.{UsedDisk}
+
+-- how many whole seconds ago a moment was; none, if it is yet to come
+abbrev pub age_of : (written now : Time) → ℕ
+age_of written now = (now.nanos - written.nanos) / 1000000000
+
+-- the system said that a status is a regular file, which was written so many seconds ago at most
+abbrev pub is_well : (most : ℕ) → Result Seen Fault → (now : Option Time) → Bool
+is_well most (Ok seen) (Some now) =
+    is_file_kind seen.kind && nat_le (age_of seen.written now) most
+is_well most seen now = false
+
+-- The system was asked for the status and then for the time, and for nothing else. The exit status
+-- is 0 exactly if that is well, and it could be printed.
+pub record AsksHealth (h : HealthTask) (status : ℕ) (ending : Option Refusal)
+    (old new : List Call) : Type 0 where
+  pub seen : Result Seen Fault
+  pub now : Option Time
+  pub calls : new ≡ old ++ followed h.status.now seen ∷ told_time now ∷ []
+  pub well : status ≡ status_of (is_well (unwrap_or h.max_age MAX_AGE) seen now) ending
+
+-- a text was printed, or some first bytes of it; which, no clause says
+abbrev pub TellsHealth : {S F : Type 0} {start : Ghosts S F} → (ending : Option Refusal)
+    → UsedDisk S F start → (old new : Option (List ℕ)) → Type 0
+TellsHealth ending used old new =
+    IsUntouched used × ((text : List ℕ) × Prints ending text old new)
