@@ -10,12 +10,15 @@ import shutil
 import subprocess
 import sys
 import tempfile
+import time
 
 from tests import dab, program
 from tests.air import needs_strace, traced
 
 UNITS = ("motcar.service", "motcar@.service")
 PROGRAM = "/usr/local/bin/motcar"
+# The units that look at a status, each with the unit whose status it is.
+HEALTH = {"motcar-health.service": "motcar.service", "motcar-health@.service": "motcar@.service"}
 LENGTH_OF = "import fcntl, os; print(fcntl.fcntl(os.open('packets.pipe', os.O_RDWR), fcntl.F_GETPIPE_SZ))"
 KEPT = "<4>the pipe keeps its length until motcar and the multiplexer are both stopped\n"
 
@@ -81,13 +84,28 @@ class Units(program.Rows):
             ended = program.run([program.find(), *words, "--help"])
             self.expect(f"{name}: {shlex.join(words)}", (0, b""), (ended[0], ended[2]))
 
+    def test_health(self):
+        """A unit that looks at a status looks at the one that the other unit writes, and its timer runs beside that."""
+        for name, played in HEALTH.items():
+            command = program_of((program.top / "examples" / played).read_text())
+            status = command[command.index("--status") + 1]
+            text = (program.top / "examples" / name).read_text()
+            self.expect(f"{name}: the status", [PROGRAM, "health", status], program_of(text))
+            timer = (program.top / "examples" / name.replace(".service", ".timer")).read_text()
+            unit = played.replace("@", "@%i")
+            self.expect(f"{name}: its timer", ([unit], [unit], ["30"]),
+                        (values(timer, "PartOf"), values(timer, "WantedBy"), values(timer, "OnUnitInactiveSec")))
+            self.expect(f"{name}: no lines of systemd", (["oneshot"], ["notice"]),
+                        (values(text, "Type"), values(text, "LogLevelMax")))
+
     def test_verified(self):
         """`systemd-analyze verify`, with a program that is there."""
         if not shutil.which("systemd-analyze"):
             self.leave_out("systemd-analyze verify", "no systemd-analyze")
             return
         with tempfile.TemporaryDirectory() as room:
-            for name in UNITS:
+            # (a timer after its service, which systemd looks for)
+            for name in (*UNITS, *HEALTH, *(it.replace(".service", ".timer") for it in HEALTH)):
                 text = (program.top / "examples" / name).read_text()
                 text = re.sub(r"(?m)^Documentation=.*\n", "", text.replace(PROGRAM, "/bin/true"))
                 file = pathlib.Path(room, name.replace("@", "@north"))
@@ -142,6 +160,29 @@ class Filter(program.Case):
                 text = (program.top / "examples" / name).read_text()
                 self.expect(f"{name}, {faults}: calls that are refused", {"fchown"}, made - calls_allowed(text))
                 self.expect(f"{name}: they are, and kill not", ["EPERM"], values(text, "SystemCallErrorNumber"))
+
+
+class Lines(program.Case):
+    def test_one_line_for_each_change(self):
+        """What the command of a unit that looks at a status prints, time after time: a line if packets stand still, and a
+        line if they go on."""
+        status, flag = self.write("status", b""), self.room / "still"
+        for name in HEALTH:
+            words = values((program.top / "examples" / name).read_text(), "ExecStart")
+            words = [words[0], words[1], words[2].replace("$$", "$"), flag, self.program, "health", status]
+            old = f"<4>{status} was written N s ago: packets stand still; nobody reads them, the folder hangs, or motcar " \
+                "has ended\n"
+            gone = f"<4>{status}: No such file or directory\n"
+            for age, wanted in ((0, ""), (0, ""), (200, old), (300, ""), (None, ""), (0, "<5>packets go on\n"), (0, ""),
+                                (None, gone), (200, ""), (0, "<5>packets go on\n")):
+                status.unlink(missing_ok=True)
+                if age is not None:
+                    status.touch()
+                    os.utime(status, (time.time() - age,) * 2)
+                ended = program.run(words, cwd=self.room)
+                came = ended[0], re.sub(r"written \d+ s", "written N s", ended[1].decode()), ended[2]
+                self.expect(f"{name}: {age} s", (0, wanted, b""), came)
+            self.expect(f"{name}: no flag is left", False, flag.exists())
 
 
 class Pipe(program.Case):
