@@ -142,7 +142,7 @@ class Words(AirCase):
         disk = self.disk()
         before = disk.read_bytes()
         for words in (["play", disk], ["play", disk, "/dev/null", "--turns", "many"], ["sync", disk],
-                      ["play", disk, "-", "--allow-empty", "--turns", "1"],
+                      ["play", disk, "-", "--allow-empty", "--turns", "1"], ["play", disk, "-", "--keep-most", "--turns", "1"],
                       ["play", disk, "-", "--at-once", "--turns", "1"], ["play", disk, "-", "--directory", "often"],
                       ["play", disk, "/dev/null", "--turns", "1", "--every", "-1"],
                       ["play", disk, "-", "--folder", self.room, "--look", "often"]):

@@ -26,8 +26,8 @@ copy_app = with_rule (with_options (with_rule (disk_app (codes "copy")) (word_ru
 -- how a folder is looked at, behind what a command has
 abbrev pub with_looks : App → App
 with_looks a =
-    with_rule (with_rule (with_rule a (path_rule (codes "types")))
-    (flag_rule (codes "allow-empty"))) (flag_rule (codes "at-once"))
+    with_rule (with_rule (with_rule (with_rule a (path_rule (codes "types")))
+    (flag_rule (codes "allow-empty"))) (flag_rule (codes "keep-most"))) (flag_rule (codes "at-once"))
 
 abbrev pub play_app : App
 play_app =

@@ -26,10 +26,11 @@ abbrev pub NameOption : List Row → Text → Option (Bor Text) → Type 0
 NameOption rows name word =
     option_map (λ (word : Bor Text). word.now) word ≡ first_of name rows
 
--- how a folder is looked at is said by two flags
+-- how a folder is looked at is said by three flags
 abbrev pub AreRules : List Row → LookRules → Type 0
 AreRules rows rules =
     (rules.allow_empty ≡ is_set rows (codes "allow-empty"))
+    × (rules.keep_most ≡ is_set rows (codes "keep-most"))
     × (rules.at_once ≡ is_set rows (codes "at-once"))
 
 -- a sub-channel has this rate in kbit/s, if one is given (EN 300 401, clause 6.2.1: 864 capacity

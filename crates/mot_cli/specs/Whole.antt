@@ -18,4 +18,5 @@ is_whole rows =
     && goes_with rows (codes "types") (codes "folder")
     && goes_with rows (codes "look") (codes "folder")
     && flag_goes_with rows (codes "allow-empty") (codes "folder")
+    && flag_goes_with rows (codes "keep-most") (codes "folder")
     && flag_goes_with rows (codes "at-once") (codes "folder")

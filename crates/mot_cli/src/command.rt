@@ -34,6 +34,7 @@ const VERBS: &[Verb] = &[
             FOLDER,
             TYPES,
             ALLOW_EMPTY,
+            KEEP_MOST,
             AT_ONCE,
             LINES,
             EVERY,
@@ -49,7 +50,7 @@ const VERBS: &[Verb] = &[
     Verb {
         name: "sync",
         about: "Make the carousel of a disk equal to a folder",
-        arguments: &[DISK, DIR, TYPES, ALLOW_EMPTY, AT_ONCE, DRY_RUN],
+        arguments: &[DISK, DIR, TYPES, ALLOW_EMPTY, KEEP_MOST, AT_ONCE, DRY_RUN],
     },
     Verb {
         name: "health",
@@ -226,6 +227,13 @@ const ALLOW_EMPTY: Argument = Argument {
     name: "allow-empty",
     kind: Kind::Flag,
     help: "Withdraw all objects if the folder has none",
+};
+
+const KEEP_MOST: Argument = Argument {
+    name: "keep-most",
+    kind: Kind::Flag,
+    help: "Change nothing if more than half of the objects, and more than three, would go, unless \
+        --allow-empty is given",
 };
 
 const AT_ONCE: Argument = Argument {

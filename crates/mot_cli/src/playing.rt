@@ -16,6 +16,8 @@ use clap::ArgMatches;
 pub struct LookRules {
     /// Whether all objects are withdrawn if the folder has none.
     pub allow_empty: bool,
+    /// Whether most objects stay, unless all may go.
+    pub keep_most: bool,
     /// Whether files are taken that were changed less than two seconds ago.
     pub at_once: bool,
 }
@@ -149,6 +151,7 @@ fn rules_of(words: &ArgMatches<'_>) -> LookRules
 {
     LookRules {
         allow_empty: is_set(words, "allow-empty"),
+        keep_most: is_set(words, "keep-most"),
         at_once: is_set(words, "at-once"),
     }
 }

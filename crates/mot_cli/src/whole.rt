@@ -7,7 +7,7 @@ use crate::given::{is_set, option_of};
 use clap::ArgMatches;
 
 /// Whether each option is given with the other of which it says more: `--every` with `--lines`, and
-/// `--types`, `--look`, `--allow-empty` and `--at-once` with `--folder`.
+/// `--types`, `--look`, `--allow-empty`, `--keep-most` and `--at-once` with `--folder`.
 pub(crate) fn is_whole(words: &ArgMatches<'_>) -> bool
     ensures { result ≡ is_whole (rows_of (found_of words.now)) }
 {
@@ -15,6 +15,7 @@ pub(crate) fn is_whole(words: &ArgMatches<'_>) -> bool
         && goes_with(words, "types", "folder")
         && goes_with(words, "look", "folder")
         && flag_goes_with(words, "allow-empty", "folder")
+        && flag_goes_with(words, "keep-most", "folder")
         && flag_goes_with(words, "at-once", "folder")
 }
 
