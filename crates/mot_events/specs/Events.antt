@@ -27,7 +27,7 @@ skip_word skip.NotUtf8 = codes "not UTF-8"
 abbrev pub event_of : List ℕ → Met → LookEvent
 event_of name met = record { name = name; met = met }
 
--- the whole look went wrong: the folder was not listed, or has no object
+-- the whole look went wrong: the folder was not listed, has no object, or too few
 abbrev pub is_look : Deed → Bool
 is_look deed.Look = true
 is_look other = false
@@ -35,6 +35,7 @@ is_look other = false
 abbrev pub is_of_folder : Met → Bool
 is_of_folder (met.Refused deed refusal why) = is_look deed
 is_of_folder met.Kept = true
+is_of_folder (met.KeptMost going all) = true
 is_of_folder other = false
 
 -- the last look went by the folder's list

@@ -132,6 +132,8 @@ pub enum Met {
     Waiting(u64, u64),
     /// The listing has no object, and nothing was changed.
     Kept,
+    /// So many of so many objects would go, which are too many, and nothing was changed.
+    KeptMost(u64, u64),
     /// The folder is listed again.
     Listed,
     /// The bytes of an object are of another image type than its suffix says.

@@ -22,7 +22,7 @@ fn is_of_folder(met: &Met) -> bool
 {
     match met {
         Met::Refused(deed, _, _) => deed.is_look(),
-        Met::Kept => true,
+        Met::Kept | Met::KeptMost(_, _) => true,
         _ => false,
     }
 }

@@ -23,6 +23,7 @@ tally_of_met (met.Done deed done) = Change
 tally_of_met (met.Refused deed refusal why) = Refusal refusal
 tally_of_met (met.Going unknown all) = tally_of_going unknown
 tally_of_met met.Kept = Kept
+tally_of_met (met.KeptMost going all) = Kept
 tally_of_met (met.OtherImage other) = Doubt
 tally_of_met other = News
 
@@ -41,8 +42,8 @@ tally_of (event.StatusRefused path why) = Refusal WriteFault
 tally_of (event.Stopped refusal) = Stop refusal
 tally_of other = News
 
--- the end of the program is an error; a refusal is a warning, and that most objects go, that a
--- folder has none, or that an object's bytes are of another image type than its suffix says
+-- the end of the program is an error; a refusal is a warning, and that most objects go, or would
+-- go, or that an object's bytes are of another image type than its suffix says
 abbrev pub level_of : Tally → Level
 level_of (Stop refusal) = Error
 level_of (Refusal refusal) = Warning

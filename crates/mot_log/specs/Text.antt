@@ -110,6 +110,9 @@ met_text name (met.Waiting most files) =
     note_words name ++ decimal most ++ codes " objects at most, " ++ decimal files
     ++ codes " files wait"
 met_text name met.Kept = codes "look " ++ shown_name name ++ codes " empty, kept"
+met_text name (met.KeptMost going all) =
+    codes "look " ++ shown_name name ++ codes " " ++ decimal going ++ codes " of " ++ decimal all
+    ++ codes " objects would go, kept"
 met_text name met.Listed = codes "look " ++ shown_name name ++ codes " listed"
 met_text name (met.OtherImage other) = note_words name ++ image_words other
 

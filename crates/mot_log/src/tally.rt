@@ -21,7 +21,7 @@ pub enum Tally {
     LineRefusal(Refusal),
     /// The program ends with a refusal.
     Stop(Refusal),
-    /// A look kept the objects, since the folder has none: a refusal with no number.
+    /// A look kept the objects, since the folder has none, or too few: a refusal with no number.
     Kept,
     /// More than half of the objects go, and more than three.
     Going,
@@ -109,7 +109,7 @@ impl Tally {
             Met::Done(_, _) => Tally::Change,
             Met::Refused(_, refusal, _) => Tally::Refusal(*refusal),
             Met::Going(going, _) => tally_of_going(*going),
-            Met::Kept => Tally::Kept,
+            Met::Kept | Met::KeptMost(_, _) => Tally::Kept,
             Met::OtherImage(_) => Tally::Doubt,
             _ => Tally::News,
         }

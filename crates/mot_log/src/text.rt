@@ -72,6 +72,7 @@ fn add_met(text: &mut Vec<u8>, look: &LookEvent) -> Result<(), AllocError>
         Met::Gap(gap) => add_gap(text, name, *gap),
         Met::Waiting(most, files) => add_waiting(text, name, *most, *files),
         Met::Kept => add_around(text, "look ", name, " empty, kept"),
+        Met::KeptMost(going, all) => add_kept_most(text, name, *going, *all),
         Met::Listed => add_around(text, "look ", name, " listed"),
         Met::OtherImage(other) => add_other_image(text, name, *other),
     }
@@ -107,10 +108,29 @@ fn add_going(text: &mut Vec<u8>, name: &[u8], unknown: u64, all: u64) -> Result<
         ++ decimal unknown ++ codes " of " ++ decimal all ++ codes " objects go")) }
 {
     add_around(text, "note ", name, " ")?;
-    add_number(text, unknown)?;
-    add(text, " of ")?;
-    add_number(text, all)?;
+    add_part(text, unknown, all)?;
     add(text, " objects go")
+}
+
+/// Adds how many objects would go, and that they are kept.
+fn add_kept_most(text: &mut Vec<u8>, name: &[u8], going: u64, all: u64) -> Result<(), AllocError>
+    ensures { OnOk result (text.new.items ≡ text.old.items ++ (codes "look "
+        ++ shown_name name.now ++ codes " " ++ decimal going ++ codes " of " ++ decimal all
+        ++ codes " objects would go, kept")) }
+{
+    add_around(text, "look ", name, " ")?;
+    add_part(text, going, all)?;
+    add(text, " objects would go, kept")
+}
+
+/// Adds so many of so many.
+fn add_part(text: &mut Vec<u8>, part: u64, all: u64) -> Result<(), AllocError>
+    ensures { OnOk result (text.new.items
+        ≡ text.old.items ++ (decimal part ++ codes " of " ++ decimal all)) }
+{
+    add_number(text, part)?;
+    add(text, " of ")?;
+    add_number(text, all)
 }
 
 /// Adds how many bytes are in the longest gap.
