@@ -265,6 +265,36 @@ class Lines(Events):
         told = [it for it in player.end() if it != "read a.txt refused 22 ReadFault: No such file or directory"]
         self.expect("each is logged once", wanted, told)
 
+    def test_most_objects_that_are_kept(self):
+        """One line for all looks that find it so, and one once the folder is right again."""
+        names = [f"{it}.txt" for it in range(8)]
+        folder, half = self.folder({it: b"x" for it in names}), self.folder({"0.txt": b"x"}, "half")
+        self.place, whole = self.disk("other"), self.room / "whole"
+        words = ["--at-once", "--keep-most", "--levels", "--folder", folder, "--status", self.path]
+        player = self.player(self.place, "/dev/null", *words)
+        player.until("<6>put 7.txt done object 16 directory 17")
+        gone = f"<4>look {folder} refused 22 ReadFault: No such file or directory"
+        kept, listed = f"<4>look {folder} 7 of 8 objects would go, kept", f"<6>look {folder} listed"
+        os.rename(folder, whole)
+        player.until(gone)
+        os.rename(half, folder)
+        self.expect("most are kept", True, player.until(kept))
+        self.looks(2)
+        counts = [self.count(it) for it in ("folder_listed", "objects", "mass_withdrawals_total")]
+        self.expect("and the status says so", [0, 8, 0], counts)
+        os.rename(folder, half)
+        player.until(gone, 2)
+        os.rename(whole, folder)
+        self.expect("the folder is right again", True, player.until(listed))
+        self.looks(2)
+        self.expect("and the status says that", 1, self.count("folder_listed"))
+        # (a look may come to a file just after it has gone, and says so)
+        told = [it for it in player.end() if not it.startswith(("<4>read", "<6>play", "<6>put"))]
+        self.expect("each is logged once", [gone, kept, gone, listed], told)
+        told = self.looked(half, "--keep-most", disk=self.place)
+        wanted = f"<4>look {half} 7 of 8 objects would go, kept", (1, 0, {})
+        self.expect("a refusal without a number", wanted, (told[1], self.refusals()))
+
     def looks(self, count):
         before = self.count("looks_total") or 0
         return until(lambda: (self.count("looks_total") or 0) >= before + count)

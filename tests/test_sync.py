@@ -84,7 +84,8 @@ class Looks(AirCase):
 
 
 class Withdrawals(AirCase):
-    """What goes where files go. A folder that has no object takes none off the air, unless that is allowed."""
+    """What goes where files go. A folder that has no object takes none off the air, unless that is allowed; and with
+    `--keep-most` neither does one that has lost most."""
 
     def emptied(self):
         """A disk of three objects, and their folder without them."""
@@ -126,6 +127,46 @@ class Withdrawals(AirCase):
         self.expect("all go if that is allowed", (0, wanted, {}), (status, without_ids(told), self.objects(disk)))
         ended = self.motcar("sync", disk, folder)
         self.expect("an empty folder of an empty carousel", (0, b"skip notes.doc suffix\n", b""), ended)
+
+    def lost(self, going, count):
+        """A disk of so many objects, and their folder, which has lost so many of the files and has a new one."""
+        name, names = f"{going}.of.{count}", [f"{it}.txt" for it in range(count)]
+        disk, folder = self.disk(name), self.folder({it: b"x" for it in names}, f"folder.{name}")
+        self.sync(disk, folder)
+        for it in names[:going]:
+            (folder / it).unlink()
+        (folder / "new.txt").write_bytes(b"x")
+        return disk, folder, names[:going]
+
+    def test_most_that_are_kept(self):
+        for going, count in ((4, 7), (5, 8), (7, 8), (8, 8)):
+            disk, folder, _ = self.lost(going, count)
+            before = disk.read_bytes()
+            kept = 1, f"look {folder} {going} of {count} objects would go, kept\n".encode(), b""
+            for more in (["--dry-run"], [], []):
+                self.expect(f"{going} of {count} would go {more}", kept, self.sync(disk, folder, "--keep-most", *more))
+            place = self.room / "packets"
+            played = self.play(disk, place, "--at-once", "--keep-most", "--folder", folder, "--turns", "1")
+            self.expect("it is played into a file", kept, played)
+            self.expect("and nothing is changed", before, disk.read_bytes())
+
+    def test_fewer_that_go(self):
+        """No more than half of the objects, no more than three, or any, if all may go or none is held back."""
+        rows = [(4, 8, ["--keep-most"]), (3, 4, ["--keep-most"]), (3, 3, ["--keep-most"]), (20, 40, ["--keep-most"]),
+                (7, 9, ["--keep-most", "--allow-empty"]), (7, 10, [])]
+        for going, count, words in rows:
+            disk, folder, names = self.lost(going, count)
+            note = [f"note {folder} {going} of {count} objects go"] if 2 * going > count else []
+            wanted = note + [f"withdraw {it}" for it in sorted(names)] + ["put new.txt"]
+            for more in (["--dry-run"], []):
+                status, told, _ = self.sync(disk, folder, *words, *more)
+                self.expect(f"{going} of {count} go {words} {more}", (0, wanted), (status, without_ids(told)))
+
+    def test_an_empty_folder_with_most_kept(self):
+        disk, folder, there = self.emptied()
+        kept = 1, f"look {folder} empty, kept\n".encode(), b""
+        self.expect("an empty folder", kept, self.sync(disk, folder, "--keep-most"))
+        self.expect("of three objects", there, self.objects(disk))
 
     def test_the_order_of_names(self):
         disk, names = self.disk(), ["B.txt", "a.txt", "ab.txt", "b.txt", "zoo.txt"]

@@ -30,6 +30,7 @@ use Rattle.mot_numbers.specs.declared.refusal.Refusal.{Refusal}
 use Rattle.mot_numbers.specs.declared.refusal.Refusal.TheVariants.{DeviceFault, WriteFault}
 use Rattle.mot_outcome.specs.Outcome.{OnFile}
 use Rattle.mot_outcome.specs.declared.used.UsedDisk.{UsedDisk}
+use Rattle.mot_folder.specs.Guard.{guard_of}
 use Rattle.mot_folder.specs.Looked.{Watch}
 use Rattle.mot_suffixes.specs.Types.{SuffixType}
 use Rattle.mot_cli.specs.declared.playing.PlayTask.{PlayTask}
@@ -60,7 +61,8 @@ played_as p frame = record {
 -- the folder that is asked for, by this table of suffixes
 abbrev pub watch_asked : List SuffixType → PlayTask → (frame : ℕ) → Option Watch
 watch_asked table p frame = watched p.folder
-    (λ path. watch_in (played_as p frame) path.now table p.rules.allow_empty)
+    (λ path. watch_in (played_as p frame) path.now table
+    (guard_of p.rules.allow_empty p.rules.keep_most))
 
 -- the folder of objects that is asked for, before it is looked at
 abbrev pub folder_asked : PlayTask → FolderView

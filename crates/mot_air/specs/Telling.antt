@@ -5,6 +5,7 @@ use Rattle.mot_air.specs.Playing.{Tale, look_of_feed}
 use Rattle.mot_feed.specs.declared.manner.Manner.{Manner}
 use Rattle.mot_feed_lines.specs.Answering.{TellsInTurn}
 use Rattle.mot_feed.specs.Feeding.{AreTold}
+use Rattle.mot_folder.specs.declared.guard.Guard.{Guard}
 use Rattle.mot_folder.specs.Looked.{LooksSoFar, TellsLooks, Watch, so_far, watch}
 use Rattle.mot_numbers.specs.declared.refusal.Refusal.{Refusal}
 use Rattle.mot_line_folder.specs.Spool.{SpoolView}
@@ -23,9 +24,9 @@ looks_within how = nat_lt 0 how.directory && nat_lt 0 how.look
 
 -- The folder of this path is looked at while a disk is played so: where looks come only between
 -- turns, at most once in 1,000 packets.
-abbrev pub watch_in : Manner → List ℕ → List SuffixType → (allows : Bool) → Watch
-watch_in how path types allows =
-    watch path types allows (if looks_within how then how.look else 1000) (looks_within how)
+abbrev pub watch_in : Manner → List ℕ → List SuffixType → (guard : Guard) → Watch
+watch_in how path types guard =
+    watch path types guard (if looks_within how then how.look else 1000) (looks_within how)
 
 -- the same of a folder, if there is one
 abbrev pub watched : {F : Type 0} → Option F → (F → Watch) → Option Watch

@@ -4,6 +4,7 @@ ghost use Rattle.mot_air.specs.Commands.{IsUnplayed};
 ghost use Rattle.mot_outcome.specs.Outcome.{Concludes};
 ghost use Rattle.mot_air.specs.Commands.{PlaysTask, needs_of, objects_at};
 ghost use Rattle.mot_feed.specs.declared.manner.Manner.{Manner};
+ghost use Rattle.mot_folder.specs.Guard.{guard_of};
 ghost use Rattle.mot_air.specs.Telling.{folder_in, watch_in, watched};
 ghost use Rattle.mot_endpoints.specs.Opened.{AreMet, Need, if_given};
 ghost use Rattle.mot_outcome.specs.Outcome.{Opens};
@@ -16,7 +17,7 @@ use disk_model::Disk;
 use disk_store::Start;
 use mot_cli::{LookRules, PlayTask};
 use mot_endpoints::{Host, Machine, Others, StatusFile, file_types, line_folder};
-use mot_folder::FileTypes;
+use mot_folder::{FileTypes, Guard};
 use mot_outcome::Finished;
 use std::alloc::Global;
 use std::io::Write;
@@ -71,8 +72,9 @@ fn followed<'a: 't, 't, M: Machine + Drop>(
     rules: LookRules,
 ) -> Option<Followed<'t, M::System>>
     ensures given { (how : Manner) → watched result (λ followed. watch_in how
-        (reader_path followed.shelf) followed.types.now followed.allows_empty)
-        ≡ watched folder.entry (λ path. watch_in how path.now types.now rules.allow_empty) }
+        (reader_path followed.shelf) followed.types.now followed.guard)
+        ≡ watched folder.entry (λ path. watch_in how path.now types.now
+        (guard_of rules.allow_empty rules.keep_most)) }
     ensures folder { folder_in M.System.calls result ≡ objects_at folder.entry rules.at_once }
     ensures opens { AreMet (if_given Need.folder folder.entry) (M.System.calls host.old.system)
         (M.System.calls host.new.system) }
@@ -81,7 +83,7 @@ fn followed<'a: 't, 't, M: Machine + Drop>(
         Some(path) => Some(Followed {
             shelf: host.folder(path, rules.at_once),
             types,
-            allows_empty: rules.allow_empty,
+            guard: Guard::of(rules.allow_empty, rules.keep_most),
         }),
         None => None,
     }

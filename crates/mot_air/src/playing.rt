@@ -31,7 +31,7 @@ use mot_events::Inlet;
 use mot_feed::{Manner, feed};
 use mot_feed_lines::{Lines, Reported};
 use mot_files::{CallLog, System};
-use mot_folder::{FileTypes, Folder, Looks};
+use mot_folder::{FileTypes, Folder, Guard, Looks};
 use mot_line_folder::{LineFolder, Spool};
 use mot_numbers::Refusal;
 use mot_outcome::Beside;
@@ -50,8 +50,8 @@ pub struct Followed<'a, S: System + Drop> {
     pub shelf: FolderReader<'a, S>,
     /// The suffixes.
     pub types: &'a FileTypes,
-    /// Whether all objects go where none of its files is one.
-    pub allows_empty: bool,
+    /// Which looks at it change nothing.
+    pub guard: Guard,
 }
 
 /// What playing came to.
@@ -142,7 +142,7 @@ pub fn play_disk<S: System + Drop, F: System + Drop, D: Disk, O: Outlet, L: Writ
 ) -> PlayEnd<D>
     ensures { HandsOut (fault_of result.ended.result) result.beside (λ then_folder then_lines.
         Plays (tale_with (watched folder.entry (λ followed. watch_in how (reader_path followed.shelf)
-        followed.types.now followed.allows_empty)) None how result.any_refused
+        followed.types.now followed.guard)) None how result.any_refused
         (folder_in S.calls folder.entry) then_folder (lines_at [] []) then_lines) how
         (fault_of result.ended.result) (O.writes outlet.old) (O.writes outlet.new)
         (D.state disk) (D.state result.ended.disk)) }
@@ -176,7 +176,7 @@ pub fn play_and_answer<S: System + Drop, F: System + Drop, D: Disk, O: Outlet, L
 ) -> PlayEnd<D>
     ensures { HandsOut (fault_of result.ended.result) result.beside (λ then_folder then_lines.
         Plays (tale_with (watched folder.entry (λ followed. watch_in how (reader_path followed.shelf)
-        followed.types.now followed.allows_empty))
+        followed.types.now followed.guard))
         (Some (lines.entry.hand, lines.entry.every - 1)) how result.any_refused
         (folder_in S.calls folder.entry) then_folder
         (lines_at lines.entry.place.path.now (F.calls lines.entry.place.system)) then_lines) how
@@ -287,18 +287,18 @@ fn looks_at<'a, S: System + Drop>(
     how: Manner,
 ) -> Looks<'a, S>
     ensures watch { watch (reader_path result.folder.shelf) result.folder.types.now
-        result.folder.allows_empty result.every result.within
+        result.folder.guard result.every result.within
         ≡ watch_in how (reader_path followed.entry.shelf) followed.entry.types.now
-        followed.entry.allows_empty }
+        followed.entry.guard }
     ensures none { so_far result.left (view S.calls result.folder.shelf) result.any_refused
         result.folder.files.known.items ≡ no_looks (view S.calls followed.entry.shelf) }
 {
     let Followed {
         shelf,
         types,
-        allows_empty,
+        guard,
     } = followed;
-    let folder = Folder::new(alloc, shelf, types, allows_empty);
+    let folder = Folder::new(alloc, shelf, types, guard);
     let mut looks = Looks::new(alloc, folder);
     if how.directory > 0 && how.look > 0 {
         looks.every = u64::from(how.look);

@@ -66,6 +66,7 @@ file_image_cases (met.Going unknown all) is = refl
 file_image_cases (met.Gap gap) is = refl
 file_image_cases (met.Waiting most files) is = refl
 file_image_cases met.Kept is = refl
+file_image_cases (met.KeptMost going all) is = refl
 file_image_cases met.Listed is = refl
 file_image_cases (met.OtherImage other) is = absurd (cc (is))
 
@@ -79,6 +80,7 @@ note_image_cases (met.Going unknown all) is = refl
 note_image_cases (met.Gap gap) is = refl
 note_image_cases (met.Waiting most files) is = refl
 note_image_cases met.Kept is = refl
+note_image_cases (met.KeptMost going all) is = refl
 note_image_cases met.Listed is = refl
 note_image_cases (met.OtherImage other) is = absurd (cc (is))
 
@@ -115,6 +117,7 @@ note_cases (met.Going unknown all) is = refl
 note_cases (met.Gap gap) is = refl
 note_cases (met.Waiting most files) is = refl
 note_cases met.Kept is = refl
+note_cases (met.KeptMost going all) is = refl
 note_cases met.Listed is = refl
 note_cases (met.OtherImage other) is = absurd (cc (is))
 

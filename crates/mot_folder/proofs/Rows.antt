@@ -16,7 +16,9 @@ use Rattle.mot_folder.specs.Inner.Reading.{unread_for}
 use Rattle.mot_folder.specs.Inner.Reasons.{why_nameless, why_not_stored}
 use Rattle.mot_folder.specs.Log.{event_of_answer, met_for, names_read, of_look, told_of}
 use Rattle.mot_folder.specs.Log.{unlisted_for, waiting_in}
-use Rattle.mot_folder.specs.Looked.{is_look_due, is_kept, packets_left_behind, packets_left}
+use Rattle.mot_folder.specs.Guard.{guard_of, is_kept}
+use Rattle.mot_folder.specs.Looked.{is_look_due, packets_left_behind, packets_left}
+use Rattle.mot_folder.specs.declared.guard.Guard.TheVariants.{Empty, Most}
 use Rattle.mot_folder.specs.declared.listing.TheConstants.{MAX_NAMES}
 use Rattle.mot_folder.specs.declared.looking.TheConstants.{PACKETS, SOON}
 use Rattle.mot_numbers.specs.declared.refusal.Refusal.{Refusal}
@@ -103,18 +105,36 @@ kept_line : met_line (event_of (codes "d") met.Kept) ≡ codes "look d empty, ke
 unfolding digits is_utf8 chars encode
 kept_line = refl
 
+kept_most_line : met_line (event_of (codes "d") (met.KeptMost 7 8))
+    ≡ codes "look d 7 of 8 objects would go, kept\n"
+unfolding digits is_utf8 chars encode
+kept_most_line = refl
+
 -- an empty folder leaves two objects where they are, but for who allows it
-stay : is_kept false [] 2 ≡ true
+stay : is_kept Empty [] 2 2 ≡ true
 stay = refl
 
-go : is_kept true [] 2 ≡ false
+go : is_kept (guard_of true true) [] 2 2 ≡ false
 go = refl
 
-some_stay : is_kept false (codes "a.png" ∷ []) 2 ≡ false
+some_stay : is_kept Empty (codes "a.png" ∷ []) 7 8 ≡ false
 some_stay = refl
 
-none_there : is_kept false [] 0 ≡ false
+none_there : is_kept Most [] 0 0 ≡ false
 none_there = refl
+
+-- most stay only where that is asked for: more than half of the objects, and more than three
+most_stay : is_kept (guard_of false true) (codes "a.png" ∷ []) 4 7 ≡ true
+most_stay = refl
+
+half_go : is_kept Most (codes "a.png" ∷ []) 4 8 ≡ false
+half_go = refl
+
+three_go : is_kept Most (codes "a.png" ∷ []) 3 4 ≡ false
+three_go = refl
+
+all_three_stay : is_kept Most [] 3 3 ≡ true
+all_three_stay = refl
 
 -- a note is told of no command, nor is a file that was not taken
 beside : of_look (event_of (codes "d") (met.Going 2 3) ∷ unread_for (codes "b") EmptyBody Unsaid

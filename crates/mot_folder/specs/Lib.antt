@@ -1,3 +1,4 @@
+pub mod Guard
 pub mod Inner
 pub mod Known
 pub mod Listed

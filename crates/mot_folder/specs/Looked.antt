@@ -1,18 +1,19 @@
 -- What a look at a folder does, and its log.
-use Rattle.std.specs.Prelude.{ℕ, ◌≡◌, ◌≢◌, ◌<◌, ◌≤◌, ◌⊎◌, ◌&&◌, ◌||◌, ◌-◌, nat_eq, nat_le, nat_lt}
+use Rattle.std.specs.Prelude.{ℕ, ◌≡◌, ◌≢◌, ◌<◌, ◌≤◌, ◌⊎◌, ◌&&◌, ◌||◌, ◌-◌, nat_le}
 use Rattle.std.specs.Prelude.{Bool, true, false, ◌↔◌, not, if◌then◌else◌, List, [], ◌∷◌, ◌++◌}
 use Rattle.std.specs.Prelude.{◌+◌, length, map, Option, None, Some}
 use Rattle.std.specs.List.{AllByRecursion, flat_map}
 use Rattle.disk_model.specs.Disk.{State}
 use Rattle.mot_events.specs.Events.{event_of}
 use Rattle.mot_events.specs.declared.event.LookEvent.{LookEvent}
-use Rattle.mot_events.specs.declared.event.Met.TheVariants.{Kept}
 use Rattle.mot_events.specs.declared.event.Why.TheVariants.{Unsaid}
+use Rattle.mot_folder.specs.Guard.{going, is_kept, kept_so}
 use Rattle.mot_folder.specs.Known.{ComesFrom, IsPassedOver}
 use Rattle.mot_folder.specs.Listed.{IsListing, nameless, names_in, with_type}
 use Rattle.mot_folder.specs.Log.{AreKept, ReportTells, all_image_notes, event_of_answer}
 use Rattle.mot_folder.specs.Log.{images_noted, names_read, of_look, told_of, unlisted_for}
 use Rattle.mot_folder.specs.Taken.{AreTaken}
+use Rattle.mot_folder.specs.declared.guard.Guard.{Guard}
 use Rattle.mot_folder.specs.declared.known.Known.{Known}
 use Rattle.mot_folder.specs.declared.listing.TheConstants.{MAX_NAMES}
 use Rattle.mot_folder.specs.declared.looking.TheConstants.{SOON}
@@ -51,11 +52,6 @@ pub data IsUnlisted (types : List SuffixType) (path : List ℕ) (given : Given)
       → IsUnlisted types path given refusal
   no_memory : refusal ≡ OutOfMemory → IsUnlisted types path given refusal
 
--- a carousel of so many objects stays as it is where a folder has no names of objects, but for who
--- allows that it gets empty
-abbrev pub is_kept : (allows : Bool) → (names : List (List ℕ)) → (objects : ℕ) → Bool
-is_kept allows names objects = not allows && (nat_eq (length names) 0 && nat_lt 0 objects)
-
 -- Each of these names is that of an object that was read of the folder, with the bytes that it
 -- gave, or of a file that was passed over, or of one that is told as one that could not be taken;
 -- before that the regular files are told that have no name of an object. A file for which memory was wanted is told so only in a look
@@ -73,7 +69,7 @@ pub record EachIsTold (types : List SuffixType) (given : Given) (names : List (L
 -- of objects and took these objects, and of the carousel that it found it ran these commands, up to
 -- a fault. This is told of it; it is fine exactly where nothing was refused. These files were known
 -- before it, and those are behind it.
-pub data IsLook (types : List SuffixType) (allows : Bool) (path : List ℕ) (given : Given)
+pub data IsLook (types : List SuffixType) (guard : Guard) (path : List ℕ) (given : Given)
     (c : Carousel) (commands : List Command) (marks : List Bool) (fault : Option Refusal)
     (names : List (List ℕ)) (wanted : List Wanted) (fine : Bool) (entries : List LookEvent)
     (known after : List Known) : Type 0 where
@@ -82,12 +78,14 @@ pub data IsLook (types : List SuffixType) (allows : Bool) (path : List ℕ) (giv
       → ((fault ≡ None) × (refusal ≢ OutOfMemory)) ⊎ (fault ≡ Some OutOfMemory) → commands ≡ []
       → of_look entries ≡ unlisted_for path refusal Unsaid ∷ [] → images_noted entries ≡ []
       → after ≡ known
-      → IsLook types allows path given c commands marks fault names wanted fine entries known after
-  -- it was listed and has no object, which is told, and no command was run
-  kept : IsListing types path given [] → is_kept allows [] (length c.objects) ≡ true
+      → IsLook types guard path given c commands marks fault names wanted fine entries known after
+  -- it was listed, and too many objects would go, which is told, and no command was run
+  kept : IsListing types path given names
+      → is_kept guard names (going names c) (length c.objects) ≡ true
       → fine ≡ false → (fault ≡ None) ⊎ (fault ≡ Some OutOfMemory) → commands ≡ []
-      → of_look entries ≡ event_of path Kept ∷ [] → images_noted entries ≡ [] → after ≡ known
-      → IsLook types allows path given c commands marks fault names wanted fine entries known after
+      → of_look entries ≡ event_of path (kept_so names (going names c) (length c.objects)) ∷ []
+      → images_noted entries ≡ [] → after ≡ known
+      → IsLook types guard path given c commands marks fault names wanted fine entries known after
   -- It was listed once; none of the names begins with a dot. The commands are those of the update
   -- to the objects that were taken, all of them where no fault came, and what came of each is told.
   -- Each name that was gone over is that of such an object, or of a file that is told: all of them
@@ -96,7 +94,7 @@ pub data IsLook (types : List SuffixType) (allows : Bool) (path : List ℕ) (giv
   -- over that is known, and has the stamp with which it is, if the carousel has its object; and it is
   -- said where what is known then comes from.
   listed : AreShown names → IsListing types path given names
-      → is_kept allows names (length c.objects) ≡ false → IsUpdate names wanted
+      → is_kept guard names (going names c) (length c.objects) ≡ false → IsUpdate names wanted
       → (others : List Command) → updating c names wanted ≡ commands ++ others
       → (fault ≡ None → others ≡ [])
       → (fine ≡ true ↔ (names_read entries ≡ []) × AreAccepted marks)
@@ -108,7 +106,7 @@ pub data IsLook (types : List SuffixType) (allows : Bool) (path : List ℕ) (giv
       → (limit : ℕ) (last : Carousel)
       → carousel_after c limit (accepted_commands commands marks) ≡ Some last
       → AllByRecursion (ComesFrom known given answers last) after
-      → IsLook types allows path given c commands marks fault names wanted fine entries known after
+      → IsLook types guard path given c commands marks fault names wanted fine entries known after
 
 -- Where commands were run, what is told of each of them is what came of it: the ids that it took,
 -- or why it was refused.
@@ -119,7 +117,7 @@ TellsRightly layout s commands entries = (commands ≡ [])
 
 -- a look ran its commands, and what is told of it stands in the report
 pub record HasLookedAtFolder {D : Type 0} (old new : ServerView D) (start now : State)
-    (s : Standing) (types : List SuffixType) (allows : Bool) (path : List ℕ) (given : Given)
+    (s : Standing) (types : List SuffixType) (guard : Guard) (path : List ℕ) (given : Given)
     (report : Report) (fault : Option Refusal) (known after : List Known) : Type 0 where
   pub commands : List Command
   pub marks : List Bool
@@ -127,7 +125,7 @@ pub record HasLookedAtFolder {D : Type 0} (old new : ServerView D) (start now : 
   pub names : List (List ℕ)
   pub wanted : List Wanted
   pub entries : List LookEvent
-  pub look : IsLook types allows path given s.carousel commands marks fault names wanted
+  pub look : IsLook types guard path given s.carousel commands marks fault names wanted
       (not report.any_refused) entries known after
   pub right : TellsRightly old.view.journal.layout s commands entries
   pub told : ReportTells report entries
@@ -146,19 +144,19 @@ packets_left any_left every = if any_left && nat_le SOON every then SOON else ev
 abbrev pub packets_left_behind : (within may_look : Bool) → ℕ → ℕ
 packets_left_behind within may_look left = if may_look || not within then left - 1 else left
 
--- What looks are of: the folder of this path, by this table of suffixes; whether all its objects
--- may go; how many packets come between two looks; and whether looks come within turns.
+-- What looks are of: the folder of this path, by this table of suffixes; which of them change
+-- nothing; how many packets come between two looks; and whether looks come within turns.
 pub record Watch : Type 0 where
   pub path : List ℕ
   pub types : List SuffixType
-  pub allows : Bool
+  pub guard : Guard
   pub every : ℕ
   pub within : Bool
 
-abbrev pub watch : List ℕ → List SuffixType → (allows : Bool) → (every : ℕ) → (within : Bool)
+abbrev pub watch : List ℕ → List SuffixType → (guard : Guard) → (every : ℕ) → (within : Bool)
     → Watch
-watch path types allows every within =
-    record { path = path; types = types; allows = allows; every = every; within = within }
+watch path types guard every within =
+    record { path = path; types = types; guard = guard; every = every; within = within }
 
 -- Looks so far: how many packets are to come before the next one, the folder with the calls that
 -- were made for it, whether anything was refused in one, and what is known of files.
@@ -185,7 +183,7 @@ pub data TellsLooks (w : Watch) (moment : Moment) (old new : LooksSoFar) (c : Ca
       → Gives old.folder nothing new.folder given
       → new ≡ so_far (packets_left any_left w.every) new.folder
       (old.refused || not fine) files
-      → IsLook w.types w.allows w.path given c commands marks fault names wanted fine entries
+      → IsLook w.types w.guard w.path given c commands marks fault names wanted fine entries
       old.files files
       → TellsLooks w moment old new c commands marks fault
 

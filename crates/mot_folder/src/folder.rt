@@ -22,6 +22,7 @@ ghost use Rattle.mot_update.specs.Looking.{was_settled};
 ghost use Rattle.mot_folder.specs.Taken.{IsUntakable, wanted_file};
 ghost use Rattle.mot_update.specs.Told.{TellsBoth, answers_of, was_accepted};
 
+use crate::guard::Guard;
 use crate::known::KnownFiles;
 use crate::listing::read_refusal;
 use crate::names::FileNames;
@@ -46,8 +47,8 @@ pub struct Folder<'a, S: System + Drop> {
     pub shelf: FolderReader<'a, S>,
     /// Which of its files are objects.
     pub types: &'a FileTypes,
-    /// Whether all objects go where none of its files is one.
-    pub allows_empty: bool,
+    /// Which looks change nothing.
+    pub guard: Guard,
     /// Whether the look before went by the folder's list. Else one that does tells so.
     pub was_listed: bool,
     /// The names of the last look.
@@ -72,11 +73,11 @@ impl<'a, S: System + Drop> Folder<'a, S> {
         alloc: Global,
         shelf: FolderReader<'a, S>,
         types: &'a FileTypes,
-        allows_empty: bool,
+        guard: Guard,
     ) -> Folder<'a, S>
         ensures shelf { result.shelf ≡ shelf.entry }
         ensures types { result.types.now ≡ types.now }
-        ensures allows { result.allows_empty ≡ allows_empty }
+        ensures guard { result.guard ≡ guard }
         ensures listed { result.was_listed ≡ true }
         ensures untold { result.report.events.items ≡ [] }
 
@@ -86,7 +87,7 @@ impl<'a, S: System + Drop> Folder<'a, S> {
         Folder {
             shelf,
             types,
-            allows_empty,
+            guard,
             was_listed: true,
             names: FileNames::new(alloc),
             place: 0,

@@ -2,6 +2,7 @@
 #![tactic(auto)]
 
 mod folder;
+mod guard;
 mod known;
 mod listing;
 mod looking;
@@ -9,6 +10,7 @@ mod names;
 mod report;
 
 pub use folder::Folder;
+pub use guard::Guard;
 pub use known::{Known, KnownFiles, StampedFile};
 pub use looking::{Looks, look_at_folder};
 pub use mot_suffixes::{FileType, FileTypes};

@@ -6,13 +6,14 @@ ghost use Rattle.disk_model.specs.Disk.{KeepsLength};
 ghost use Rattle.mot_update.specs.Between.{IsUpdating, may_look};
 ghost use Rattle.mot_events.specs.Events.{is_listed};
 ghost use Rattle.mot_events.specs.Events.{event_of};
-ghost use Rattle.mot_events.specs.declared.event.Met.TheVariants.{Gap, Going, Kept, Listed};
+ghost use Rattle.mot_events.specs.declared.event.Met.TheVariants.{Gap, Going, Listed};
 ghost use Rattle.mot_events.specs.declared.event.Met.TheVariants.{Waiting};
 ghost use Rattle.mot_events.specs.declared.event.Why.{Why};
 ghost use Rattle.mot_folder.specs.Log.{TellsAnswers, TellsOf, TellsOne, unlisted_for};
 ghost use Rattle.mot_folder.specs.Inner.Notes.{unknown_objects};
 ghost use Rattle.mot_folder.specs.Inner.Listing.{IsListed, TellsNameless, stage};
-ghost use Rattle.mot_folder.specs.Looked.{HasLookedAtFolder, TellsWatch, is_kept, is_look_due};
+ghost use Rattle.mot_folder.specs.Guard.{is_kept, kept_so};
+ghost use Rattle.mot_folder.specs.Looked.{HasLookedAtFolder, TellsWatch, is_look_due};
 ghost use Rattle.mot_folder.specs.Looked.{packets_left, packets_left_behind, so_far, watch};
 ghost use Rattle.mot_journal.specs.Image.{Standing};
 ghost use Rattle.mot_repository.specs.Repository.{Holds};
@@ -28,6 +29,7 @@ ghost use Rattle.mot_numbers.specs.declared.refusal.Refusal.TheVariants.{OutOfMe
 ghost use Rattle.mot_playout.specs.Attempts.{fault_of};
 
 use crate::folder::Folder;
+use crate::guard::{is_kept, tell_kept};
 use crate::listing::{Unlisted, count_unknown, list, tell_unlisted};
 use crate::names::FileNames;
 use crate::report::{Report, Sizes};
@@ -51,9 +53,9 @@ const PACKETS: u64 = 1_000;
 const SOON: u64 = 100;
 
 /// Makes the carousel equal to the files of the folder that have one of the suffixes. A folder that
-/// can't be listed, has too many of them, or has no object and may not be empty while the carousel
-/// has some, is told, and changes nothing. The errors are those of `look`, and `OutOfMemory` if
-/// memory ran out for an event, or for the subject of one.
+/// can't be listed, has too many of them, or for which more objects would go than its guard lets, is
+/// told, and changes nothing. The errors are those of `look`, and `OutOfMemory` if memory ran out for
+/// an event, or for the subject of one.
 pub fn look_at_folder<S: System + Drop, D: Disk>(
     alloc: Global,
     server: &mut Server<D>,
@@ -66,7 +68,7 @@ pub fn look_at_folder<S: System + Drop, D: Disk>(
         → (D.state server.new.disk).IsHonest
         → GaveSo (view S.calls folder.old.shelf) (view S.calls folder.new.shelf) (λ given.
         HasLookedAtFolder server.old server.new (D.state server.old.disk)
-        (D.state server.new.disk) s folder.old.types.now folder.old.allows_empty
+        (D.state server.new.disk) s folder.old.types.now folder.old.guard
         (reader_path folder.old.shelf) given folder.new.report (fault_of result)
         folder.old.files.known.items folder.new.files.known.items) }
 
@@ -85,8 +87,13 @@ pub fn look_at_folder<S: System + Drop, D: Disk>(
         Ok(names) => folder.names = names,
         Err(unlisted) => return end_unlisted(&folder.shelf, &mut folder.report, unlisted),
     }
-    if is_kept(folder.allows_empty, &folder.names, server.carousel()) {
-        return end_kept(&folder.shelf, &mut folder.report);
+    if is_kept(folder.guard, &folder.names, server.carousel()) {
+        return end_kept(
+            &folder.shelf,
+            &mut folder.report,
+            &folder.names,
+            server.carousel(),
+        );
     }
     look_at_names(alloc, server, folder)
 }
@@ -108,17 +115,22 @@ fn end_unlisted<S: System + Drop>(
     report.end()
 }
 
-/// Ends a look at a folder that has no object, and takes none off the air.
+/// Ends a look that takes no object off the air, since too many would go.
 fn end_kept<S: System + Drop>(
     shelf: &FolderReader<'_, S>,
     report: &mut Report,
+    names: &FileNames,
+    carousel: &Carousel,
 ) -> Result<(), Refusal>
     ensures any { report.new.any_refused ≡ true }
-    ensures told { TellsOne report.old report.new (event_of (reader_path shelf.now) Kept) }
+    ensures told { TellsOne report.old report.new (event_of (reader_path shelf.now)
+        (kept_so names.now.names.items
+        (length (unknown_objects names.now.names.items carousel.now.objects.items))
+        (length carousel.now.objects.items))) }
     ensures fault { (fault_of result ≡ None) ⊎ (fault_of result ≡ Some OutOfMemory) }
     ensures whole { OnOk result (report.new.any_left_out ≡ false) }
 {
-    report.kept(shelf.shown().as_bytes());
+    tell_kept(report, shelf.shown(), names, carousel);
     report.end()
 }
 
@@ -128,7 +140,9 @@ fn look_at_names<S: System + Drop, D: Disk>(
     server: &mut Server<D>,
     folder: &mut Folder<'_, S>,
 ) -> Result<(), Refusal>
-    requires updates { is_kept folder.old.allows_empty folder.old.names.names.items
+    requires updates { is_kept folder.old.guard folder.old.names.names.items
+        (length (unknown_objects folder.old.names.names.items
+        server.old.view.carousel.objects.items))
         (length server.old.view.carousel.objects.items) ≡ false }
     ensures keeps { KeepsLength (D.state server.old.disk) (D.state server.new.disk) }
     ensures faults { TellsFaults server.old server.new
@@ -141,7 +155,7 @@ fn look_at_names<S: System + Drop, D: Disk>(
         → (D.state server.new.disk).IsHonest
         → GaveSo since (view S.calls folder.new.shelf) (λ given.
         HasLookedAtFolder server.old server.new (D.state server.old.disk)
-        (D.state server.new.disk) s folder.old.types.now folder.old.allows_empty
+        (D.state server.new.disk) s folder.old.types.now folder.old.guard
         (reader_path folder.old.shelf) given folder.new.report (fault_of result)
         folder.old.files.known.items folder.new.files.known.items) }
     ensures whole { OnOk result (folder.new.report.any_left_out ≡ false) }
@@ -190,14 +204,6 @@ fn end_listed<S: System + Drop>(
     note_waiting(report, shelf.shown(), sizes);
     note_gap(report, shelf.shown(), gap);
     report.end()
-}
-
-/// Whether the objects of the carousel stay, since the folder has none.
-fn is_kept(allows_empty: bool, names: &FileNames, carousel: &Carousel) -> bool
-    ensures { result ≡ is_kept allows_empty names.now.names.items
-        (length carousel.now.objects.items) }
-{
-    !allows_empty && names.names.is_empty() && !carousel.objects.is_empty()
 }
 
 /// Tells that the folder is listed, if the look before did not go by its list.
@@ -326,9 +332,9 @@ impl<'a, S: System + Drop> Looks<'a, S> {
 
 impl<'a, S: System + Drop> Update for Looks<'a, S> {
     ghost tells = { λ old new moment. TellsWatch
-        (watch (reader_path old.folder.shelf) old.folder.types.now old.folder.allows_empty old.every
+        (watch (reader_path old.folder.shelf) old.folder.types.now old.folder.guard old.every
         old.within)
-        (watch (reader_path new.folder.shelf) new.folder.types.now new.folder.allows_empty new.every
+        (watch (reader_path new.folder.shelf) new.folder.types.now new.folder.guard new.every
         new.within)
         moment (so_far old.left (view S.calls old.folder.shelf) old.any_refused
         old.folder.files.known.items)
@@ -348,9 +354,9 @@ impl<'a, S: System + Drop> Update for Looks<'a, S> {
             → (D.state server.new.disk).IsHonest
             → IsUpdating (TellsWatch
             (watch (reader_path self.old.folder.shelf) self.old.folder.types.now
-            self.old.folder.allows_empty self.old.every self.old.within)
+            self.old.folder.guard self.old.every self.old.within)
             (watch (reader_path self.new.folder.shelf) self.new.folder.types.now
-            self.new.folder.allows_empty self.new.every self.new.within)
+            self.new.folder.guard self.new.every self.new.within)
             moment (so_far self.old.left (view S.calls self.old.folder.shelf) self.old.any_refused
             self.old.folder.files.known.items)
             (so_far self.new.left (view S.calls self.new.folder.shelf) self.new.any_refused
@@ -384,7 +390,7 @@ impl<'a, S: System + Drop> Update for Looks<'a, S> {
             → (D.state server.new.disk).IsHonest
             → GaveSo (view S.calls self.old.folder.shelf) (view S.calls self.new.folder.shelf)
             (λ given. HasLookedAtFolder server.old server.new (D.state server.old.disk)
-            (D.state server.new.disk) s self.old.folder.types.now self.old.folder.allows_empty
+            (D.state server.new.disk) s self.old.folder.types.now self.old.folder.guard
             (reader_path self.old.folder.shelf) given self.new.folder.report
             (fault_of result) self.old.folder.files.known.items
             self.new.folder.files.known.items) }
@@ -394,11 +400,11 @@ impl<'a, S: System + Drop> Update for Looks<'a, S> {
         }
         let was_listed = turn_over(&mut self.folder.report, &mut self.before);
         self.folder.was_listed = was_listed;
-        let (types, allows_empty) = (self.folder.types, self.folder.allows_empty);
+        let (types, guard) = (self.folder.types, self.folder.guard);
         let result = look_at_folder(alloc, server, &mut self.folder);
         // A look leaves them as they are. (The lines are there for the proof.)
         self.folder.types = types;
-        self.folder.allows_empty = allows_empty;
+        self.folder.guard = guard;
         self.folder.was_listed = was_listed;
         self.count = self.count.saturating_add(1);
         self.any_refused |= self.folder.report.any_refused;

@@ -265,6 +265,16 @@ impl Report {
         self.add(path, Met::Kept);
     }
 
+    /// A look at the folder of this path took no object off the air, since so many of so many would
+    /// go. That counts as a refusal.
+    pub fn kept_most(&mut self, path: &[u8], going: u64, all: u64)
+        ensures any { self.new.any_refused ≡ true }
+        ensures told { TellsOne self.old self.new (event_of path.now (met.KeptMost going all)) }
+    {
+        self.any_refused = true;
+        self.add(path, Met::KeptMost(going, all));
+    }
+
     /// The folder of this path is listed again.
     pub fn listed(&mut self, path: &[u8])
         ensures same { self.new.any_refused ≡ self.old.any_refused }

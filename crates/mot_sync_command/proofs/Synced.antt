@@ -15,6 +15,7 @@ use Rattle.mot_update.proofs.Laws.{ends_off, opened_leaves}
 use Rattle.mot_feed.specs.Feeding.{IsFeedFault}
 use Rattle.mot_log.specs.Text.{met_line}
 use Rattle.mot_events.specs.declared.event.LookEvent.{LookEvent}
+use Rattle.mot_folder.specs.declared.guard.Guard.{Guard}
 use Rattle.mot_folder.specs.Log.{ReportTells}
 use Rattle.mot_folder.proofs.Laws.{every_named, none_passed}
 use Rattle.mot_folder.specs.Looked.{HasLookedAtFolder, IsLook, TellsRightly, kept, listed}
@@ -110,18 +111,18 @@ module _ {D : Type 0} (state : D → State) (disk : D) (server new : ServerView 
       ∙ ap (λ (g : Geometry). layout_of (half_of g (state disk).bytes)) agrees.geometry
 
   -- what a look came to of the disk, from its opening on
-  has_synced : (s : Standing) (types : List SuffixType) (allows : Bool)
+  has_synced : (s : Standing) (types : List SuffixType) (guard : Guard)
       (folder then_folder : FolderView) (given : Given) (report : Report)
       (fault : Option Refusal) (files : List Known)
       → (state new.disk).IsHonest
       → AllAre s (state disk)
       → Gives folder nothing then_folder given
-      → HasLookedAtFolder server new (state server.disk) (state new.disk) s types allows folder.path
+      → HasLookedAtFolder server new (state server.disk) (state new.disk) s types guard folder.path
       given report fault [] files
       → (entries : List LookEvent)
-      × HasSynced types allows folder then_folder (state disk) (state new.disk)
+      × HasSynced types guard folder then_folder (state disk) (state new.disk)
       (not report.any_refused) fault entries s × ReportTells report entries
-  has_synced s types allows folder then_folder given report fault files honest all gave looked =
+  has_synced s types guard folder then_folder given report fault files honest all gave looked =
       let was = keeps.was_honest honest in (
         looked.entries,
         record {
@@ -146,7 +147,7 @@ module _ {D : Type 0} (state : D → State) (disk : D) (server new : ServerView 
           (marks : List Bool) (names : List (List ℕ)) (wanted : List Wanted)
           (entries : List LookEvent)
           → HasRun server new (state server.disk) (state new.disk) s commands marks fault
-          → IsLook types allows folder.path given s.carousel commands marks fault names wanted fine entries
+          → IsLook types guard folder.path given s.carousel commands marks fault names wanted fine entries
           [] files
           → fine ≡ true → fault ≡ None → IsEqual s names wanted (state new.disk)
       equal fine fault commands marks names wanted entries run
@@ -180,18 +181,18 @@ module _ {D : Type 0} (state : D → State) (disk : D) (server new : ServerView 
   IsNothing None = Unit {0}
   IsNothing (Some r) = ⊥
 
-  module _ (types : List SuffixType) (allows : Bool) (folder then_folder : FolderView)
+  module _ (types : List SuffixType) (guard : Guard) (folder then_folder : FolderView)
       (before after : Option (List ℕ)) where
     -- what a look came to, and what is told of it, from the disk's opening on
     tells : (s : Standing) (result : Result Bool Refusal) (given : Given)
         → (state new.disk).IsHonest → AllAre s (state disk)
         → Gives folder nothing then_folder given
-        → LooksAndTells server new (state server.disk) (state new.disk) s types allows folder.path
+        → LooksAndTells server new (state server.disk) (state new.disk) s types guard folder.path
         given [] before after result
-        → SyncsAndTells types allows folder then_folder (state disk) (state new.disk)
+        → SyncsAndTells types guard folder then_folder (state disk) (state new.disk)
         (result_unwrap_or result false) (fault_of result) before after s
     tells s result given honest each gave (looks.told report files is whole written look) =
-        let done = has_synced s types allows folder then_folder given report None files honest each
+        let done = has_synced s types guard folder then_folder given report None files honest each
         gave look in
         record {
           fine = not report.any_refused;
@@ -205,7 +206,7 @@ module _ {D : Type 0} (state : D → State) (disk : D) (server new : ServerView 
           );
         }
     tells s result given honest each gave (looks.broken report files refusal is look) =
-        let done = has_synced s types allows folder then_folder given report (Some refusal) files
+        let done = has_synced s types guard folder then_folder given report (Some refusal) files
         honest each gave look in
         let ended = ap (λ (r : Result Bool Refusal). fault_of r) (sym is) in
         record {
@@ -217,7 +218,7 @@ module _ {D : Type 0} (state : D → State) (disk : D) (server new : ServerView 
           told = λ whole_is. absurd (subst IsNothing (sym (ended ∙ whole_is)) tt);
         }
     tells s result given honest each gave (looks.untold report files is look) =
-        let done = has_synced s types allows folder then_folder given report None files honest each
+        let done = has_synced s types guard folder then_folder given report None files honest each
         gave look in
         let ended = ap (λ (r : Result Bool Refusal). fault_of r) is in
         record {
@@ -235,8 +236,8 @@ module _ {D : Type 0} (state : D → State) (disk : D) (server new : ServerView 
         (λ r. IsFeedFault server (state server.disk) (state new.disk) r)
         → ((s : Standing) → Holds server.view s (state server.disk) → (state new.disk).IsHonest
         → GaveSo folder then_folder (λ given. LooksAndTells server new (state server.disk)
-        (state new.disk) s types allows folder.path given [] before after result))
-        → Syncs types allows folder then_folder (state disk) (state new.disk)
+        (state new.disk) s types guard folder.path given [] before after result))
+        → Syncs types guard folder then_folder (state disk) (state new.disk)
         (result_unwrap_or result false) (fault_of result) before after
     syncs result why looked = record {
       keeps = keeps_from;

@@ -8,6 +8,8 @@ use Rattle.disk_store.specs.declared.file.start.Start.{Ghosts}
 use Rattle.mot_cli.specs.declared.playing.SyncTask.{SyncTask}
 use Rattle.mot_endpoints.specs.Opened.{Need, if_given}
 use Rattle.mot_endpoints.specs.Types.{IsTyped, IsUntyped}
+use Rattle.mot_folder.specs.Guard.{guard_of}
+use Rattle.mot_folder.specs.declared.guard.Guard.{Guard}
 use Rattle.mot_numbers.specs.declared.refusal.Refusal.{Refusal}
 use Rattle.mot_numbers.specs.declared.refusal.Refusal.TheVariants.{DeviceFault}
 use Rattle.mot_outcome.specs.Outcome.{OnFile}
@@ -18,7 +20,7 @@ use Rattle.mot_sync_command.specs.Syncing.{Syncs}
 use Rattle.mot_sync_command.specs.Trying.{Tries}
 
 -- a dry run tries it on a copy
-abbrev pub SyncsBy : (dry_run : Bool) → List SuffixType → (allows : Bool)
+abbrev pub SyncsBy : (dry_run : Bool) → List SuffixType → (guard : Guard)
     → (folder then_folder : FolderView) → (start now : State) → (all : Bool) → Option Refusal
     → (old new : Option (List ℕ)) → Type 0
 SyncsBy false = Syncs
@@ -31,7 +33,7 @@ module _ {S F : Type 0} {start : Ghosts S F} where
       → (old new : Option (List ℕ)) → UsedDisk S F start → Type 0
   SyncsTo table task all ending old new = OnFile (λ disk beside. (then_folder : FolderView)
       × (then_folder.calls ≡ beside.folder.all) × SinceOpened (λ opened now.
-      SyncsBy task.dry_run table task.rules.allow_empty
+      SyncsBy task.dry_run table (guard_of task.rules.allow_empty task.rules.keep_most)
       (folder_at task.folder.now task.rules.at_once []) then_folder opened now all ending old new) disk)
 
   -- the same by its file of suffixes

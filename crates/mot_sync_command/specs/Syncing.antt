@@ -6,6 +6,7 @@ use Rattle.disk_model.specs.Disk.{State}
 use Rattle.mot_update.specs.Ending.{EndsBy, Leaves}
 use Rattle.mot_log.specs.Text.{met_line}
 use Rattle.mot_events.specs.declared.event.LookEvent.{LookEvent}
+use Rattle.mot_folder.specs.declared.guard.Guard.{Guard}
 use Rattle.mot_folder.specs.Looked.{IsLook, TellsRightly}
 use Rattle.mot_folder.specs.declared.known.Known.{Known}
 use Rattle.mot_journal.specs.Image.{Standing, half_of}
@@ -32,7 +33,7 @@ pub record IsEqual (s : Standing) (names : List (List ℕ)) (wanted : List Wante
 
 -- In these a folder was looked at, by these types, where it was allowed or not that the carousel
 -- gets empty. What it gave the calls tell that were made of it.
-module _ (types : List SuffixType) (allows : Bool) (folder then_folder : FolderView)
+module _ (types : List SuffixType) (guard : Guard) (folder then_folder : FolderView)
     (start now : State) where
   -- What a look made of a disk that stood for s: whether all of it is right, what broke it off, and
   -- what was told of it.
@@ -45,7 +46,7 @@ module _ (types : List SuffixType) (allows : Bool) (folder then_folder : FolderV
     pub wanted : List Wanted
     -- no file was known before it: so none was passed over
     pub known : List Known
-    pub look : GaveSo folder then_folder (λ given. IsLook types allows folder.path given s.carousel
+    pub look : GaveSo folder then_folder (λ given. IsLook types guard folder.path given s.carousel
         commands marks fault names wanted all entries [] known)
     -- what is told of a command is what comes of it, in the layout of the records of the disk
     pub right : TellsRightly (layout_of (half_of s.geometry start.bytes)) s commands entries

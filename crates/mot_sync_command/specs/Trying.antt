@@ -7,6 +7,7 @@ use Rattle.disk_store.specs.Ram.{ram_state}
 use Rattle.disk_store.specs.declared.memory.ram.RamDisk.{RamDisk}
 use Rattle.mot_sync_command.specs.Syncing.{Syncs}
 use Rattle.mot_update.specs.Opening.{IsUnopened, OfStanding}
+use Rattle.mot_folder.specs.declared.guard.Guard.{Guard}
 use Rattle.mot_numbers.specs.Geometry.{length_of}
 use Rattle.mot_numbers.specs.declared.refusal.Refusal.{Refusal}
 use Rattle.mot_numbers.specs.declared.refusal.Refusal.TheVariants.{DeviceFault, OutOfMemory}
@@ -31,7 +32,7 @@ IsUncopied refusal start now = IsUnopened refusal start now
 
 -- In these a folder was looked at, by these types, where it was allowed or not that the carousel
 -- gets empty.
-module _ (types : List SuffixType) (allows : Bool) (folder then_folder : FolderView)
+module _ (types : List SuffixType) (guard : Guard) (folder then_folder : FolderView)
     (start now : State) where
   -- the carousel of a copy was made equal to the folder
   pub record SyncsCopy (all : Bool) (ending : Option Refusal) (old new : Option (List ℕ)) :
@@ -39,7 +40,7 @@ module _ (types : List SuffixType) (allows : Bool) (folder then_folder : FolderV
     pub first : RamDisk
     pub last : RamDisk
     pub copy : IsCopy first start now
-    pub synced : Syncs types allows folder then_folder (ram_state first) (ram_state last) all ending old
+    pub synced : Syncs types guard folder then_folder (ram_state first) (ram_state last) all ending old
         new
 
   -- The disk itself was only synced and read. There was no copy of it, and nothing was printed; or

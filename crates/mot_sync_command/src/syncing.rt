@@ -5,6 +5,7 @@ ghost use Rattle.std.specs.Io.KnownBytes.{Appends};
 ghost use Rattle.disk_model.specs.Disk.{KeepsLength};
 ghost use Rattle.mot_log.specs.Text.{met_line};
 ghost use Rattle.mot_feed.specs.Feeding.{IsFeedFault};
+ghost use Rattle.mot_folder.specs.Guard.{guard_of};
 ghost use Rattle.mot_journal.specs.Image.{Standing};
 ghost use Rattle.mot_numbers.specs.declared.refusal.Refusal.TheVariants.{WriteFault};
 ghost use Rattle.mot_outcome.specs.Outcome.{Concludes, Opens};
@@ -25,7 +26,7 @@ use mot_cli::SyncTask;
 use mot_endpoints::{Cause, Host, Machine, file_types};
 use mot_events::LookEvent;
 use mot_files::{CallLog, System};
-use mot_folder::{FileTypes, Folder, KnownFiles, look_at_folder};
+use mot_folder::{FileTypes, Folder, Guard, KnownFiles, look_at_folder};
 use mot_log::add_met_line;
 use mot_numbers::Refusal;
 use mot_outcome::{Beside, Finished, clear_after, write_bytes, write_last};
@@ -78,12 +79,14 @@ fn sync_shelf<Y: System + Drop, D: Disk, W: Write>(
     log: &mut W,
 ) -> (Ended<D, bool>, Option<Cause>, CallLog)
     ensures { (then_folder : FolderView) × (then_folder.calls ≡ result.2.all)
-        × SyncsBy task.now.dry_run types.now task.now.rules.allow_empty
+        × SyncsBy task.now.dry_run types.now
+        (guard_of task.now.rules.allow_empty task.now.rules.keep_most)
         (view Y.calls shelf.entry) then_folder (D.state disk)
         (D.state result.0.disk) (result_unwrap_or result.0.result false)
         (fault_of result.0.result) (W.contents log.old) (W.contents log.new) }
 {
-    let mut folder = Folder::new(alloc, shelf, types, task.rules.allow_empty);
+    let guard = Guard::of(task.rules.allow_empty, task.rules.keep_most);
+    let mut folder = Folder::new(alloc, shelf, types, guard);
     let ended = sync_or_try(alloc, disk, &mut folder, task.dry_run, log);
     let cause = Cause::of_folder(folder.shelf.fault());
     (ended, cause, folder.shelf.into_system().into_calls())
@@ -97,7 +100,7 @@ pub fn sync_disk<S: System + Drop, D: Disk, L: Write>(
     folder: &mut Folder<'_, S>,
     log: &mut L,
 ) -> Ended<D, bool>
-    ensures { Syncs folder.old.types.now folder.old.allows_empty
+    ensures { Syncs folder.old.types.now folder.old.guard
         (view S.calls folder.old.shelf) (view S.calls folder.new.shelf)
         (D.state disk) (D.state result.disk)
         (result_unwrap_or result.result false) (fault_of result.result)
@@ -135,7 +138,7 @@ fn look_and_tell<S: System + Drop, D: Disk, L: Write>(
         → (D.state server.new.disk).IsHonest
         → GaveSo (view S.calls folder.old.shelf) (view S.calls folder.new.shelf) (λ given.
         LooksAndTells server.old server.new (D.state server.old.disk)
-        (D.state server.new.disk) s folder.old.types.now folder.old.allows_empty
+        (D.state server.new.disk) s folder.old.types.now folder.old.guard
         (reader_path folder.old.shelf) given folder.old.files.known.items
         (L.contents log.old) (L.contents log.new) result) }
 {

@@ -23,7 +23,7 @@ pub(crate) fn sync_or_try<S: System + Drop, D: Disk, L: Write>(
     dry_run: bool,
     log: &mut L,
 ) -> Ended<D, bool>
-    ensures { SyncsBy dry_run folder.old.types.now folder.old.allows_empty
+    ensures { SyncsBy dry_run folder.old.types.now folder.old.guard
         (view S.calls folder.old.shelf) (view S.calls folder.new.shelf)
         (D.state disk) (D.state result.disk)
         (result_unwrap_or result.result false) (fault_of result.result)
@@ -44,7 +44,7 @@ fn try_disk<S: System + Drop, D: Disk, L: Write>(
     folder: &mut Folder<'_, S>,
     log: &mut L,
 ) -> Ended<D, bool>
-    ensures { Tries folder.old.types.now folder.old.allows_empty
+    ensures { Tries folder.old.types.now folder.old.guard
         (view S.calls folder.old.shelf) (view S.calls folder.new.shelf)
         (D.state disk) (D.state result.disk)
         (result_unwrap_or result.result false) (fault_of result.result)

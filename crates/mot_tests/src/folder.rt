@@ -4,7 +4,7 @@ use crate::expecting::expect;
 use mot_base::{Geometry, Refusal};
 use mot_events::LookEvent;
 use mot_files::Kind;
-use mot_folder::{FileTypes, Folder, look_at_folder};
+use mot_folder::{FileTypes, Folder, Guard, look_at_folder};
 use mot_log::add_met_line;
 use mot_memory_files::{MachineSystem, World};
 use mot_shelf::FolderReader;
@@ -79,7 +79,8 @@ fn told_of(
     let world = RefCell::new(world);
     let types = FileTypes::new(alloc)?;
     let shelf = FolderReader::new(MachineSystem::new(&world), "folder", true);
-    let mut folder = Folder::new(alloc, shelf, &types, allows_empty);
+    let guard = Guard::of(allows_empty, true);
+    let mut folder = Folder::new(alloc, shelf, &types, guard);
     look_at_folder(alloc, server, &mut folder)?;
     lines_of(alloc, folder.report.events.as_slice())
 }

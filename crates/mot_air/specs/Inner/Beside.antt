@@ -25,7 +25,7 @@ abbrev pub tale_aired : {S T : Type 0} → (S → List Call) → (T → List Cal
     → (refused : Bool) → FolderView → SpoolView → Tale
 tale_aired calls line_calls airing how refused folder lines = tale_with
     (watched airing.folder (λ followed. watch_in how (reader_path followed.shelf) followed.types.now
-    followed.allows_empty))
+    followed.guard))
     (option_map (λ (l : LineFolder _). (l.hand, l.every - 1)) airing.lines) how refused
     (folder_in calls airing.folder) folder (lines_in line_calls airing.lines) lines
 

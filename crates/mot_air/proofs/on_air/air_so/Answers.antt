@@ -28,7 +28,7 @@ pub returns-in-Some : goal.returns-in-Some
 returns-in-Some g c =
     let out = c.play_and_answer.result in
     subst (AirsSo g.Y.System.calls (watched c.args.airing.folder (λ followed. watch_in c.args.how
-    (reader_path followed.shelf) followed.types.now followed.allows_empty)) c.args.how
+    (reader_path followed.shelf) followed.types.now followed.guard)) c.args.how
     out.any_refused (folder_in g.F.System.calls c.args.airing.folder) out.beside
     (fault_of out.ended.result) (g.O.Outlet.writes c.args.outlet.now)
     (g.O.Outlet.writes c.play_and_answer.new.outlet) (g.D.Disk.state c.args.disk)
@@ -38,7 +38,7 @@ pub returns-in-None : goal.returns-in-None
 returns-in-None g c =
     let out = c.play_disk.result in
     subst (AirsSo g.Y.System.calls (watched c.args.airing.folder (λ followed. watch_in c.args.how
-    (reader_path followed.shelf) followed.types.now followed.allows_empty)) c.args.how
+    (reader_path followed.shelf) followed.types.now followed.guard)) c.args.how
     out.any_refused (folder_in g.F.System.calls c.args.airing.folder) out.beside
     (fault_of out.ended.result) (g.O.Outlet.writes c.args.outlet.now)
     (g.O.Outlet.writes c.play_disk.new.outlet) (g.D.Disk.state c.args.disk)

@@ -40,12 +40,12 @@ returns-in-Some g c =
               (plays_as _ _ (lines_retold how c.looks_at-update.result
               (view g.S.System.calls c.in-Some.followed.shelf)
               (lines_at place.path.now (g.F.System.calls place.system))
-              (λ (u : _). watch (reader_path u.folder.shelf) u.folder.types.now u.folder.allows_empty
+              (λ (u : _). watch (reader_path u.folder.shelf) u.folder.types.now u.folder.guard
               u.every u.within)
               (λ (u : _). so_far u.left (view g.S.System.calls u.folder.shelf) u.any_refused
               u.folder.files.known.items)
               (watch_in how (reader_path c.in-Some.followed.shelf) c.in-Some.followed.types.now
-              c.in-Some.followed.allows_empty)
+              c.in-Some.followed.guard)
               out.any_refused c.looks_at-update.ensures.watch c.looks_at-update.ensures.none
               (c.args.lines.every - 1) c.args.lines.hand told.0
               (ap (λ (u : _). u.any_refused) told.1 ∙ sym c.looking.ensures.refused))

@@ -26,12 +26,12 @@ returns-in-Some g c =
           handed_out g.D.Disk.state _ how before after start ended out.ended c.looking.ensures.ended
               (plays_as _ _ (looks_retold how c.looks_at-update.result
               (view g.S.System.calls c.in-Some.followed.shelf) (lines_at [] [])
-              (λ (u : _). watch (reader_path u.folder.shelf) u.folder.types.now u.folder.allows_empty
+              (λ (u : _). watch (reader_path u.folder.shelf) u.folder.types.now u.folder.guard
               u.every u.within)
               (λ (u : _). so_far u.left (view g.S.System.calls u.folder.shelf) u.any_refused
               u.folder.files.known.items)
               (watch_in how (reader_path c.in-Some.followed.shelf) c.in-Some.followed.types.now
-              c.in-Some.followed.allows_empty)
+              c.in-Some.followed.guard)
               out.any_refused c.looks_at-update.ensures.watch c.looks_at-update.ensures.none
               looks (sym c.looking.ensures.refused))
               how (fault_of ended.result) before after start (g.D.Disk.state ended.disk)

@@ -1,20 +1,23 @@
 use Rattle.std.proofs.Common.{◌≡◌, ◌∙◌, ◌++◌, ℕ, [], ◌∷◌, ap, not, refl, subst, sym}
-use Rattle.std.proofs.Common.{Bool, true, List, Option}
+use Rattle.std.proofs.Common.{true, List, Option}
 use Rattle.std.proofs.Common.{inl, length}
 use Rattle.disk_model.proofs.Laws.{unchanged_none}
 use Rattle.mot_folder.specs.declared.known.Known.{Known}
 use Rattle.mot_folder.specs.Listed.{IsListing}
 use Rattle.mot_events.specs.Events.{event_of}
 use Rattle.mot_events.specs.declared.event.LookEvent.{LookEvent}
-use Rattle.mot_events.specs.declared.event.Met.TheVariants.{Kept}
 use Rattle.mot_events.specs.declared.event.Why.TheVariants.{Unsaid}
-use Rattle.mot_folder.specs.Log.{ReportTells, unlisted_for}
+use Rattle.mot_folder.specs.Log.{ReportTells, of_look, unlisted_for}
 use Rattle.mot_folder.specs.declared.report.Report.{Report}
-use Rattle.mot_folder.specs.Looked.{HasLookedAtFolder, IsUnlisted, is_kept, kept, listed}
+use Rattle.mot_folder.specs.Guard.{going, is_kept, kept_so}
+use Rattle.mot_folder.specs.Inner.Notes.{unknown_objects}
+use Rattle.mot_folder.specs.Looked.{HasLookedAtFolder, IsUnlisted, kept, listed}
 use Rattle.mot_folder.specs.Looked.{unlisted}
 use Rattle.mot_folder.specs.Looked as look
 use Rattle.mot_objects.specs.declared.carousel.Carousel as memory
-use Rattle.mot_folder.proofs.Kept.{kept_as_counted, none_named}
+use Rattle.mot_objects.specs.declared.object.Object.{Object}
+use Rattle.mot_folder.proofs.Kept.{as_counted, kept_no_image, kept_of_look}
+use Rattle.mot_folder.specs.declared.guard.Guard.{Guard}
 use Rattle.mot_folder.proofs.Nameless.{nameless_none}
 use Rattle.mot_folder.proofs.Stages.{is_listed}
 use Rattle.mot_folder.proofs.Log.{images_same, look-more, tells_none}
@@ -35,18 +38,18 @@ use Rattle.mot_update.proofs.Laws.{has_read}
 
 -- a look of no command
 of_nothing : {D : Type 0} (old new : ServerView D) (start now : State) (s : Standing)
-    (types : List SuffixType) (allows : Bool) (path : List ℕ) (given : Given) (report : Report)
-    (fault : Option Refusal) (known : List Known) (entries : List LookEvent)
+    (types : List SuffixType) (guard : Guard) (path : List ℕ) (given : Given) (report : Report)
+    (names : List (List ℕ)) (fault : Option Refusal) (known : List Known) (entries : List LookEvent)
     → HasRun old new start now s [] [] fault
-    → look.IsLook types allows path given s.carousel [] [] fault [] [] (not report.any_refused) entries
-    known known
+    → look.IsLook types guard path given s.carousel [] [] fault names [] (not report.any_refused)
+    entries known known
     → ReportTells report entries
-    → HasLookedAtFolder old new start now s types allows path given report fault known known
-of_nothing old new start now s types allows path given report fault known entries run look told = record {
+    → HasLookedAtFolder old new start now s types guard path given report fault known known
+of_nothing old new start now s types guard path given report names fault known entries run look told = record {
   commands = [];
   marks = [];
   run = run;
-  names = [];
+  names = names;
   wanted = [];
   entries = entries;
   look = look;
@@ -62,8 +65,9 @@ begins old begun new given asks gives =
 
 pub look_at_names-requires : goal.look_at_names-requires
 look_at_names-requires g c = record {
-  updates = ap (λ (k : memory.Carousel). is_kept c.args.folder.now.allows_empty
-      c.in-Ok.names.names.items (length k.objects.items)) (sym c.carousel-2.ensures.value)
+  updates = ap (λ (k : memory.Carousel). is_kept c.args.folder.now.guard c.in-Ok.names.names.items
+      (length (unknown_objects c.in-Ok.names.names.items k.objects.items))
+      (length k.objects.items)) (sym c.carousel-2.ensures.value)
       ∙ sym c.if-is_kept.ensures;
 }
 
@@ -80,7 +84,7 @@ returns-in-Err-clause-looked g c = λ s holds honest.
     let fault = fault_of c.end_unlisted.result in (
       lists.0,
       begins _ _ _ lists.0 (c.begin.ensures.asks nothing) lists.1,
-      of_nothing old old state state s _ _ _ _ _ fault _ (told.entries ++ last ∷ [])
+      of_nothing old old state state s _ _ _ _ _ [] fault _ (told.entries ++ last ∷ [])
           (has_read old old state state s fault
           (g.met.D.Disk.sound old.disk honest) refl refl honest (unchanged_none state) holds).0
           (unlisted refusal (subst (λ p. IsUnlisted c.args.folder.now.types.now p
@@ -97,7 +101,7 @@ pub returns-then-is_kept-clause-looked : goal.returns-then-is_kept-clause-looked
 returns-then-is_kept-clause-looked g c = λ s holds honest.
     let old = c.args.server.now in
     let state = g.D.Disk.state old.disk in
-    let allows = c.args.folder.now.allows_empty in
+    let guard = c.args.folder.now.guard in
     let types = c.args.folder.now.types.now in
     let given = c.in-Ok.ensures.0 in
     let lists = c.in-Ok.ensures.2.0 in
@@ -105,27 +109,32 @@ returns-then-is_kept-clause-looked g c = λ s holds honest.
     let names = c.in-Ok.names.names.items in
     let told = lists.later.told [] (tells_none c.begin-2.new.self c.begin-2.ensures.told) in
     let same = lists.later.same ∙ c.begin.ensures.same in
-    let is : is_kept allows names (length s.carousel.objects) ≡ true =
-    kept_as_counted allows names old.view s holds.agrees
-    ∙ ap (λ (k : memory.Carousel). is_kept allows names (length k.objects.items))
-    (sym c.carousel-2.ensures.value)
+    let counts : (os : List Object) → ℕ = λ os. length (unknown_objects names os) in
+    let is : is_kept guard names (going names s.carousel) (length s.carousel.objects) ≡ true =
+    as_counted (is_kept guard names) names old.view s holds.agrees
+    ∙ ap (λ (k : memory.Carousel). is_kept guard names (counts k.objects.items)
+    (length k.objects.items)) (sym c.carousel-2.ensures.value)
     ∙ sym c.if-is_kept.ensures in
-    let none = none_named allows names (length s.carousel.objects) is in
+    let all = length (unknown_objects names c.carousel-3.result.now.objects.items) in
+    let objects = length c.carousel-3.result.now.objects.items in
+    let last = event_of path (kept_so names all objects) in
     let fault = fault_of c.end_kept.result in (
       given,
       begins _ _ _ given (c.begin.ensures.asks nothing) c.in-Ok.ensures.1,
-      of_nothing old old state state s _ _ _ _ _ fault _ (told.entries ++ event_of path Kept ∷ [])
+      of_nothing old old state state s _ _ _ _ _ names fault _ (told.entries ++ last ∷ [])
           (has_read old old state state s fault
           (g.met.D.Disk.sound old.disk honest) refl refl honest (unchanged_none state) holds).0
-          (kept
-          (subst (λ n. IsListing types (reader_path c.args.folder.now.shelf) given n) none
-          (subst (λ p. IsListing types p given names) c.begin.ensures.same lists.listing))
-          (subst (λ n. is_kept allows n (length s.carousel.objects) ≡ true) none is)
+          (kept (subst (λ p. IsListing types p given names) c.begin.ensures.same lists.listing) is
           (ap not c.end_kept.ensures.any) c.end_kept.ensures.fault refl
-          (look-more told.entries (event_of path Kept ∷ [])
-          ∙ ap (λ l. l ++ event_of path Kept ∷ []) told.are
-          ∙ ap (λ n. event_of n Kept ∷ []) same)
-          (images_same told.entries (event_of path Kept) refl ∙ told.images) refl)
+          (look-more told.entries (last ∷ [])
+          ∙ ap (λ l. l ++ of_look (last ∷ [])) told.are ∙ kept_of_look path all objects names
+          ∙ ap (λ n. event_of n (kept_so names all objects) ∷ []) same
+          ∙ ap (λ (k : memory.Carousel). event_of (reader_path c.args.folder.now.shelf)
+          (kept_so names (counts k.objects.items) (length k.objects.items)) ∷ [])
+          c.carousel-3.ensures.value
+          ∙ sym (as_counted (λ n m. event_of (reader_path c.args.folder.now.shelf)
+          (kept_so names n m) ∷ []) names old.view s holds.agrees))
+          (images_same told.entries last (kept_no_image path all objects names) ∙ told.images) refl)
           (c.end_kept.ensures.told told.entries told.told),
     )
 
@@ -147,7 +156,7 @@ returns-clause-looked g c = λ s holds honest.
       x.0,
       x.1,
       subst (λ p. HasLookedAtFolder old new (state old.disk) (state new.disk) s first.types.now
-          first.allows_empty p x.0 last.report (fault_of c.look_at_names.result)
+          first.guard p x.0 last.report (fault_of c.look_at_names.result)
           first.files.known.items last.files.known.items)
           (lists.later.same ∙ c.begin.ensures.same) x.2,
     )

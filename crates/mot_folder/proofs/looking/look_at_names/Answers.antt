@@ -15,12 +15,14 @@ use Rattle.std.specs.List.{AllByRecursion}
 use Rattle.mot_folder.specs.Listed.{IsListing}
 use Rattle.mot_folder.specs.Log.{TellsOf}
 use Rattle.mot_folder.specs.declared.report.Report.{Report}
-use Rattle.mot_folder.specs.Looked.{HasLookedAtFolder, is_kept, listed}
+use Rattle.mot_folder.specs.Guard.{going, is_kept}
+use Rattle.mot_folder.specs.Looked.{HasLookedAtFolder, listed}
+use Rattle.mot_folder.specs.declared.guard.Guard.{Guard}
 use Rattle.mot_objects.specs.Carousel.{Carousel}
 use Rattle.mot_objects.specs.declared.carousel.Carousel as memory
 use Rattle.mot_objects.specs.declared.object.Object.{Object}
 use Rattle.mot_repository.specs.Repository.{Agrees, RepositoryView}
-use Rattle.mot_folder.proofs.Kept.{kept_as_counted}
+use Rattle.mot_folder.proofs.Kept.{as_counted}
 use Rattle.mot_folder.proofs.Order.{ordered_differ}
 use Rattle.mot_folder.proofs.Taken.{fine_is, look_begins, taken_so}
 use Rattle.mot_folder.proofs.looking.look_at_names.Goals as goal
@@ -64,10 +66,10 @@ run_without_memory old new start now s commands marks run = record {
 
 -- a look of these names
 of_names : {D : Type 0} {waiting : ℕ} {fine : Bool} (old new : ServerView D) (start now : State) (s : Standing)
-    (types : List SuffixType) (allows : Bool) (path : List ℕ) (given : Given) (report : Report)
+    (types : List SuffixType) (guard : Guard) (path : List ℕ) (given : Given) (report : Report)
     (names : List (List ℕ)) (fault : Option Refusal) (known after : List Known) → AreShown names
     → IsListing types path given names
-    → is_kept allows names (length s.carousel.objects) ≡ false
+    → is_kept guard names (going names s.carousel) (length s.carousel.objects) ≡ false
     → (looked : HasLooked old new start now s names 0 None None fine fault)
     → (seen : List (List ℕ)) → (fault ≡ None → seen ≡ names)
     → (report.any_without_memory ≡ true → fault ≢ None)
@@ -75,8 +77,8 @@ of_names : {D : Type 0} {waiting : ℕ} {fine : Bool} (old new : ServerView D) (
     → AllByRecursion (IsPassedOver known s.carousel) given.unchanged
     → AllByRecursion (ComesFrom known given looked.runs.answers looked.runs.run.leaves.last.carousel)
     after
-    → HasLookedAtFolder old new start now s types allows path given report fault known after
-of_names old new start now s types allows path given report names fault known after shown listing
+    → HasLookedAtFolder old new start now s types guard path given report fault known after
+of_names old new start now s types guard path given report names fault known after shown listing
     updates looked seen all without told passed comes = record {
       commands = looked.runs.commands;
       marks = looked.runs.marks;
@@ -127,10 +129,10 @@ without_memory old new start now s names fine looked = record {
 
 -- names that were gone over to the last, where memory may have been wanting for a line
 listed_whole : {D : Type 0} {waiting : ℕ} {fine : Bool} (old new : ServerView D) (start now : State) (s : Standing)
-    (types : List SuffixType) (allows : Bool) (path : List ℕ) (given : Given) (report : Report)
+    (types : List SuffixType) (guard : Guard) (path : List ℕ) (given : Given) (report : Report)
     (names : List (List ℕ)) (known after : List Known) → AreShown names
     → IsListing types path given names
-    → is_kept allows names (length s.carousel.objects) ≡ false
+    → is_kept guard names (going names s.carousel) (length s.carousel.objects) ≡ false
     → (looked : HasLooked old new start now s names 0 None None fine None)
     → TellsOf types given report waiting names looked.runs.answers looked.wanted
     → AllByRecursion (IsPassedOver known s.carousel) given.unchanged
@@ -138,18 +140,18 @@ listed_whole : {D : Type 0} {waiting : ℕ} {fine : Bool} (old new : ServerView 
     after
     → (r : Result Unit Refusal) → IfErr r (λ e. e ≡ OutOfMemory)
     → (IsOk r → report.any_without_memory ≡ false)
-    → HasLookedAtFolder old new start now s types allows path given report (fault_of r) known after
+    → HasLookedAtFolder old new start now s types guard path given report (fault_of r) known after
 unfolding without_memory run_without_memory
-listed_whole old new start now s types allows path given report names known after shown listing
+listed_whole old new start now s types guard path given report names known after shown listing
     updates looked told passed comes (Ok x) is memory =
-    of_names old new start now s types allows path given report names None known after shown listing
+    of_names old new start now s types guard path given report names None known after shown listing
     updates looked names (λ e. refl)
     (λ without. absurd (let no : true ≡ false = sym without ∙ memory refl in cc)) told passed comes
-listed_whole {fine = fine} old new start now s types allows path given report names known after shown
+listed_whole {fine = fine} old new start now s types guard path given report names known after shown
     listing updates looked told passed comes (Err e) is memory =
-    subst (λ f. HasLookedAtFolder old new start now s types allows path given report (Some f) known
+    subst (λ f. HasLookedAtFolder old new start now s types guard path given report (Some f) known
     after) (sym is)
-    (of_names old new start now s types allows path given report names (Some OutOfMemory) known after
+    (of_names old new start now s types guard path given report names (Some OutOfMemory) known after
     shown listing updates (without_memory old new start now s names fine looked) names
     (λ none. absurd (cc (none))) (λ without none. cc (none)) told passed comes)
 
@@ -207,9 +209,9 @@ returns-in_err-look-clause-looked g c = λ since first gives listed s holds hone
     let types = c.args.folder.now.types.now in
     let path = reader_path c.args.folder.now.shelf in
     let names = c.args.folder.now.names.names.items in
-    let allows = c.args.folder.now.allows_empty in
-    let updates : is_kept allows names (length s.carousel.objects) ≡ false =
-    kept_as_counted allows names old.view s holds.agrees ∙ c.requires.updates in
+    let guard = c.args.folder.now.guard in
+    let updates : is_kept guard names (going names s.carousel) (length s.carousel.objects) ≡ false =
+    as_counted (is_kept guard names) names old.view s holds.agrees ∙ c.requires.updates in
     let source = c.look.new.source in
     let seen = take source.place names in
     let looks = c.in_err-look.ensures.looked s holds honest in
@@ -242,9 +244,9 @@ returns-in_err-look-clause-looked g c = λ since first gives listed s holds hone
       given,
       x.1,
       subst (λ (r : Result Unit Refusal). HasLookedAtFolder old new (state old.disk) (state new.disk)
-          s types allows path given source.report (fault_of r) known source.files.known.items)
+          s types guard path given source.report (fault_of r) known source.files.known.items)
           (sym (same_error c.from_residual.result c.in_err-look.field-0.0 c.from_residual.ensures.1))
-          (of_names old new (state old.disk) (state new.disk) s types allows path given source.report names
+          (of_names old new (state old.disk) (state new.disk) s types guard path given source.report names
           fault known source.files.known.items listed.shown is.listing updates looks.0 seen
           (λ none. absurd (cc (none))) (λ without none. cc (none)) is.tells
           (all_on (passed_over known source.files.known.items s.carousel
@@ -263,9 +265,9 @@ returns-clause-looked g c = λ since first gives listed s holds honest.
     let types = c.args.folder.now.types.now in
     let path = reader_path c.args.folder.now.shelf in
     let names = c.args.folder.now.names.names.items in
-    let allows = c.args.folder.now.allows_empty in
-    let updates : is_kept allows names (length s.carousel.objects) ≡ false =
-    kept_as_counted allows names old.view s holds.agrees ∙ c.requires.updates in
+    let guard = c.args.folder.now.guard in
+    let updates : is_kept guard names (going names s.carousel) (length s.carousel.objects) ≡ false =
+    as_counted (is_kept guard names) names old.view s holds.agrees ∙ c.requires.updates in
     let source = c.look.new.source in
     let looks = c.in_ok-look.ensures.looked s holds honest in
     let files = c.start.new.self in
@@ -309,7 +311,7 @@ returns-clause-looked g c = λ since first gives listed s holds honest.
     (sym is.same_known) started_so in (
       given,
       x.1,
-      listed_whole old new (state old.disk) (state new.disk) s types allows path given report
+      listed_whole old new (state old.disk) (state new.disk) s types guard path given report
           names known c.finish.new.self.known.items listed.shown is.listing updates looks.0 told
           (all_on (passed_over known source.files.known.items s.carousel were) given.unchanged x.2.1.passed)
           (all_on (comes_from known given source.files looks.0.runs.answers last.carousel

@@ -5,6 +5,8 @@ use Rattle.disk_model.specs.Disk.{KeepsLength, State}
 use Rattle.disk_store.proofs.Laws.{since_opened}
 use Rattle.disk_store.specs.Begun.{begun_state}
 use Rattle.mot_endpoints.specs.Opened.{Need, if_given}
+use Rattle.mot_folder.specs.Guard.{guard_of}
+use Rattle.mot_folder.specs.declared.guard.Guard.{Guard}
 use Rattle.mot_numbers.specs.declared.refusal.Refusal.{Refusal}
 use Rattle.mot_outcome.proofs.Laws.{begun_first, both_met, concludes_so}
 use Rattle.mot_outcome.specs.Outcome.{Concludes, Opens}
@@ -16,13 +18,13 @@ use Rattle.mot_sync_command.proofs.syncing.sync.Goals as goal
 use Rattle.mot_sync_command.specs.Commands.{IsUnsynced, SyncsBy, SyncsTask, synced_with}
 
 -- whichever it was, the disk is as long as before
-keeps_by : (dry_run : Bool) (table : List SuffixType) (allows : Bool)
+keeps_by : (dry_run : Bool) (table : List SuffixType) (guard : Guard)
     (folder then_folder : FolderView) (start now : State) (all : Bool) (ending : Option Refusal)
     (old new : Option (List ℕ))
-    → SyncsBy dry_run table allows folder then_folder start now all ending old new
+    → SyncsBy dry_run table guard folder then_folder start now all ending old new
     → KeepsLength start now
-keeps_by false table allows folder then_folder start now all ending old new is = is.keeps
-keeps_by true table allows folder then_folder start now all ending old new is = is.0.keeps
+keeps_by false table guard folder then_folder start now all ending old new is = is.keeps
+keeps_by true table guard folder then_folder start now all ending old new is = is.0.keeps
 
 pub returns-in-Err-clause-opens : goal.returns-in-Err-clause-opens
 returns-in-Err-clause-opens g c =
@@ -49,7 +51,7 @@ returns-in-Ok-disk-clause-ended g c =
     let ended = c.sync_shelf-ended.result.0 in
     let types = c.in-Ok.types in
     let task = c.args.task.now in
-    let allows = task.rules.allow_empty in
+    let guard = guard_of task.rules.allow_empty task.rules.keep_most in
     let at = folder_at task.folder.now task.rules.at_once [] in
     let old = g.W.Write.contents c.args.log.now in
     let new = g.W.Write.contents c.sync_shelf-ended.new.log in
@@ -70,10 +72,10 @@ returns-in-Ok-disk-clause-ended g c =
         after,
         calls ∙ ap (λ (b : _). b.all) (sym c.folder.ensures),
         since_opened c.in-Ok-disk.disk.disk ended.disk.disk
-            (λ start now. SyncsBy task.dry_run types allows at after start now all ending old new)
+            (λ start now. SyncsBy task.dry_run types guard at after start now all ending old new)
             opens.first ended.disk.begins
-            (keeps_by task.dry_run types allows _ after _ _ all ending old new is)
-            (subst (λ (f : FolderView). SyncsBy task.dry_run types allows f after
+            (keeps_by task.dry_run types guard _ after _ _ all ending old new is)
+            (subst (λ (f : FolderView). SyncsBy task.dry_run types guard f after
             (begun_state c.in-Ok-disk.disk) (begun_state ended.disk) all ending old new)
             c.folder-shelf.ensures.view is),
       ),

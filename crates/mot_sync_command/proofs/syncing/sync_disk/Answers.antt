@@ -18,7 +18,7 @@ returns-in-Err g c =
     let folder = c.args.folder.now in
     let log = g.L.Write.contents c.args.log.now in
     let at = view g.S.System.calls folder.shelf in
-    subst (λ (e : _). Syncs folder.types.now folder.allows_empty at at (state c.args.disk)
+    subst (λ (e : _). Syncs folder.types.now folder.guard at at (state c.args.disk)
     (state e.disk)
     (result_unwrap_or e.result false) (fault_of e.result) log log)
     (sym c.unopened.ensures)
@@ -38,18 +38,18 @@ returns g c =
     let result = c.look_and_tell-result.result in
     let folder = c.args.folder.now in
     let types = folder.types.now in
-    let allows = folder.allows_empty in
+    let guard = folder.guard in
     let before = view g.S.System.calls folder.shelf in
     let after = view g.S.System.calls c.look_and_tell-result.new.folder.shelf in
     let old = g.L.Write.contents c.args.log.now in
     let new = g.L.Write.contents c.look_and_tell-result.new.log in
-    subst (λ d. Syncs types allows before after (state c.args.disk) (state d)
+    subst (λ d. Syncs types guard before after (state c.args.disk) (state d)
     (result_unwrap_or result false) (fault_of result) old new)
     (sym c.into_disk.ensures)
     (syncs state c.args.disk c.in-Ok.server c.look_and_tell-result.new.server g.met.D.Disk.sound
     opens.only_syncs opens.opened opens.calm opens.going c.geometry.ensures.valid looks.keeps
-    types allows before after old new result looks.faults (λ s holds honest.
+    types guard before after old new result looks.faults (λ s holds honest.
     subst (λ (l : List Known). GaveSo before after (λ given. LooksAndTells c.in-Ok.server
     c.look_and_tell-result.new.server (state c.in-Ok.server.disk)
-    (state c.look_and_tell-result.new.server.disk) s types allows before.path given l old new result))
+    (state c.look_and_tell-result.new.server.disk) s types guard before.path given l old new result))
     c.new.ensures.none (looks.looked s holds honest)))

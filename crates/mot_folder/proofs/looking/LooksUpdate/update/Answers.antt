@@ -42,7 +42,7 @@ updating_by : {D : Type 0} (old new : ServerView D) (start now : State) (s : Sta
     → behind.left ≡ packets_left report.any_left w.every
     → behind.refused ≡ (before.refused || report.any_refused)
     → GaveSo before.folder behind.folder (λ given. HasLookedAtFolder old new start now s w.types
-    w.allows w.path given report fault before.files behind.files)
+    w.guard w.path given report fault before.files behind.files)
     → IsUpdating (TellsWatch w after moment before behind) old new start now s fault
 updating_by old new start now s w after moment before behind report fault same due paced
     kept gave =
@@ -111,7 +111,7 @@ returns-clause-run g c = λ s holds honest.
     c.args.self.now.folder.files.known.items) _
     c.look_at_folder-result.new.folder.report
     (fault_of c.look_at_folder-result.result)
-    (ap (λ p. watch p c.args.self.now.folder.types.now c.args.self.now.folder.allows_empty
+    (ap (λ p. watch p c.args.self.now.folder.types.now c.args.self.now.folder.guard
     c.args.self.now.every c.args.self.now.within)
     (gives_path _ nothing _ looked.0 looked.1))
     (due_is c.args.self.now.left c.args.moment c.may_look.result true c.may_look.ensures
