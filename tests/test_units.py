@@ -70,6 +70,7 @@ class Units(program.Rows):
             self.expect(f"{name}: the folder of the status is made, in memory, and stays", ([str(status.parent)], ["yes"]),
                         (folders[1:], values(text, "RuntimeDirectoryPreserve")))
             self.expect(f"{name}: further options", "$ARGS", command[-1])
+            self.expect(f"{name}: most objects stay", True, "--keep-most" in command)
             self.expect(f"{name}: pauses between starts, up to half a minute", ["1", "5", "30"],
                         [it for key in ("RestartSec", "RestartSteps", "RestartMaxDelaySec") for it in values(text, key)])
             self.expect(f"{name}: a wrong command line is not tried again", ["2"], values(text, "RestartPreventExitStatus"))
