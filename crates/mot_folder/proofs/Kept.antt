@@ -1,8 +1,10 @@
 -- Whether the objects of a carousel stay, since too many would go.
 use Rattle.std.proofs.Common.{◌≡◌, ◌∙◌, ◌++◌, ℕ, [], ◌∷◌, ap, cond, refl}
-use Rattle.std.proofs.Common.{Bool, true, false, not, suc, List}
+use Rattle.std.proofs.Common.{Bool, true, false, nat_eq, not, suc, List}
 use Rattle.std.proofs.Common.{length, map}
 use Rattle.mot_events.specs.Events.{event_of}
+use Rattle.mot_events.specs.declared.event.Met.{Met}
+use Rattle.mot_events.specs.declared.event.Met.TheVariants.{Kept, KeptMost}
 use Rattle.mot_folder.specs.Guard.{going, kept_so}
 use Rattle.mot_folder.specs.Inner.Notes.{unknown_objects}
 use Rattle.mot_folder.specs.Log.{images_noted, of_look}
@@ -57,13 +59,23 @@ as_counted f names view s agrees =
 
 -- that they stay is told of the look, and of no image
 module _ (path : List ℕ) (all objects : ℕ) where
+  abbrev either : (is_empty : Bool) → Met
+  either is_empty = cond is_empty Kept (KeptMost all objects)
+
+  either_of_look : (is_empty : Bool) → of_look (event_of path (either is_empty) ∷ [])
+      ≡ event_of path (either is_empty) ∷ []
+  either_of_look true = refl
+  either_of_look false = refl
+
+  either_no_image : (is_empty : Bool) → images_noted (event_of path (either is_empty) ∷ []) ≡ []
+  either_no_image true = refl
+  either_no_image false = refl
+
   pub kept_of_look : (names : List (List ℕ))
       → of_look (event_of path (kept_so names all objects) ∷ [])
       ≡ event_of path (kept_so names all objects) ∷ []
-  kept_of_look [] = refl
-  kept_of_look (name ∷ names) = refl
+  kept_of_look names = either_of_look (nat_eq (length names) 0)
 
   pub kept_no_image : (names : List (List ℕ))
       → images_noted (event_of path (kept_so names all objects) ∷ []) ≡ []
-  kept_no_image [] = refl
-  kept_no_image (name ∷ names) = refl
+  kept_no_image names = either_no_image (nat_eq (length names) 0)

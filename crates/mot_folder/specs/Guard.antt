@@ -1,6 +1,6 @@
 -- Which looks change nothing, since too much would go.
-use Rattle.std.specs.Prelude.{ℕ, ◌/◌, ◌&&◌, ◌||◌, nat_eq, nat_lt, Bool, true, false, List, []}
-use Rattle.std.specs.Prelude.{◌∷◌, length}
+use Rattle.std.specs.Prelude.{ℕ, ◌/◌, ◌&&◌, ◌||◌, nat_eq, nat_lt, Bool, true, false, List, length}
+use Rattle.std.specs.Prelude.{if◌then◌else◌}
 use Rattle.mot_events.specs.declared.event.Met.{Met}
 use Rattle.mot_events.specs.declared.event.Met.TheVariants.{Kept, KeptMost}
 use Rattle.mot_folder.specs.declared.guard.Guard.{Guard}
@@ -35,5 +35,4 @@ is_kept Most names going objects = are_all names objects || are_most going objec
 
 -- what is told then
 abbrev pub kept_so : (names : List (List ℕ)) → (going objects : ℕ) → Met
-kept_so [] going objects = Kept
-kept_so (name ∷ names) going objects = KeptMost going objects
+kept_so names going objects = if nat_eq (length names) 0 then Kept else KeptMost going objects
