@@ -115,8 +115,8 @@ returns-then-is_kept-clause-looked g c = λ s holds honest.
     ∙ ap (λ (k : memory.Carousel). is_kept guard names (counts k.objects.items)
     (length k.objects.items)) (sym c.carousel-2.ensures.value)
     ∙ sym c.if-is_kept.ensures in
-    let all = length (unknown_objects names c.carousel-3.result.now.objects.items) in
-    let objects = length c.carousel-3.result.now.objects.items in
+    let all = length (unknown_objects names c.carousel-then-is_kept.result.now.objects.items) in
+    let objects = length c.carousel-then-is_kept.result.now.objects.items in
     let last = event_of path (kept_so names all objects) in
     let fault = fault_of c.end_kept.result in (
       given,
@@ -131,7 +131,7 @@ returns-then-is_kept-clause-looked g c = λ s holds honest.
           ∙ ap (λ n. event_of n (kept_so names all objects) ∷ []) same
           ∙ ap (λ (k : memory.Carousel). event_of (reader_path c.args.folder.now.shelf)
           (kept_so names (counts k.objects.items) (length k.objects.items)) ∷ [])
-          c.carousel-3.ensures.value
+          c.carousel-then-is_kept.ensures.value
           ∙ sym (as_counted (λ n m. event_of (reader_path c.args.folder.now.shelf)
           (kept_so names n m) ∷ []) names old.view s holds.agrees))
           (images_same told.entries last (kept_no_image path all objects names) ∙ told.images) refl)
