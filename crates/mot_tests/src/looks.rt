@@ -2,7 +2,7 @@
 use crate::disks::new_server;
 use mot_base::Geometry;
 use mot_files::Kind;
-use mot_folder::{FileTypes, Folder, look_at_folder};
+use mot_folder::{FileTypes, Folder, Guard, look_at_folder};
 use mot_memory_files::{MachineSystem, World};
 use mot_shelf::FolderReader;
 use std::alloc::{AllocError, Global};
@@ -34,7 +34,7 @@ fn looked(alloc: Global, looks: u64, age: u64) -> Result<(u64, usize), Fail> {
 fn known_after(alloc: Global, world: &RefCell<World>, looks: u64) -> Result<usize, Fail> {
     let types = FileTypes::new(alloc)?;
     let shelf = FolderReader::new(MachineSystem::new(world), "folder", true);
-    let mut folder = Folder::new(alloc, shelf, &types, false);
+    let mut folder = Folder::new(alloc, shelf, &types, Guard::Empty);
     let Ok(mut server) = new_server(alloc, &Geometry::default()) else {
         return Err(Fail::from("unopened"));
     };
