@@ -4,8 +4,10 @@ program has, and the rules find what they should.
 Where there is no promtool on the path (Debian: prometheus), its rows are left out.
 """
 import json
+import pathlib
 import re
 import shutil
+import tempfile
 
 from . import program
 from .air import AirCase
@@ -57,10 +59,17 @@ class Samples(AirCase):
 
 class Promtool(program.Rows):
     def test_rules(self):
-        """`promtool` takes the rules, and finds what tests/motcar.rules.test.yml says."""
+        """`promtool` takes the rules, as they are and with the one that is commented out, and finds what the files
+        tests/motcar.*.test.yml say."""
         if not shutil.which("promtool"):
             self.leave_out("promtool", "no promtool")
             return
-        for words in (("check", "rules", RULES), ("test", "rules", program.top / "tests/motcar.rules.test.yml")):
-            status, printed, said = program.run(["promtool", *words])
-            self.expect(f"promtool {words[0]} rules", (0, ""), (status, "" if status == 0 else (printed + said).decode()))
+        with tempfile.TemporaryDirectory() as room:
+            whole, count = re.subn(r"(?m)^  # (- alert: |  \w+: )", r"  \1", RULES.read_text())
+            self.expect("lines that are commented out", 4, count)
+            pathlib.Path(room, RULES.name).write_text(whole)
+            tests = [shutil.copy(it, room) for it in sorted((program.top / "tests").glob("motcar.*.test.yml"))]
+            self.expect("files of tests", 2, len(tests))
+            for words in (("check", "rules", RULES), ("test", "rules", *tests)):
+                status, printed, said = program.run(["promtool", *words])
+                self.expect(f"promtool {words[0]} rules", (0, ""), (status, "" if status == 0 else (printed + said).decode()))
