@@ -32,7 +32,7 @@ from tests import dab, program
 
 SYSTEMS = ("bookworm", "trixie")
 UNITS = ("motcar.service", "motcar@.service")
-PACKAGES = "systemd,prometheus-node-exporter"
+PACKAGES = "systemd,prometheus-node-exporter,rsync"
 SECONDS = 30
 # A file that was changed within so many seconds waits for the next look.
 YOUNG = 2.1

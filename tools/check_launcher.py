@@ -89,7 +89,7 @@ class Clone:
         for it in ("tools/from_help.py", "tools/version.sh", *(f"docs/help/{it}.txt" for it in ("motcar", "memory", *ON_FILES))):
             shutil.copy(top / it, self.top / it)
         (self.top / "examples/motcar.service").write_text("ExecStart=/usr/local/bin/motcar\n")
-        for it in ("motcar.sysusers", "motcar.default", "motcar-health.timer"):
+        for it in ("motcar.sysusers", "motcar.default", "motcar@.service", "motcar-health.timer"):
             (self.top / "examples" / it).touch()
         (self.top / "CHANGELOG.md").touch()
         (self.top / "README.md").write_text("[there](docs/FORMATS.md#x), [not there](CONTRIBUTING.md)\n")
@@ -433,8 +433,7 @@ def installed_and_taken_away(clone):
     files = ["bin/motcar", "share/man/man1/motcar.1", "share/motcar/README.md", "share/motcar/VERSION",
              "share/motcar/CHANGELOG.md", "share/motcar/docs/FORMATS.md", "share/bash-completion/completions/motcar",
              "share/zsh/site-functions/_motcar", "share/motcar/examples/motcar.service",
-             "share/motcar/examples/motcar.sysusers", "share/motcar/examples/motcar.default",
-             "share/motcar/examples/motcar-health.timer"]
+             *(f"share/motcar/examples/motcar{it}" for it in (".sysusers", ".default", "@.service", "-health.timer"))]
     files += [f"share/motcar/docs/help/{it}.txt" for it in ("motcar", "memory", *ON_FILES)]
     for _ in range(2):
         status, _, said = clone.run("install", str(prefix))

@@ -1,6 +1,6 @@
 #!/usr/bin/env python3
 """Looks whether the documents name what is there: README's length, the clauses in BELIEVE, links and their headings, the
-paths of the repository, and in docs/PROMISES.md each function, each label of a clause and each definition; whether
+paths of the repository; the manual's contents and options; and in docs/PROMISES.md each function, each label of a clause and each definition; whether
 their prose keeps the rules of tools/prose.py, and no sentence stands on two pages; whether each name in crates.txt is
 used by the crate that names it, and docs/ARCHITECTURE.md has a row for each crate, in that order.
 
@@ -203,7 +203,20 @@ def clauses():
         wrong.append(f"BELIEVE.md shows {len(said)} clauses of the theorem, and not two")
 
 
+def manual():
+    """The manual's contents name each heading, and its table has the options of `play`."""
+    page = (top / "docs/OPERATING.md").read_text()
+    contents = page.partition("\n## ")[0]
+    wrong.extend(f"OPERATING.md: its contents have no {it}" for it in sorted(anchors(top / "docs/OPERATING.md"))
+                 if f"(#{it})" not in contents and it != "operating-motcar")
+    table = page.partition("\n## Options of play\n")[2].partition("\n## ")[0]
+    options = re.findall(r"(?m)^ +(--[\w-]+)", (top / "docs/help/play.txt").read_text())
+    if sorted(re.findall(r"(?m)^\| `(--[\w-]+)", table)) != sorted(options):
+        wrong.append("OPERATING.md: its table has other options than docs/help/play.txt")
+
+
 clauses()
+manual()
 lines = len((top / "README.md").read_text().splitlines())
 if lines > README_LINES:
     wrong.append(f"README.md has {lines} lines, more than {README_LINES}")
