@@ -44,6 +44,13 @@ CHANGED = LOGO + b"changed"
 TAKEN, PAUSE, HEARD = 2400, 0.05, 400
 # What a failed command prints; and what the shell prints when it has run a block.
 TRAP, END = r"""trap 'printf "%s\n" "failed: $BASH_COMMAND"' ERR""", "(the block has ended)"
+# What a receiver has after a row of the table, or a block of the section.
+AFTER = {
+    "add": {b"logo.png": LOGO, b"new.png": LOGO},
+    "replace": {b"logo.png": CHANGED, b"new.png": LOGO},
+    "withdraw": {b"logo.png": CHANGED},
+    "Upload": {b"uploaded.png": LOGO},
+}
 PLANTED = {
     "a path that is not there": ("/usr/share/motcar/examples/logo.png", "/usr/local/share/motcar/examples/logo.png"),
     "a unit that is not started": ("systemctl enable --now motcar\n", "systemctl enable motcar\n"),
@@ -61,8 +68,10 @@ BROKEN = "[Service]\nExecStartPre=/bin/false\n"
 class Block:
     """Commands of a section, and the lines that the page has after them."""
 
-    def __init__(self, section, commands):
+    def __init__(self, section, commands, objects=None):
         self.section, self.commands, self.wanted = section, commands, ""
+        # (what a receiver has after them)
+        self.objects = objects
 
     @property
     def is_endless(self):
@@ -87,8 +96,9 @@ def blocks_of(page):
         elif fence is None and line.startswith("    "):
             found += [] if indented else [Block(section, "")]
             found[-1].commands += f"{line.lstrip()}\n"
-        elif fence is None and re.match(r"\| (add|replace|withdraw) one \|", line):
-            found.append(Block(section, line.split("`")[1] + "\n"))
+            found[-1].objects = AFTER.get(section)
+        elif fence is None and (change := re.match(r"\| (add|replace|withdraw) one \| `(.*)` \|", line)):
+            found.append(Block(section, f"{change[2]}\n", AFTER[change[1]]))
         indented = fence is None and line.startswith("    ")
     return found
 
@@ -197,6 +207,8 @@ class Campaign(units.Campaign):
         layer.mkdir()
         system = units.System(units.debian(options.folder or room, name), layer)
         try:
+            if system.run("sh", "-c", "command -v rsync")[0]:
+                raise Unable(f"the {name} of this folder has no rsync: remove it, so that it is made again")
             print(f"{name}: " + system.run("systemctl", "--version")[1].split("\n")[0], flush=True)
             self.pasted(name, options, system)
         finally:
@@ -224,7 +236,7 @@ class Campaign(units.Campaign):
                     break
                 reader = Multiplexer(system.place(PIPE))
                 reader.start()
-            if block.section == "Change a logo" and block.commands.startswith("cp ~/new"):
+            if block.section == "Change a logo" and not block.objects:
                 self.heard(f"{name}: on air", reader, {b"logo.png": LOGO})
                 (home / "new.png").write_bytes(LOGO)
                 (home / "logo.png").write_bytes(CHANGED)
@@ -232,8 +244,8 @@ class Campaign(units.Campaign):
                 (home / "new").mkdir(exist_ok=True)
                 (home / "new/uploaded.png").write_bytes(LOGO)
             self.paste(shell, name, block)
-            if wanted := AFTER.get(block.section, lambda _: None)(block.commands):
-                self.heard(f"{name}: on air after {block.commands.strip()}", reader, wanted)
+            if block.objects:
+                self.heard(f"{name}: on air after {block.commands.strip()}", reader, block.objects)
         if reader:
             self.expect(f"{name}: no packet is missing", True, dab.counts_on(reader.packets()))
             reader.ends = True
@@ -242,16 +254,6 @@ class Campaign(units.Campaign):
     def heard(self, row, reader, objects):
         until(lambda: reader.has(objects), SECONDS)
         self.expect(row, True, reader.has(objects))
-
-
-def changed(commands):
-    """What a receiver has after a command of *Change a logo*."""
-    kinds = {"cp ~/new.png": {b"logo.png": LOGO, b"new.png": LOGO}, "cp ~/logo.png": {b"logo.png": CHANGED, b"new.png": LOGO},
-             "rm new.png": {b"logo.png": CHANGED}}
-    return next((wanted for begin, wanted in kinds.items() if commands.startswith(begin)), None)
-
-
-AFTER = {"Change a logo": changed, "Upload": lambda commands: {b"uploaded.png": LOGO} if commands.startswith("rsync") else None}
 
 
 def package_of(given, room):

@@ -59,17 +59,18 @@ class Samples(AirCase):
 
 class Promtool(program.Rows):
     def test_rules(self):
-        """`promtool` takes the rules, as they are and with the one that is commented out, and finds what the files
-        tests/motcar.*.test.yml say."""
+        """`promtool` takes the rules, and finds what tests/motcar.rules.test.yml says; with the rule that is commented out,
+        and tests/motcar.week.test.yml, too."""
         if not shutil.which("promtool"):
             self.leave_out("promtool", "no promtool")
             return
-        with tempfile.TemporaryDirectory() as room:
-            whole, count = re.subn(r"(?m)^  # (- alert: |  \w+: )", r"  \1", RULES.read_text())
-            self.expect("lines that are commented out", 4, count)
-            pathlib.Path(room, RULES.name).write_text(whole)
-            tests = [shutil.copy(it, room) for it in sorted((program.top / "tests").glob("motcar.*.test.yml"))]
-            self.expect("files of tests", 2, len(tests))
-            for words in (("check", "rules", RULES), ("test", "rules", *tests)):
-                status, printed, said = program.run(["promtool", *words])
-                self.expect(f"promtool {words[0]} rules", (0, ""), (status, "" if status == 0 else (printed + said).decode()))
+        whole, count = re.subn(r"(?m)^  # (- alert: |  \w+: )", r"  \1", RULES.read_text())
+        self.expect("lines that are commented out", 4, count)
+        for rules, name in (RULES.read_text(), "motcar.rules.test.yml"), (whole, "motcar.week.test.yml"):
+            with tempfile.TemporaryDirectory() as room:
+                file, test = pathlib.Path(room, RULES.name), shutil.copy(program.top / "tests" / name, room)
+                file.write_text(rules)
+                for words in (("check", "rules", file), ("test", "rules", test)):
+                    status, printed, said = program.run(["promtool", *words])
+                    self.expect(f"promtool {words[0]} rules, {name}", (0, ""),
+                                (status, "" if status == 0 else (printed + said).decode()))
