@@ -37,7 +37,7 @@ from tests import dab, program
 
 SECTIONS = ("Install", "Make a disk", "Put a folder on air", "Run it under systemd", "See that it sends", "Change a logo", "Upload")
 SECONDS = 30
-LOOKS = re.compile(r"(journalctl|grep|motcar inspect) ")
+LOOKS = re.compile(r"(journalctl|grep|motcar (inspect|health)) ")
 PIPE, LOGO = "/run/motcar/packets.pipe", (top / "examples/logo.png").read_bytes()
 CHANGED = LOGO + b"changed"
 # What the reader takes each time, and how many of the last packets tell the carousel: several turns of two logos.
@@ -151,8 +151,9 @@ class Shell:
 
 
 def plain(line):
-    """A line without what is another one in each run: the version's commit, and the number of packets."""
+    """A line without what differs from run to run: the version's commit, an age, and the number of packets."""
     line = re.sub(r"(?<=motcar )([\d.]+)\+[\w.+]+", r"\1", line.strip())
+    line = re.sub(r"^(ok: .* was written) \d+ s ago$", r"\1 N s ago", line)
     return re.sub(r"^(motcar_packets_total\S*) [1-9]\d*", r"\1 N", line)
 
 
