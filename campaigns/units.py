@@ -7,6 +7,7 @@ It starts motcar and motcar@north as the manual has it: the user by systemd-sysu
 format`, whose empty station.disk-wal is removed again. Then it looks whether both run, what stands in the journal, whether
 whole packets come out of the pipes, and how `systemd-analyze security` rates the units. The status has to be written, also
 once the other unit has stopped, and the node exporter of that Debian has to serve it by the manual's link.
+The health unit of each has one line for packets that stand still, and one once they go on.
 A wrong option has to end the unit for good, and a start that fails is tried after ever longer pauses, if systemd knows them.
 
 PROGRAM may be a Debian package: dpkg installs it, and the units are those in it. It needs root, debootstrap, and the network
@@ -31,6 +32,7 @@ from campaign import top
 from tests import dab, program
 
 SYSTEMS = ("bookworm", "trixie")
+ASKING = tuple(f"motcar-health{it}" for it in (".service", ".timer", "@.service", "@.timer"))
 UNITS = ("motcar.service", "motcar@.service")
 PACKAGES = "systemd,prometheus-node-exporter,rsync"
 SECONDS = 30
@@ -207,11 +209,29 @@ class Campaign:
                 self.start(name, it)
             self.goes_on(f"{name}, motcar", stations[0])
             self.exported(name, stations)
+            for it in stations:
+                self.asked(name, it)
             system.run("systemctl", "stop", "motcar@north")
+            self.expect(f"{name}: the timer of a station that has stopped", "inactive dead",
+                        system.state("motcar-health@north.timer"))
             self.goes_on(f"{name}, motcar beside one that has stopped", stations[0])
             self.fails(name, stations[1], int(release.split()[1]))
         finally:
             system.end()
+
+    def asked(self, name, station):
+        """The line of its health, once for packets that stand still, as nobody reads them, and once as they go on."""
+        system, unit = station.system, station.unit.replace("motcar", "motcar-health")
+        until(lambda: station.taken() and system.place(station.status).exists(), 20)
+        for age in (600, 600, 0, 0):
+            at = time.time() - age
+            os.utime(system.place(station.status), (at, at))
+            system.run("systemctl", "start", unit)
+        still = f"{station.status} was written 600 s ago: packets stand still; "
+        lines = [it[:len(still)] for it in system.journal(unit).splitlines()]
+        self.expect(f"{name}, {unit}: its lines", [still, "packets go on"], lines)
+        system.run("systemctl", "enable", "--now", f"{unit}.timer")
+        self.expect(f"{name}, {unit}.timer", "active waiting", system.state(f"{unit}.timer"))
 
     def fails(self, name, station, version):
         """A start with a wrong option, and starts without a disk."""
@@ -276,7 +296,7 @@ def install(system, options):
         shutil.copy(top / "examples/motcar.sysusers", system.place("/usr/lib/sysusers.d/motcar.conf"))
         system.run("systemd-sysusers")
         units = system.place("/etc/systemd/system")
-        for it in UNITS:
+        for it in (*UNITS, *ASKING):
             shutil.copy(top / "examples" / it, units)
     for it in UNITS if options.old_filter else ():
         text = (units / it).read_text()
