@@ -17,6 +17,8 @@ ENDING = (signal.SIGTERM, signal.SIGHUP, signal.SIGINT)
 top = pathlib.Path(__file__).resolve().parent.parent
 ON_FILES = ("format", "copy", "serve", "check", "migrate", "play", "sync", "list", "put", "withdraw", "get", "export",
             "inspect", "health")
+EXAMPLES = ("motcar.sysusers", "motcar.default", "motcar@.service", "motcar-health.service", "motcar-health@.service",
+            "motcar-health.timer", "motcar-health@.timer")
 STAND_IN = r"""#!/bin/sh
 # A stand-in for the toolchain: its proof takes PROOF seconds, or, where that is "held", until $ROOM/released is there;
 # its unproved run takes TRY seconds, or, where that is "beside", until a proof is under way. A proof writes its priority and RT_JOBS.
@@ -89,7 +91,7 @@ class Clone:
         for it in ("tools/from_help.py", "tools/version.sh", *(f"docs/help/{it}.txt" for it in ("motcar", "memory", *ON_FILES))):
             shutil.copy(top / it, self.top / it)
         (self.top / "examples/motcar.service").write_text("ExecStart=/usr/local/bin/motcar\n")
-        for it in ("motcar.sysusers", "motcar.default", "motcar@.service", "motcar-health.timer"):
+        for it in EXAMPLES:
             (self.top / "examples" / it).touch()
         (self.top / "CHANGELOG.md").touch()
         (self.top / "README.md").write_text("[there](docs/FORMATS.md#x), [not there](CONTRIBUTING.md)\n")
@@ -433,7 +435,7 @@ def installed_and_taken_away(clone):
     files = ["bin/motcar", "share/man/man1/motcar.1", "share/motcar/README.md", "share/motcar/VERSION",
              "share/motcar/CHANGELOG.md", "share/motcar/docs/FORMATS.md", "share/bash-completion/completions/motcar",
              "share/zsh/site-functions/_motcar", "share/motcar/examples/motcar.service",
-             *(f"share/motcar/examples/motcar{it}" for it in (".sysusers", ".default", "@.service", "-health.timer"))]
+             *(f"share/motcar/examples/{it}" for it in EXAMPLES)]
     files += [f"share/motcar/docs/help/{it}.txt" for it in ("motcar", "memory", *ON_FILES)]
     for _ in range(2):
         status, _, said = clone.run("install", str(prefix))
@@ -580,7 +582,7 @@ def packed(clone):
         held = subprocess.run(["dpkg-deb", "-c", it], cwd=folder, capture_output=True, text=True, check=True).stdout
         expect("drwxr-xr-x root/root", held[:20])
         for name in ("usr/bin/motcar", "usr/lib/systemd/system/motcar.service", "usr/lib/sysusers.d/motcar.conf",
-                     "usr/lib/systemd/system/motcar-health.timer",
+                     *(f"usr/lib/systemd/system/{it}" for it in EXAMPLES if it.endswith((".service", ".timer"))),
                      "etc/default/motcar", "usr/share/doc/motcar/copyright", "usr/share/doc/motcar/changelog.gz",
                      "usr/share/motcar/VERSION", "usr/share/man/man1/motcar.1.gz"):
             expect_in(f" ./{name}\n", held)
