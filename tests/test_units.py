@@ -195,7 +195,7 @@ class Pipe(program.Case):
         os.mkfifo(self.room / "packets.pipe")
         for name in UNITS:
             text = (program.top / "examples" / name).read_text()
-            for more, length in (([], 8192), (["PIPE=65536"], 65_536), (["PIPE=5000"], 8192)):
+            for more, length in (([], 8192), (["PIPE=65536"], 65_536), (["PIPE=5000"], 8192), (["PIPE=4096"], 4096)):
                 ended = program.run([*around(text, more), sys.executable, "-c", LENGTH_OF], cwd=self.room)
                 self.expect(f"{name}: {more}", (0, b"%d\n" % length, b""), ended)
 
