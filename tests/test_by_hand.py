@@ -22,9 +22,9 @@ class ByHand(AirCase):
         return self.motcar("list", self.place)
 
     def test_put(self):
-        self.expect("a file is put", (0, b"done object 2 directory 3\n", b""), self.first)
+        self.expect("a file is put", (0, b"put logo.png done object 2 directory 3\n", b""), self.first)
         self.expect("a file of its name replaces it, one of another does not",
-                    (0, b"done object 4 directory 5\ndone object 6 directory 7\n", b""),
+                    (0, b"put page.html done object 4 directory 5\nput logo.png done object 6 directory 7\n", b""),
                     self.motcar("put", self.place, "page.html", "logo.png"))
         self.expect("so they are listed", (0, b"carousel 0 7 7 2\nobject 6 1 2 3 779 logo.png image/png\n"
                                               b"object 4 0 1 2 6 page.html text/html\n", b""), self.listed())
@@ -33,7 +33,7 @@ class ByHand(AirCase):
     def test_put_by_path(self):
         (self.room / "folder").mkdir()
         self.write("folder/logo.png", b"other")
-        self.expect("a file of a folder has its own name alone", (0, b"done object 4 directory 5\n", b""),
+        self.expect("a file of a folder has its own name alone", (0, b"put logo.png done object 4 directory 5\n", b""),
                     self.motcar("put", self.place, self.room / "folder" / "logo.png"))
         self.expect("and its bytes", (0, b"other", b""), self.motcar("get", self.place, "logo.png"))
 
@@ -41,11 +41,11 @@ class ByHand(AirCase):
         (self.room / "folder").mkdir()
         self.write("folder/page.html", b"second")
         self.expect("the second file of a name replaces the first",
-                    (0, b"done object 4 directory 5\ndone object 6 directory 7\n", b""),
+                    (0, b"put page.html done object 4 directory 5\nput page.html done object 6 directory 7\n", b""),
                     self.motcar("put", self.place, "page.html", "folder/page.html"))
         self.expect("with its bytes", (0, b"second", b""), self.motcar("get", self.place, "page.html"))
         self.expect("a name that is withdrawn twice",
-                    (1, b"done directory 8\nrefused 10 NoSuchName\n", b""),
+                    (1, b"withdraw page.html done directory 8\nwithdraw page.html refused 10 NoSuchName\n", b""),
                     self.motcar("withdraw", self.place, "page.html", "page.html"))
 
     def test_put_refused(self):
@@ -69,12 +69,12 @@ class ByHand(AirCase):
             ("too long", "long.png", b"7 BodyTooLong", b"262145 bytes, 262144 at most"),
         ]
         for row, name, number, why in rows:
-            self.expect(row, (1, b"refused " + number + b"\n", b"motcar: " + name.encode() + b": " + why + b"\n"),
+            self.expect(row, (1, b"put " + name.encode() + b" refused " + number + b"\n", b"motcar: " + name.encode() + b": " + why + b"\n"),
                         self.motcar("put", self.place, name))
-        self.expect("no bytes", (1, b"refused 6 EmptyBody\n", b""), self.motcar("put", self.place, "empty.png"))
+        self.expect("no bytes", (1, b"put empty.png refused 6 EmptyBody\n", b""), self.motcar("put", self.place, "empty.png"))
         self.expect("nothing was put", before, self.listed())
         self.expect("the files beside a refused one are put",
-                    (1, b"done object 4 directory 5\nrefused 22 ReadFault\ndone object 6 directory 7\n",
+                    (1, b"put page.html done object 4 directory 5\nput gone.png refused 22 ReadFault\nput logo.png done object 6 directory 7\n",
                      b"motcar: gone.png: No such file or directory\n"),
                     self.motcar("put", self.place, "page.html", "gone.png", "logo.png"))
 
@@ -82,31 +82,33 @@ class ByHand(AirCase):
         home, as_nobody = self.of_nobody("home")
         format = self.motcar("format", "home/disk", **as_nobody)
         (self.room / "logo.png").chmod(0)
-        self.expect("a file that can't be read", (0, (1, b"refused 22 ReadFault\n", b"motcar: logo.png: Permission denied\n")),
+        self.expect("a file that can't be read", (0, (1, b"put logo.png refused 22 ReadFault\n", b"motcar: logo.png: Permission denied\n")),
                     (format[0], self.motcar("put", home / "disk", "logo.png", **as_nobody)))
 
     def test_put_types(self):
         self.write("new.spi", b"<spi>")
         self.write("types.txt", b"spi 7 0 -\n")
-        self.expect("a suffix that a file adds", (0, b"done object 4 directory 5\n", b""),
+        self.expect("a suffix that a file adds", (0, b"put new.spi done object 4 directory 5\n", b""),
                     self.motcar("put", self.place, "new.spi", "--types", "types.txt"))
         self.expect("a line of it that is wrong", refused(1, "BadLine", "types.txt: line 1 is no SUFFIX TYPE SUBTYPE MIME"),
                     self.motcar("put", self.place, "new.spi", "--types", self.write("types.txt", b"spi 7\n").name))
 
     def test_full(self):
         small = self.new_disk("small.disk", "--objects", "1", "--data", "64")
-        self.expect("no room for the body", (1, b"refused 12 NoRoom\n", b""), self.motcar("put", small, "logo.png"))
-        self.expect("room for one object", (1, b"done object 2 directory 3\nrefused 11 TooManyObjects\n", b""),
+        self.expect("no room for the body", (1, b"put logo.png refused 12 NoRoom\n", b""), self.motcar("put", small, "logo.png"))
+        self.expect("room for one object", (1, b"put page.html done object 2 directory 3\nput b.html refused 11 TooManyObjects\n", b""),
                     self.motcar("put", small, "page.html", self.write("b.html", b"b").name))
 
     def test_withdraw(self):
         self.motcar("put", self.place, "page.html")
         self.expect("names that are there and are not",
-                    (1, b"refused 10 NoSuchName\ndone directory 6\n", b""),
+                    (1, b"withdraw gone refused 10 NoSuchName\nwithdraw logo.png done directory 6\n", b""),
                     self.motcar("withdraw", self.place, "gone", "logo.png"))
         self.expect("the other stays", (0, b"carousel 0 6 6 1\nobject 4 0 1 2 6 page.html text/html\n", b""), self.listed())
         for row, name in (("two words are no name", "page.html more"), ("nor is what ends a line", "page.html\nlist"), ("nor is nothing", "")):
-            self.expect(row, (1, b"refused 2 BadName\n", f"motcar: {name}: no object can have this name\n".encode()),
+            # (what a terminal or a reader of lines would take for something else is shown as `?`)
+            line = f"withdraw {name.replace(chr(10), '?')} refused 2 BadName\n"
+            self.expect(row, (1, line.encode(), f"motcar: {name}: no object can have this name\n".encode()),
                         self.motcar("withdraw", self.place, name))
         self.expect("it stays", (0, b"carousel 0 6 6 1\nobject 4 0 1 2 6 page.html text/html\n", b""), self.listed())
 

@@ -35,7 +35,8 @@ class Follow(AirCase):
     def test_changes(self):
         player = self.playing()
         until(lambda: player.log.read_text().count("refused") >= 4)
-        wanted = refused(15, "DeviceFault", f"{self.place}: in use by another program; end that program first")
+        hint = "if that plays it, its folder or its lines change it; else end it first"
+        wanted = refused(15, "DeviceFault", f"{self.place}: in use by another program; {hint}")
         self.expect("a disk that is played is locked", wanted, self.sync(self.place, self.objects_of))
         (self.room / "new").write_bytes(PNG + b"z" * 3000)
         os.rename(self.room / "new", self.objects_of / "k.png")

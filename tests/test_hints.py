@@ -19,7 +19,8 @@ HINTS = {
 
 # What the manual's table has beside the words of the system: rows of other tests.
 OTHERS = [
-    "in use by another program; end that program first", "neither a regular file nor a block device; check the path",
+    "in use by another program; if that plays it, its folder or its lines change it; else end it first",
+    "in use by another program; choose another name than the old disk's, or end that program first", "neither a regular file nor a block device; check the path",
     "the file has a second name (a hard link); remove the other name", "a file is there; move it away",
     "not a regular file of one name; move it away", "the name of a file of another disk; choose another name",
 ]
@@ -129,10 +130,10 @@ class Beside(AirCase):
         disk = self.disk()
         for error in ("ENOSPC", "EDQUOT", "EROFS"):
             why = f"{os.strerror(getattr(errno, error))}{HINTS[error]}"
-            ended = self.traced([self.program, "check", disk], f"inject=fsync:error={error}:when=2", paths=[disk])
+            ended = self.traced([self.program, "serve", disk], f"inject=fsync:error={error}:when=2", paths=[disk])
             self.expect(f"the disk's own: {error}", refused(15, "DeviceFault", f"{disk}: {why}"), ended)
             beside = disk.with_name(disk.name + "-wal")
             beside.unlink()
-            ended = self.traced([self.program, "check", disk], f"inject=openat:error={error}", paths=[beside])
+            ended = self.traced([self.program, "serve", disk], f"inject=openat:error={error}", paths=[beside])
             self.expect(f"the file beside it: {error}", refused(15, "DeviceFault", f"{beside}: {why}"), ended)
             self.motcar("check", disk)

@@ -33,8 +33,9 @@ def lengths_told(groups, segment, rates):
     return lines + [seconds(rate) for rate in rates]
 
 
-def waits_told(groups, segment, length):
-    """What `inspect` prints of how long a receiver has to listen: to a turn of these groups, in packets of this length."""
+def waits_told(groups, segment, length, rate=None):
+    """What `inspect` prints of how long a receiver has to listen: to a turn of these groups, in packets of this length, if
+    `play` is told this rate or none."""
     def packets(size):
         return len(dab.cut_lengths(size, length))
 
@@ -45,7 +46,8 @@ def waits_told(groups, segment, length):
     directory = sum(packets(len(it)) for it in groups if it[0] & 15 == dab.DIRECTORY)
     turn = sum(packets(len(it)) for it in groups)
     carousel = with_directories(longest + turn + 3 * directory)
-    soon = min(carousel, with_directories(max(340, 10 * directory) + longest + 2 * directory))
+    pause = 340 * max(1, 3 * rate // length) if rate else 340
+    soon = min(carousel, with_directories(max(pause, 10 * directory) + longest + 2 * directory))
     return [f"group {longest}", f"directory {directory}", f"heard {soon} directory {carousel} carousel"]
 
 
@@ -62,8 +64,8 @@ class Inspect(AirCase):
         packets = self.turns(disk, 1)
         return packets, [len(it.bytes) for it in dab.groups_of(packets)]
 
-    def waits(self, disk, segment, length):
-        return waits_told([it.bytes for it in dab.groups_of(self.turns(disk, 1))], segment, length)
+    def waits(self, disk, segment, length, rate=None):
+        return waits_told([it.bytes for it in dab.groups_of(self.turns(disk, 1))], segment, length, rate)
 
     def expect_cut(self, row, disk, length):
         packets, groups = self.turn(disk)
@@ -90,12 +92,25 @@ class Inspect(AirCase):
         groups = self.turn(self.place)[1]
         for rate in (8, 72, 1824):
             status, printed, said = self.motcar("inspect", self.place, "--rate", str(rate))
-            wanted = self.first_lines() + lengths_told(groups, 1024, [rate]) + self.waits(self.place, 1024, 96)
+            wanted = self.first_lines() + lengths_told(groups, 1024, [rate]) + self.waits(self.place, 1024, 96, rate)
             self.expect(f"at {rate} kbit/s", (0, wanted, b""), (status, printed.decode().splitlines(), said))
         for rate in ("0", "7", "12", "1832", "4294967295"):
             wanted = refused(8, "BadNumber", f"--rate {rate}: a multiple of 8, 8 to 1824")
             for words in (["inspect", self.place], ["play", self.place, "-"]):
                 self.expect(f"no sub-channel has {rate} kbit/s", wanted, self.motcar(*words, "--rate", rate))
+
+    def test_the_directory_comes_later_at_a_rate(self):
+        """`play` multiplies its pause by the packets that a frame holds."""
+        long = self.new_disk("long", "--objects", "1", "--data", "200000", "--packet", "24")
+        self.serve(long, [f"put a 2 3 - {'5a' * 100_000}"])
+        heard = {}
+        for rate in (None, 8, 64, 80):
+            wanted = self.waits(long, 1024, 24, rate)
+            printed = self.motcar("inspect", long, *(["--rate", rate] if rate else []))[1].decode().splitlines()
+            self.expect(f"at {rate} kbit/s", wanted, printed[-3:])
+            heard[rate] = int(wanted[-1].split()[1])
+        self.expect("as without a rate, eight and ten times as late", [True, True, True],
+                    [heard[None] == heard[8], heard[64] - heard[8] >= 340 * 7, heard[80] - heard[64] >= 340 * 2])
 
     def test_short_packets(self):
         small = self.new_disk("small", "--objects", "40", "--data", "600000", "--packet", "24", "--segment", "64")

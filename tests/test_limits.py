@@ -127,8 +127,9 @@ class FileSystems(Limits):
             disk = folder / "disk"
             wanted = self.made(disk)
             subprocess.run(["mount", "-o", "remount,ro", folder], check=True)
-            for words in (["serve", disk], ["check", disk], ["migrate", disk], ["format", folder / "new", *SIZES]):
+            for words in (["serve", disk], ["migrate", disk], ["format", folder / "new", *SIZES]):
                 self.expect_fault(words[0], words[1], "ead-only", self.motcar(*words, given=b"period 1\n"))
+            self.expect_kept("looked at on a read-only mount", disk, wanted)
             subprocess.run(["mount", "-o", "remount,rw", folder], check=True)
             self.expect_kept("a read-only mount", disk, wanted)
 
@@ -188,8 +189,9 @@ class Rights(Limits):
     def test_a_disk_that_may_not_be_written(self):
         self.disk.chmod(0o444)
         self.folder.chmod(0o555)
-        for words in (["serve", self.disk], ["check", self.disk], ["format", self.folder / "new"]):
+        for words in (["serve", self.disk], ["format", self.folder / "new"]):
             self.expect_fault(words[0], words[1], "denied", self.motcar(*words, given=b"period 1\n", **self.as_nobody))
+        self.expect("but read", (0, self.wanted, b""), self.motcar("check", self.disk, **self.as_nobody))
         self.expect_kept("without the right", self.disk, self.wanted)
 
     def test_the_file_beside_the_disk_is_named(self):
@@ -199,11 +201,11 @@ class Rights(Limits):
         beside.chmod(0)
         self.folder.chmod(0o555)
         said = f"motcar: 15 DeviceFault\nmotcar: {beside}: Permission denied; motcar has to read and write it\n"
-        self.expect("another user's file", (1, b"", said.encode()), self.motcar("check", self.disk, **self.as_nobody))
+        self.expect("another user's file", (1, b"", said.encode()), self.motcar("serve", self.disk, **self.as_nobody))
         self.folder.chmod(0o755)
         beside.unlink()
         self.folder.chmod(0o555)
-        self.expect("none can be made", (1, b"", said.encode()), self.motcar("check", self.disk, **self.as_nobody))
+        self.expect("none can be made", (1, b"", said.encode()), self.motcar("serve", self.disk, **self.as_nobody))
         self.folder.chmod(0o755)
         self.expect_kept("with the right", self.disk, self.wanted)
 
@@ -213,12 +215,13 @@ class InUse(Limits):
         self.made("held", b"")
         disk = self.room / "held"
         first = self.begin("serve", disk)
-        for line, reply in ((b"period 1\n", b"done directory 2\n"), (b"period 2\n", b"done directory 3\n")):
+        for line, last in ((b"period 1\n", 2), (b"period 2\n", 3)):
             first.stdin.write(line)
             first.stdin.flush()
-            self.expect("the first that has it open", reply, first.stdout.readline())
-            for command in ("serve", "check", "migrate", "format"):
+            self.expect("the first that has it open", b"done directory %d\n" % last, first.stdout.readline())
+            for command in ("serve", "migrate", "format"):
                 self.expect_fault(f"{command} beside it", disk, "", self.motcar(command, disk, given=b"period 9\n"))
+            self.expect_kept("looked at beside it", disk, b"carousel %d %d %d 0\nclean\nlayout 2\n" % (last - 1, last, last))
         first.communicate(timeout=SECONDS)
         self.expect_kept("what another had open", disk, b"carousel 2 3 3 0\nclean\nlayout 2\n")
 

@@ -115,8 +115,8 @@ class Reasons(Case):
 class InTheWay(Case):
     """The second line of 15 names the file that stood in the way, and says what to do."""
 
-    def expect_fault(self, row, about, name="disk"):
-        for command in ("check", "serve", "export"):
+    def expect_fault(self, row, about, name="disk", commands=("check", "serve", "export")):
+        for command in commands:
             self.expect(f"{row}: {command}", refused(15, "DeviceFault", about), self.motcar(command, name))
 
     def test_no_file(self):
@@ -138,7 +138,8 @@ class InTheWay(Case):
         held.stdin.write(b"list\n")
         held.stdin.flush()
         held.stdout.readline()
-        self.expect_fault("a disk in use", "disk: in use by another program; end that program first")
+        hint = "if that plays it, its folder or its lines change it; else end it first"
+        self.expect_fault("a disk in use", f"disk: in use by another program; {hint}", commands=["serve", "migrate"])
         held.communicate(timeout=SECONDS)
         self.expect("and not behind that", 0, self.motcar("check", "disk")[0])
 

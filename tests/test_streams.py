@@ -7,7 +7,8 @@ never ends in status 0 if something was to be printed.
 import itertools
 
 from . import disk
-from .program import Case, run
+from .air import needs_strace, traced
+from .program import Case, refused, run
 
 LINES = b"put a 2 3 - 0102\nlist\nperiod 9\nnext 3\n"
 CLOSED = {0: "<&-", 1: ">&-", 2: "2>&-"}
@@ -73,3 +74,12 @@ class ClosedStreams(Case):
 
     def test_version(self):
         self.look("--version")
+
+
+class NoNull(Case):
+    @needs_strace
+    def test_dev_null_is_not_there(self):
+        """As in a folder that is made the topmost one, without devices."""
+        words = traced([self.program, "list", self.new_disk("disk", *SIZES)], "inject=openat:error=ENOENT", paths=["/dev/null"])
+        wanted = refused(15, "DeviceFault", "/dev/null: No such file or directory; check the path")
+        self.expect("the path is named", wanted, run(words))

@@ -18,6 +18,13 @@ class Words(Case):
             status, printed, said = self.motcar(*words.split(), given=HELLO)
             self.expect(f"wrong words: {words}", (2, b"", True), (status, printed, said != b""))
 
+    def test_a_number_with_a_unit(self):
+        """It is refused with the unit that is asked for."""
+        said = b"error: invalid value '10M' for '--data <BYTES>': invalid digit found in string"
+        status, printed, errors = self.motcar("format", "disk", "--data", "10M")
+        self.expect("--data 10M", (2, b"", said), (status, printed, errors.splitlines()[0]))
+        self.expect("and no file is made", False, (self.room / "disk").exists())
+
     def test_the_last_transport_id_of_a_new_disk(self):
         for number, directory in (("0", "1"), ("9", "10"), ("65534", "65535"), ("65535", "1")):
             made = self.motcar("format", number, "--after", number)[0]

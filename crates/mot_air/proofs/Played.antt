@@ -44,7 +44,7 @@ use Rattle.mot_playout.specs.Attempts.{fault_of}
 use Rattle.mot_playout.specs.Server.{ServerView, place_in}
 use Rattle.mot_update.specs.Between.{Telling}
 use Rattle.mot_update.specs.Faults.{StaysCalm}
-use Rattle.mot_update.specs.declared.moment.Moment.{Moment}
+use Rattle.mot_update.specs.declared.moment.UpdatePoint.{UpdatePoint}
 
 some_room : (g : Geometry) → is_valid g ≡ true → 0 < packet_room g
 some_room g is = grind (arith, nat_tests)
@@ -159,7 +159,7 @@ module _ {D : Type 0} (state : D → State) (disk : D) (server new : ServerView 
         });
       }
 
-  module _ {U : Type 0} (tells : U → U → Moment → Telling) (first last : U) where
+  module _ {U : Type 0} (tells : U → U → UpdatePoint → Telling) (first last : U) where
     -- what is told of it
     abbrev tale : Tale
     tale = tale_of tells how first last

@@ -13,7 +13,7 @@ use Rattle.mot_feed_lines.specs.Answering.{TellsBetween, TellsInTurn, TellsOnTim
 use Rattle.mot_feed_lines.specs.Answering.{late_behind}
 use Rattle.mot_feed_lines.specs.Answering.TellsBetween.{other_alone, then_lines}
 use Rattle.mot_feed_lines.specs.declared.lines.Lines.{Lines}
-use Rattle.mot_feed_lines.specs.declared.reported.Reported.{Reported}
+use Rattle.mot_feed_lines.specs.declared.reported.WatchedUpdate.{WatchedUpdate}
 use Rattle.mot_folder.specs.Looked.{LooksSoFar, TellsLooks, TellsWatch, Watch}
 use Rattle.mot_update.specs.declared.ended.Ended.{Ended}
 use Rattle.mot_line_folder.specs.Spool.{SpoolView}
@@ -28,12 +28,12 @@ use Rattle.mot_objects.specs.Carousel.{Carousel}
 use Rattle.mot_objects.specs.declared.command.Command.{Command}
 use Rattle.mot_shelf.specs.View.{FolderView}
 use Rattle.mot_update.specs.Between.{Telling}
-use Rattle.mot_update.specs.declared.moment.Moment.{Moment}
+use Rattle.mot_update.specs.declared.moment.UpdatePoint.{UpdatePoint}
 
 -- what one update tells another does of what is seen of it, where something stays
-pub told_as : {U V : Type 0} {tells : U → U → Moment → Telling}
-    (then_tells : V → V → Moment → Telling) (view : U → V) (Stays : U → Type 0)
-    → ((u v : U) (moment : Moment) (c : Carousel) (commands : List Command) (marks : List Bool)
+pub told_as : {U V : Type 0} {tells : U → U → UpdatePoint → Telling}
+    (then_tells : V → V → UpdatePoint → Telling) (view : U → V) (Stays : U → Type 0)
+    → ((u v : U) (moment : UpdatePoint) (c : Carousel) (commands : List Command) (marks : List Bool)
     (fault : Option Refusal) → Stays u → tells u v moment c commands marks fault
     → Stays v × then_tells (view u) (view v) moment c commands marks fault)
     → {look limit : ℕ} {first : U} {c : Carousel} → Stays first
@@ -121,7 +121,7 @@ module _ (tale other : Tale) (retells : Retells tale other) (how : Manner) where
 -- ---- looks and lines
 
 -- what is told of looks of one watch
-watch_on : (w now next : Watch) (moment : Moment) (before after : LooksSoFar) (c : Carousel)
+watch_on : (w now next : Watch) (moment : UpdatePoint) (before after : LooksSoFar) (c : Carousel)
     (commands : List Command) (marks : List Bool) (fault : Option Refusal) → now ≡ w
     → TellsWatch now next moment before after c commands marks fault
     → (next ≡ w) × TellsLooks w moment before after c commands marks fault
@@ -176,11 +176,11 @@ on_time {left = left} {then_left = then_left} {fault = fault} stays tells = (
 -- ---- any update, of what stands beside the disk
 
 -- an update that is watched
-pub reported_retold : {U W : Type 0} (tells : U → U → Moment → Telling) (how : Manner)
-    (first last : Reported U W) (update : U) → update ≡ last.update
+pub reported_retold : {U W : Type 0} (tells : U → U → UpdatePoint → Telling) (how : Manner)
+    (first last : WatchedUpdate U W) (update : U) → update ≡ last.update
     → Retells (tale_of (tells_reported tells) how first last) (tale_of tells how first.update update)
 reported_retold {U} {W} tells how first last update is limit c stage events commands marks made told =
-    let see : Reported U W → U = λ r. r.update in
+    let see : WatchedUpdate U W → U = λ r. r.update in
     let one = told_as tells see (λ r. Unit {0})
     (λ u v moment found these so_marked fault stays tale. (tt, tale)) tt stage events commands marks
     last made told in
@@ -207,7 +207,7 @@ begins {U} {V} update so late lines at hand kept is due unread same =
 
 module _ {R U V W : Type 0} (first last : Lines R U W) (Gives : V → V → List ℕ → Type 0)
     (see : R → V) where
-  pub answered_retold : (tells : U → U → Moment → Telling) (how : Manner) (between : ℕ) (update : U)
+  pub answered_retold : (tells : U → U → UpdatePoint → Telling) (how : Manner) (between : ℕ) (update : U)
       (at : V) (hand : List ℕ) → first.between ≡ between → first.left ≡ 0 → see first.reader ≡ at
       → first.intake.hand ≡ hand → first.reported.update ≡ update
       → Retells (tale_of (tells_answered Gives see tells) how first last)
@@ -227,7 +227,7 @@ module _ {R U V W : Type 0} (first last : Lines R U W) (Gives : V → V → List
 module _ {U : Type 0} (how : Manner) (update : U) (folder : FolderView) (lines : SpoolView) where
   module _ (at : U → Watch) (looks : U → LooksSoFar) (w : Watch) (refused : Bool)
       (begun : at update ≡ w) (none : looks update ≡ no_looks folder) where
-    abbrev TellsThese : U → U → Moment → Telling
+    abbrev TellsThese : U → U → UpdatePoint → Telling
     TellsThese u v moment = TellsWatch (at u) (at v) moment (looks u) (looks v)
 
     -- looks alone
@@ -274,7 +274,7 @@ module _ {U : Type 0} (how : Manner) (update : U) (folder : FolderView) (lines :
         )
 
   module _ {refused : Bool} (fine : false ≡ refused) where
-    abbrev TellsNone : U → U → Moment → Telling
+    abbrev TellsNone : U → U → UpdatePoint → Telling
     TellsNone u v moment c commands marks fault = commands ≡ []
 
     -- no looks

@@ -20,7 +20,7 @@ use Rattle.mot_endpoints.specs.declared.fault.Cause.{Cause}
 use Rattle.mot_endpoints.specs.declared.fault.PacketsFault.{PacketsFault}
 use Rattle.mot_endpoints.specs.declared.packets.Destination.{Destination}
 use Rattle.mot_endpoints.specs.LinePlaces.{ChecksLines}
-use Rattle.mot_endpoints.specs.declared.lines.Others.{Others}
+use Rattle.mot_endpoints.specs.declared.lines.OtherFiles.{OtherFiles}
 use Rattle.mot_files.specs.Call.{Call}
 use Rattle.mot_files.specs.declared.system.Handle.{Handle}
 use Rattle.mot_line_folder.specs.Spool.{SpoolView}
@@ -43,7 +43,7 @@ objects_at None at_once = folder_at [] false []
 objects_at (Some path) at_once = folder_at path.now at_once []
 
 -- the folder of lines at this path, if one is given, once it was found to keep apart from the others
-abbrev pub LinesOf : Option (Bor (List ℕ)) → Others → SpoolView → Type 0
+abbrev pub LinesOf : Option (Bor (List ℕ)) → OtherFiles → SpoolView → Type 0
 LinesOf None others lines = lines ≡ lines_at [] []
 LinesOf (Some path) others lines = (calls : List Call) × ChecksLines path.now others (Ok tt) [] calls
     × (lines ≡ lines_at path.now calls)
@@ -69,7 +69,7 @@ abbrev pub folder_asked : PlayTask → FolderView
 folder_asked p = objects_at p.folder p.rules.at_once
 
 -- which other files the task names
-abbrev pub others_of : PlayTask → Others
+abbrev pub others_of : PlayTask → OtherFiles
 others_of p = record { objects = p.folder; disk = p.disk; packets = p.packets; types = p.types }
 
 -- the folder of lines that is asked for, by these calls no other file of the command stands in it

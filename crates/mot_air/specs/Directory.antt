@@ -1,13 +1,9 @@
 -- How often the directory is sent, and when a look may come.
 use Rattle.std.specs.Prelude.{◌≡◌, ℕ, ◌*◌, ◌-◌, ◌/◌, ◌^◌, ◌⊎◌, max, min, Option, Some, None, IsSomeAnd}
 use Rattle.disk_model.specs.Disk.{State}
-use Rattle.mot_listening.specs.Lengths.{frame_size}
+use Rattle.mot_listening.specs.Lengths.{frame_packets}
 use Rattle.mot_update.specs.Opening.{IsUnopened, OfStanding}
 use Rattle.mot_numbers.specs.declared.refusal.Refusal.{Refusal}
-
--- how many packets of this length a frame of a sub-channel holds, and one at least
-abbrev pub frame_packets : (rate length : ℕ) → ℕ
-frame_packets rate length = max 1 (frame_size rate / length)
 
 -- So many packets a frame holds of a sub-channel of the rate that is asked for, by the packets'
 -- length on the disk, if that was opened; where no rate is asked for it is taken to hold one.

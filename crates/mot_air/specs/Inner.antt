@@ -1,3 +1,3 @@
 pub mod Beside
 pub mod Fed
-pub mod Unbegun
+pub mod StartError

@@ -27,7 +27,7 @@ use Rattle.mot_player.specs.Turn.{turn_of_carousel}
 use Rattle.mot_repository.specs.Repository.{IsOf}
 use Rattle.mot_playout.specs.Runs.{IsAfter, accepted_commands}
 use Rattle.mot_update.specs.Between.{Telling}
-use Rattle.mot_update.specs.declared.moment.Moment.{Moment}
+use Rattle.mot_update.specs.declared.moment.UpdatePoint.{UpdatePoint}
 
 -- it is played without end
 abbrev pub is_endless : Manner → Bool
@@ -56,7 +56,7 @@ abbrev pub Tale : Type 1
 Tale = (limit : ℕ) → Carousel → Stage → List Event → List Command → List Bool → Carousel → Type 0
 
 -- what an update tells, call by call, that was the first before and is the last now
-abbrev pub tale_of : {U : Type 0} → (U → U → Moment → Telling) → Manner → (first last : U) → Tale
+abbrev pub tale_of : {U : Type 0} → (U → U → UpdatePoint → Telling) → Manner → (first last : U) → Tale
 tale_of tells how first last limit c stage events commands marks made =
     AreTold tells (look_of_feed how) limit first c stage events commands marks last made
 

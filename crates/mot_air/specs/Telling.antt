@@ -12,12 +12,12 @@ use Rattle.mot_line_folder.specs.Spool.{SpoolView}
 use Rattle.mot_line_folder.specs.Spooling.{Finishes, GaveLines}
 use Rattle.mot_shelf.specs.Reader.{view}
 use Rattle.mot_shelf.specs.View.{FolderView, folder_at}
-use Rattle.mot_air.specs.declared.playing.Followed.{Followed}
+use Rattle.mot_air.specs.declared.playing.FollowedFolder.{FollowedFolder}
 use Rattle.mot_files.specs.Call.{Call}
-use Rattle.mot_outcome.specs.declared.used.Beside.{Beside}
+use Rattle.mot_outcome.specs.declared.used.TaskCalls.{TaskCalls}
 use Rattle.mot_suffixes.specs.Types.{SuffixType}
 use Rattle.mot_update.specs.Between.{Telling}
-use Rattle.mot_update.specs.declared.moment.Moment.{Moment}
+use Rattle.mot_update.specs.declared.moment.UpdatePoint.{UpdatePoint}
 
 abbrev pub looks_within : Manner → Bool
 looks_within how = nat_lt 0 how.directory && nat_lt 0 how.look
@@ -37,7 +37,7 @@ watched (Some folder) of = Some (of folder)
 -- were made of it.
 
 -- the folder of objects before it is looked at, and where there is none
-abbrev pub folder_in : {S : Type 0} → (S → List Call) → Option (Followed S) → FolderView
+abbrev pub folder_in : {S : Type 0} → (S → List Call) → Option (FollowedFolder S) → FolderView
 folder_in calls None = folder_at [] false []
 folder_in calls (Some followed) = view calls followed.shelf
 
@@ -63,20 +63,20 @@ first_sources hand folder lines =
     record { looks = no_looks folder; late = 0; lines = lines; hand = hand }
 
 -- commands come of looks alone; without a folder there are none
-abbrev pub tells_looks : Option Watch → (old new : Sources) → Moment → Telling
+abbrev pub tells_looks : Option Watch → (old new : Sources) → UpdatePoint → Telling
 tells_looks None old new moment c commands marks fault =
     (new.looks ≡ old.looks) × (commands ≡ [])
 tells_looks (Some w) old new moment c commands marks fault =
     TellsLooks w moment old.looks new.looks c commands marks fault
 
 -- and no line is read
-abbrev pub tells_alone : Option Watch → (old new : Sources) → Moment → Telling
+abbrev pub tells_alone : Option Watch → (old new : Sources) → UpdatePoint → Telling
 tells_alone w old new moment c commands marks fault =
     (new.lines ≡ old.lines) × tells_looks w old new moment c commands marks fault
 
 -- or commands come of looks, and of the lines that end in what was read, where so many packets come
 -- between two reads
-abbrev pub tells_lines : (between : ℕ) → Option Watch → (old new : Sources) → Moment → Telling
+abbrev pub tells_lines : (between : ℕ) → Option Watch → (old new : Sources) → UpdatePoint → Telling
 tells_lines between w old new moment = TellsInTurn GaveLines between old.late new.late old.hand
     new.hand old.lines new.lines (tells_looks w old new moment)
 
@@ -110,11 +110,11 @@ EndsReading ending lines calls =
     (calls ≡ lines.calls) ⊎ ((ending ≡ None) × Finishes lines.file lines.calls calls)
 
 -- the calls of the folder of objects are handed out, and those of the folder of lines
-abbrev pub Hands : Beside → (FolderView → SpoolView → Type 0) → Type 0
+abbrev pub Hands : TaskCalls → (FolderView → SpoolView → Type 0) → Type 0
 Hands beside IsSo = (folder : FolderView) × (folder.calls ≡ beside.folder.all)
     × ((lines : SpoolView) × IsSo folder lines)
 
 -- up to this ending, and there is P
-abbrev pub HandsOut : (ending : Option Refusal) → Beside → (FolderView → SpoolView → Type 0) → Type 0
+abbrev pub HandsOut : (ending : Option Refusal) → TaskCalls → (FolderView → SpoolView → Type 0) → Type 0
 HandsOut ending beside P = Hands beside
     (λ folder lines. EndsReading ending lines beside.lines.all × P folder lines)

@@ -12,13 +12,13 @@ ghost use Rattle.mot_shelf.specs.Reader.{reader_path};
 ghost use Rattle.mot_playout.specs.Attempts.{fault_of};
 
 use crate::on_air::{Airing, play_file};
-use crate::playing::Followed;
+use crate::playing::FollowedFolder;
 use disk_model::Disk;
 use disk_store::Start;
 use mot_cli::{LookRules, PlayTask};
-use mot_endpoints::{Host, Machine, Others, StatusFile, file_types, line_folder};
+use mot_endpoints::{Host, Machine, OtherFiles, StatusFile, file_types, line_folder};
 use mot_folder::{FileTypes, Guard};
-use mot_outcome::Finished;
+use mot_outcome::TaskEnd;
 use std::alloc::Global;
 use std::io::Write;
 
@@ -31,7 +31,7 @@ pub fn play<'a, B: Start, W: Write, E: Write, M: Machine<File = B::File> + Drop>
     start: B,
     writer: &mut W,
     errors: &mut E,
-) -> Finished<B, bool>
+) -> TaskEnd<B, bool>
     ensures ended { Concludes (IsUnplayed task.entry) (λ all ending. PlaysTask task.entry all ending
         result.disk (W.contents writer.old) (W.contents writer.new))
         result.result result.disk (W.contents writer.old) (W.contents writer.new) }
@@ -41,9 +41,9 @@ pub fn play<'a, B: Start, W: Write, E: Write, M: Machine<File = B::File> + Drop>
     let PlayTask { disk, packets, .. } = task;
     let types = match file_types(host, alloc, task.types) {
         Ok(types) => types,
-        Err(unbegun) => return Finished::unbegun(unbegun.refusal, unbegun.cause, start),
+        Err(unbegun) => return TaskEnd::unbegun(unbegun.refusal, unbegun.cause, start),
     };
-    let others = Others {
+    let others = OtherFiles {
         objects: task.folder,
         disk,
         packets,
@@ -51,7 +51,7 @@ pub fn play<'a, B: Start, W: Write, E: Write, M: Machine<File = B::File> + Drop>
     };
     let lines = match line_folder(host, alloc, task.lines, task.every, others) {
         Ok(lines) => lines,
-        Err(unbegun) => return Finished::unbegun(unbegun.refusal, unbegun.cause, start),
+        Err(unbegun) => return TaskEnd::unbegun(unbegun.refusal, unbegun.cause, start),
     };
     let folder = followed(host, task.folder, &types, task.rules);
     let status = status_file(host, task.status, disk);
@@ -70,7 +70,7 @@ fn followed<'a: 't, 't, M: Machine + Drop>(
     folder: Option<&'a str>,
     types: &'t FileTypes,
     rules: LookRules,
-) -> Option<Followed<'t, M::System>>
+) -> Option<FollowedFolder<'t, M::System>>
     ensures given { (how : Manner) → watched result (λ followed. watch_in how
         (reader_path followed.shelf) followed.types.now followed.guard)
         ≡ watched folder.entry (λ path. watch_in how path.now types.now
@@ -80,7 +80,7 @@ fn followed<'a: 't, 't, M: Machine + Drop>(
         (M.System.calls host.new.system) }
 {
     match folder {
-        Some(path) => Some(Followed {
+        Some(path) => Some(FollowedFolder {
             shelf: host.folder(path, rules.at_once),
             types,
             guard: Guard::of(rules.allow_empty, rules.keep_most),

@@ -1,10 +1,11 @@
 //! How many packets a frame of the sub-channel holds.
 ghost use Rattle.std.specs.Prelude.{◌≡◌, ◌≤◌, IfErr, IfOk, MatchResult, None};
 ghost use Rattle.disk_model.specs.Disk.{OnlySyncs};
-ghost use Rattle.mot_air.specs.Directory.{IsFrame, frame_packets};
+ghost use Rattle.mot_air.specs.Directory.{IsFrame};
 ghost use Rattle.mot_update.specs.Opening.{IsUnopened};
 
 use disk_model::Disk;
+use mot_listening::frame_packets;
 use mot_playout::{Refused, Server};
 use std::alloc::Global;
 
@@ -34,14 +35,4 @@ pub(crate) fn frame_on<D: Disk>(
         }
         Err(refused) => Err(refused),
     }
-}
-
-/// How many packets of this length a frame of a sub-channel of this rate holds, and one at least: a
-/// frame of 24 ms has three bytes for each kbit/s.
-fn frame_packets(rate: u32, length: u16) -> u32
-    requires { 24 ≤ length }
-    ensures { result ≡ frame_packets rate length }
-{
-    let packets = 3 * u64::from(rate) / u64::from(length);
-    (packets as u32).max(1)
 }

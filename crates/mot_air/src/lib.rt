@@ -18,4 +18,4 @@ pub use mot_line_folder::LineFolder;
 pub use mot_outcome::{Exit, UsedDisk};
 pub use mot_status::Telling;
 pub use mot_update::Ended;
-pub use playing::{Followed, PlayEnd, play_and_answer, play_disk, play_with};
+pub use playing::{FollowedFolder, PlayEnd, play_and_answer, play_disk, play_with};

@@ -6,7 +6,7 @@ ghost use Rattle.clap.specs.Words.{Text};
 ghost use Rattle.disk_store.specs.Beginning.{IsFirst};
 ghost use Rattle.mot_air.specs.Inner.Beside.{lines_in, tale_aired};
 ghost use Rattle.mot_air.specs.Directory.{IsFrame, directory_of, early_of, look_of};
-ghost use Rattle.mot_air.specs.Inner.Unbegun.{IsUnbegun};
+ghost use Rattle.mot_air.specs.Inner.StartError.{IsUnbegun};
 ghost use Rattle.mot_air.specs.Playing.{Plays};
 ghost use Rattle.mot_air.specs.Commands.{EndsSending, PlaysAsked, PlaysTo, Sends, is_all_done};
 ghost use Rattle.mot_air.specs.Commands.{packets_of, played_as};
@@ -23,7 +23,7 @@ ghost use Rattle.mot_playout.specs.Attempts.{fault_of};
 use crate::Ended;
 use crate::answered::answered;
 use crate::frames::frame_on;
-use crate::playing::{Followed, PlayEnd, play_and_answer, play_disk};
+use crate::playing::{FollowedFolder, PlayEnd, play_and_answer, play_disk};
 use disk_model::Disk;
 use disk_store::{BegunFile, Start, WasThere};
 use mot_cli::PlayTask;
@@ -32,7 +32,7 @@ use mot_feed::Manner;
 use mot_files::{CallLog, System};
 use mot_line_folder::LineFolder;
 use mot_numbers::Refusal;
-use mot_outcome::{Beside, Finished, clear_after};
+use mot_outcome::{TaskCalls, TaskEnd, clear_after};
 use mot_packets::Outlet;
 use mot_playout::Refused;
 use mot_status::Telling;
@@ -56,7 +56,7 @@ pub(crate) struct Airing<'a, 't, F: System + Drop, Y: System + Drop> {
     /// What the words ask for.
     pub(crate) task: PlayTask<'a>,
     /// The folder that the carousel is made equal to, if one is given.
-    pub(crate) folder: Option<Followed<'t, F>>,
+    pub(crate) folder: Option<FollowedFolder<'t, F>>,
     /// The folder whose files are answered as lines, if one is given.
     pub(crate) lines: Option<LineFolder<'a, Y>>,
     /// The file that the status is written to, if one is given.
@@ -79,7 +79,7 @@ pub(crate) fn play_file<
     start: B,
     writer: &mut W,
     errors: &mut E,
-) -> Finished<B, bool>
+) -> TaskEnd<B, bool>
     ensures ended { Concludes (λ r. (r ≡ DeviceFault) ⊎ (r ≡ WriteFault)) (λ all ending.
         PlaysTo airing.entry.task (λ frame refused then_folder then_lines.
         tale_aired Y.calls Y.calls airing.entry (played_as airing.entry.task frame) refused
@@ -106,7 +106,7 @@ fn open_both<'a, B: Start, M: Machine<File = B::File> + Drop>(
     host: &mut Host<M>,
     task: PlayTask<'a>,
     start: B,
-) -> Result<(OpenPackets<'a, M::System>, BegunFile<B, WasThere>), Finished<B, bool>>
+) -> Result<(OpenPackets<'a, M::System>, BegunFile<B, WasThere>), TaskEnd<B, bool>>
     ensures target { IfOk result (λ both. IsTarget task.entry.packets.now (target_of both.0)) }
     ensures opened { IfOk result (λ both. OpensInto task.entry.packets.now task.entry.disk.now
         (writer_handle both.0.writer) [] (M.System.calls (writer_system both.0.writer))
@@ -122,13 +122,13 @@ fn open_both<'a, B: Start, M: Machine<File = B::File> + Drop>(
 {
     let mut opened = match host.packets(task.packets, task.disk, task.turns) {
         Ok(opened) => opened,
-        Err(cause) => return Err(Finished::unbegun(Refusal::WriteFault, Some(cause), start)),
+        Err(cause) => return Err(TaskEnd::unbegun(Refusal::WriteFault, Some(cause), start)),
     };
     match host.disk(task.disk, start) {
         Ok(disk) => Ok((opened, disk)),
         Err(unopened) => {
             opened.take_away();
-            Err(Finished::unopened(unopened))
+            Err(TaskEnd::unopened(unopened))
         }
     }
 }
@@ -142,7 +142,7 @@ fn play_both<B: Start, P: System + Drop, F: System + Drop, Y: System + Drop, W: 
     airing: Airing<'_, '_, F, Y>,
     writer: &mut W,
     errors: &mut E,
-) -> Finished<B, bool>
+) -> TaskEnd<B, bool>
     ensures ended { IsTarget airing.entry.task.packets.now (target_of opened.entry)
         → OpensInto airing.entry.task.packets.now airing.entry.task.disk.now
         (writer_handle opened.entry.writer) [] (P.calls (writer_system opened.entry.writer))
@@ -160,7 +160,7 @@ fn play_both<B: Start, P: System + Drop, F: System + Drop, Y: System + Drop, W: 
     let target = opened.target();
     let end = play_into(alloc, disk, opened, airing, writer, errors);
     let all_done = is_all_done(target, end.any_refused);
-    Finished::of_file(answered(end.ended, all_done), end.beside, end.cause)
+    TaskEnd::of_file(answered(end.ended, all_done), end.beside, end.cause)
 }
 
 /// Whether all is done that playing into the target is to do. A file is to show the folder; of a
@@ -243,7 +243,7 @@ fn unbegun<D: Disk, F: System + Drop, Y: System + Drop>(
 }
 
 /// The calls on the folder of objects, if there is one.
-fn folder_calls<F: System + Drop>(folder: Option<Followed<'_, F>>) -> CallLog
+fn folder_calls<F: System + Drop>(folder: Option<FollowedFolder<'_, F>>) -> CallLog
     ensures { (folder_in F.calls folder.entry).calls ≡ result.all }
 {
     match folder {
@@ -328,7 +328,7 @@ fn play_opened<D: Disk, P: System + Drop, F: System + Drop, Y: System + Drop, L:
         },
         any_refused,
         cause,
-        beside: Beside {
+        beside: TaskCalls {
             folder: beside.folder,
             packets: opened.into_calls(),
             lines: beside.lines,

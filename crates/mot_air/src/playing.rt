@@ -29,23 +29,23 @@ use disk_model::Disk;
 use mot_endpoints::Cause;
 use mot_events::Inlet;
 use mot_feed::{Manner, feed};
-use mot_feed_lines::{Lines, Reported};
+use mot_feed_lines::{Lines, WatchedUpdate};
 use mot_files::{CallLog, System};
 use mot_folder::{FileTypes, Folder, Guard, Looks};
 use mot_line_folder::{LineFolder, Spool};
 use mot_numbers::Refusal;
-use mot_outcome::Beside;
+use mot_outcome::TaskCalls;
 use mot_packets::Outlet;
 use mot_playout::{Refused, Server};
 use mot_shelf::FolderReader;
 use mot_status::{Reporter, Telling};
-use mot_update::{Facts, NoUpdate, Update, Watch};
+use mot_update::{LookHistory, NoUpdate, Update, Watch};
 use std::alloc::Global;
 use std::io::Write;
 
 /// A folder that a carousel is made equal to, and which of its files are objects.
 #[derive(Drop)]
-pub struct Followed<'a, S: System + Drop> {
+pub struct FollowedFolder<'a, S: System + Drop> {
     /// The folder.
     pub shelf: FolderReader<'a, S>,
     /// The suffixes.
@@ -65,7 +65,7 @@ pub struct PlayEnd<D: Disk> {
     /// refusal says.
     pub cause: Option<Cause>,
     /// The calls that were made beside the disk.
-    pub beside: Beside,
+    pub beside: TaskCalls,
 }
 
 impl<D: Disk> PlayEnd<D> {
@@ -117,11 +117,11 @@ impl<D: Disk> PlayEnd<D> {
 }
 
 /// These calls, and none on what takes the packets.
-fn beside_of(folder: CallLog, lines: CallLog) -> Beside
+fn beside_of(folder: CallLog, lines: CallLog) -> TaskCalls
     ensures folder { result.folder ≡ folder }
     ensures lines { result.lines ≡ lines }
 {
-    Beside {
+    TaskCalls {
         folder,
         packets: CallLog::new(),
         lines,
@@ -135,7 +135,7 @@ pub fn play_disk<S: System + Drop, F: System + Drop, D: Disk, O: Outlet, L: Writ
     alloc: Global,
     disk: D,
     outlet: &mut O,
-    folder: Option<Followed<'_, S>>,
+    folder: Option<FollowedFolder<'_, S>>,
     telling: Telling<'_, F>,
     log: L,
     how: Manner,
@@ -168,7 +168,7 @@ pub fn play_and_answer<S: System + Drop, F: System + Drop, D: Disk, O: Outlet, L
     alloc: Global,
     disk: D,
     outlet: &mut O,
-    folder: Option<Followed<'_, S>>,
+    folder: Option<FollowedFolder<'_, S>>,
     lines: LineFolder<'_, F>,
     telling: Telling<'_, F>,
     log: L,
@@ -203,7 +203,13 @@ pub fn play_and_answer<S: System + Drop, F: System + Drop, D: Disk, O: Outlet, L
 /// Opens the disk and plays it into the outlet with these updates, and tells of them and of the
 /// end. The updates are handed out. (Each layer of updates has a function of its own,
 /// since a call at a type of several layers takes long to prove.)
-fn play_telling<D: Disk, U: Update + Facts + Drop, F: System + Drop, O: Outlet, L: Write + Drop>(
+fn play_telling<
+    D: Disk,
+    U: Update + LookHistory + Drop,
+    F: System + Drop,
+    O: Outlet,
+    L: Write + Drop,
+>(
     alloc: Global,
     disk: D,
     update: U,
@@ -216,7 +222,7 @@ fn play_telling<D: Disk, U: Update + Facts + Drop, F: System + Drop, O: Outlet, 
         (O.writes outlet.old) (O.writes outlet.new) (D.state disk) (D.state result.0.disk) }
 {
     let watch = Reporter::new(alloc, log, telling);
-    let mut reported = Reported { update, watch };
+    let mut reported = WatchedUpdate { update, watch };
     let fed = feed_reported(alloc, disk, &mut reported, outlet, how);
     let ended = end_telling(alloc, fed, how.turns, &mut reported);
     let (update, _) = reported.into_parts();
@@ -224,10 +230,10 @@ fn play_telling<D: Disk, U: Update + Facts + Drop, F: System + Drop, O: Outlet, 
 }
 
 /// Opens the disk and feeds it into the outlet with updates that are watched.
-fn feed_reported<D: Disk, U: Update + Facts + Drop, T: Watch + Drop, O: Outlet>(
+fn feed_reported<D: Disk, U: Update + LookHistory + Drop, T: Watch + Drop, O: Outlet>(
     alloc: Global,
     disk: D,
-    reported: &mut Reported<U, T>,
+    reported: &mut WatchedUpdate<U, T>,
     outlet: &mut O,
     how: Manner,
 ) -> Fed<D>
@@ -240,7 +246,13 @@ fn feed_reported<D: Disk, U: Update + Facts + Drop, T: Watch + Drop, O: Outlet>(
 
 /// The same as `play_telling`, with answers to the lines of the files in a folder. The calls on it are
 /// handed out, too.
-fn play_answering<D: Disk, U: Update + Facts + Drop, F: System + Drop, O: Outlet, L: Write + Drop>(
+fn play_answering<
+    D: Disk,
+    U: Update + LookHistory + Drop,
+    F: System + Drop,
+    O: Outlet,
+    L: Write + Drop,
+>(
     alloc: Global,
     disk: D,
     update: U,
@@ -258,7 +270,7 @@ fn play_answering<D: Disk, U: Update + Facts + Drop, F: System + Drop, O: Outlet
         (O.writes outlet.new) (D.state disk) (D.state result.0.disk) }
 {
     let watch = Reporter::new(alloc, log, telling);
-    let mut lines = lines_between(alloc, lines, Reported { update, watch });
+    let mut lines = lines_between(alloc, lines, WatchedUpdate { update, watch });
     let fed = feed_lines(alloc, disk, &mut lines, outlet, how);
     let ended = end_lines(alloc, fed, how.turns, &mut lines);
     let (spool, update, _) = lines.into_parts();
@@ -266,7 +278,7 @@ fn play_answering<D: Disk, U: Update + Facts + Drop, F: System + Drop, O: Outlet
 }
 
 /// Opens the disk and feeds it into the outlet with lines after updates that are watched.
-fn feed_lines<D: Disk, R: Inlet + Drop, U: Update + Facts + Drop, T: Watch + Drop, O: Outlet>(
+fn feed_lines<D: Disk, R: Inlet + Drop, U: Update + LookHistory + Drop, T: Watch + Drop, O: Outlet>(
     alloc: Global,
     disk: D,
     lines: &mut Lines<R, U, T>,
@@ -283,7 +295,7 @@ fn feed_lines<D: Disk, R: Inlet + Drop, U: Update + Facts + Drop, T: Watch + Dro
 /// Looks at the folder while a disk is played so: after so many packets, if looks come within turns.
 fn looks_at<'a, S: System + Drop>(
     alloc: Global,
-    followed: Followed<'a, S>,
+    followed: FollowedFolder<'a, S>,
     how: Manner,
 ) -> Looks<'a, S>
     ensures watch { watch (reader_path result.folder.shelf) result.folder.types.now
@@ -293,7 +305,7 @@ fn looks_at<'a, S: System + Drop>(
     ensures none { so_far result.left (view S.calls result.folder.shelf) result.any_refused
         result.folder.files.known.items ≡ no_looks (view S.calls followed.entry.shelf) }
 {
-    let Followed {
+    let FollowedFolder {
         shelf,
         types,
         guard,
@@ -308,10 +320,10 @@ fn looks_at<'a, S: System + Drop>(
 }
 
 /// The lines of the files in a folder, answered after these updates, which are watched.
-fn lines_between<'a, F: System + Drop, U: Update + Facts + Drop, T: Watch + Drop>(
+fn lines_between<'a, F: System + Drop, U: Update + LookHistory + Drop, T: Watch + Drop>(
     alloc: Global,
     lines: LineFolder<'a, F>,
-    reported: Reported<U, T>,
+    reported: WatchedUpdate<U, T>,
 ) -> Lines<Spool<'a, F>, U, T>
     ensures hand { result.intake.hand ≡ lines.entry.hand }
     ensures every { result.between ≡ lines.entry.every - 1 }
@@ -328,11 +340,11 @@ fn lines_between<'a, F: System + Drop, U: Update + Facts + Drop, T: Watch + Drop
 type Fed<D> = Result<(Server<D>, Result<(), Refusal>), Refused<D>>;
 
 /// Tells the end, if feeding has come to one, with the last status.
-fn end_telling<D: Disk, U: Update + Facts + Drop, F: System + Drop, L: Write + Drop>(
+fn end_telling<D: Disk, U: Update + LookHistory + Drop, F: System + Drop, L: Write + Drop>(
     alloc: Global,
     fed: Fed<D>,
     turns: u64,
-    reported: &mut Reported<U, Reporter<'_, F, L>>,
+    reported: &mut WatchedUpdate<U, Reporter<'_, F, L>>,
 ) -> Ended<D, ()>
     ensures update { reported.new.update ≡ reported.old.update }
     ensures ended { IsEndOf fed result }
@@ -351,12 +363,12 @@ fn end_telling<D: Disk, U: Update + Facts + Drop, F: System + Drop, L: Write + D
 }
 
 /// Tells the end, with the last status, if playing has come to it.
-fn tell_end<D: Disk, U: Update + Facts + Drop, F: System + Drop, L: Write + Drop>(
+fn tell_end<D: Disk, U: Update + LookHistory + Drop, F: System + Drop, L: Write + Drop>(
     alloc: Global,
     server: &Server<D>,
     ended: Result<(), Refusal>,
     turns: u64,
-    reported: &mut Reported<U, Reporter<'_, F, L>>,
+    reported: &mut WatchedUpdate<U, Reporter<'_, F, L>>,
 )
     ensures { reported.new.update ≡ reported.old.update }
 {
@@ -368,7 +380,7 @@ fn tell_end<D: Disk, U: Update + Facts + Drop, F: System + Drop, L: Write + Drop
 
 /// The same with lines. If feeding has come to its end, the file of lines that was answered to its
 /// end is taken away before: else the next run would answer it again.
-fn end_lines<'a, D: Disk, U: Update + Facts + Drop, F: System + Drop, L: Write + Drop>(
+fn end_lines<'a, D: Disk, U: Update + LookHistory + Drop, F: System + Drop, L: Write + Drop>(
     alloc: Global,
     fed: Fed<D>,
     turns: u64,
@@ -394,7 +406,7 @@ fn has_ended<D: Disk>(fed: &Fed<D>) -> bool
 }
 
 /// Takes away the file of lines that was answered to its end, if playing has come to its end.
-fn finish<'a, F: System + Drop, U: Update + Facts + Drop, T: Watch + Drop>(
+fn finish<'a, F: System + Drop, U: Update + LookHistory + Drop, T: Watch + Drop>(
     lines: &mut Lines<Spool<'a, F>, U, T>,
     is_ended: bool,
 )

@@ -126,38 +126,38 @@ const VERBS: &[Verb] = &[
 /// The numbers of a geometry.
 const OBJECTS: Argument = Argument {
     name: "objects",
-    kind: Kind::Number,
+    kind: Kind::Number("N"),
     help: "Objects at most, 1 to 250 [default: 16]",
 };
 
 const DATA: Argument = Argument {
     name: "data",
-    kind: Kind::Number,
+    kind: Kind::Number("BYTES"),
     help: "Bytes for all bodies, 1 to 268435456 [default: 65536]",
 };
 
 const SEGMENT: Argument = Argument {
     name: "segment",
-    kind: Kind::Number,
+    kind: Kind::Number("BYTES"),
     help: "Bytes of a segment, 64 to 8189 [default: 1024]",
 };
 
 const ADDRESS: Argument = Argument {
     name: "address",
-    kind: Kind::Number,
+    kind: Kind::Number("N"),
     help: "Address of the packets, 1 to 1023 [default: 1]",
 };
 
 const PACKET: Argument = Argument {
     name: "packet",
-    kind: Kind::Number,
+    kind: Kind::Number("BYTES"),
     help: "Bytes of a packet: 24, 48, 72 or 96 [default: 96]",
 };
 
 /// The beginning of a new disk's ids.
 const AFTER: Argument = Argument {
     name: "after",
-    kind: Kind::Number,
+    kind: Kind::Number("N"),
     help: "Transport id after which the ids begin, 0 to 65535 [default: 0]",
 };
 
@@ -170,37 +170,37 @@ const NEW: Argument = Argument {
 
 const COPY_OBJECTS: Argument = Argument {
     name: "objects",
-    kind: Kind::Number,
+    kind: Kind::Number("N"),
     help: "Objects at most, 1 to 250 [default: as the disk]",
 };
 
 const COPY_DATA: Argument = Argument {
     name: "data",
-    kind: Kind::Number,
+    kind: Kind::Number("BYTES"),
     help: "Bytes for all bodies, 1 to 268435456 [default: as the disk]",
 };
 
 const COPY_SEGMENT: Argument = Argument {
     name: "segment",
-    kind: Kind::Number,
+    kind: Kind::Number("BYTES"),
     help: "Bytes of a segment, 64 to 8189 [default: as the disk]",
 };
 
 const COPY_ADDRESS: Argument = Argument {
     name: "address",
-    kind: Kind::Number,
+    kind: Kind::Number("N"),
     help: "Address of the packets, 1 to 1023 [default: as the disk]",
 };
 
 const COPY_PACKET: Argument = Argument {
     name: "packet",
-    kind: Kind::Number,
+    kind: Kind::Number("BYTES"),
     help: "Bytes of a packet: 24, 48, 72 or 96 [default: as the disk]",
 };
 
 const GOES_ON: Argument = Argument {
     name: "after",
-    kind: Kind::Number,
+    kind: Kind::Number("N"),
     help: "Transport id after which new ids go on, 0 to 65535 [default: as the disk]",
 };
 
@@ -250,40 +250,40 @@ const LINES: Argument = Argument {
 
 const EVERY: Argument = Argument {
     name: "every",
-    kind: Kind::Number,
+    kind: Kind::Number("PACKETS"),
     help: "Read lines every so many packets [default: 8]",
 };
 
 const TURNS: Argument = Argument {
     name: "turns",
-    kind: Kind::Number,
+    kind: Kind::Number("N"),
     help: "End after so many whole turns; a file is written only with it [default: without end]",
 };
 
 const DIRECTORY: Argument = Argument {
     name: "directory",
-    kind: Kind::Number,
+    kind: Kind::Number("PACKETS"),
     help: "Send the directory again after so many packets; 0: at each turn's beginning \
         [default: 340 without end, else 0]",
 };
 
 const LOOK: Argument = Argument {
     name: "look",
-    kind: Kind::Number,
+    kind: Kind::Number("PACKETS"),
     help: "Look at the folder after so many packets of a turn, too; 0: between turns \
         [default: 100 without end, else 0]",
 };
 
 const PLAY_RATE: Argument = Argument {
     name: "rate",
-    kind: Kind::Number,
+    kind: Kind::Number("N"),
     help: "Multiply both defaults by the packets that a frame holds at N kbit/s, a multiple of 8 \
         up to 1824",
 };
 
 const EARLY: Argument = Argument {
     name: "early",
-    kind: Kind::Number,
+    kind: Kind::Number("N"),
     help: "Send so many changed objects at most before the rest of the turn goes on [default: 3]",
 };
 
@@ -309,7 +309,7 @@ const WRITTEN: Argument = Argument {
 
 const MAX_AGE: Argument = Argument {
     name: "max-age",
-    kind: Kind::Number,
+    kind: Kind::Number("SECONDS"),
     help: "How many seconds ago it was written at most, 1 to 86400 [default: 120]",
 };
 
@@ -350,7 +350,7 @@ const NAME: Argument = Argument {
 /// The rate of `inspect`.
 const RATE: Argument = Argument {
     name: "rate",
-    kind: Kind::Number,
+    kind: Kind::Number("N"),
     help: "Time the turn at N kbit/s, a multiple of 8 up to 1824 [default: twelve rates]",
 };
 

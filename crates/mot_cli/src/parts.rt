@@ -34,8 +34,8 @@ pub(crate) enum Kind {
     Words,
     /// An option that is a path, and what stands for it in the help.
     Path(&'static str),
-    /// An option that is a number of 32 bits.
-    Number,
+    /// An option that is a number of 32 bits, and what stands for it in the help.
+    Number(&'static str),
     /// An option that is given alone.
     Flag,
 }
@@ -95,9 +95,9 @@ fn arg_of<'a>(alloc: Global, argument: &Argument) -> Arg<'a>
         Kind::Word => arg.required(true),
         Kind::Words => arg.action(ArgAction::Append).required(true),
         Kind::Path(value) => arg.long(argument.name).value_name(value),
-        Kind::Number => arg
+        Kind::Number(value) => arg
             .long(argument.name)
-            .value_name("N")
+            .value_name(value)
             .value_parser(value_parser!(u32)),
         Kind::Flag => arg.long(argument.name).action(ArgAction::SetTrue),
     }

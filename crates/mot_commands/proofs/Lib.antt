@@ -1,3 +1,4 @@
+pub mod Copied
 pub mod Ends
 pub mod Named
 pub mod On

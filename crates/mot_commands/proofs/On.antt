@@ -38,6 +38,8 @@ module _ {D E : Type 0} (of : D → E) (state : E → State) (words : Words) whe
     asked = t.asked;
     end = t.end;
     answered = executes-on t.request old.0 new.0 t.end t.answered;
+    text = t.text;
+    told = t.told;
     printed = t.printed;
     right = t.right;
   }

@@ -5,8 +5,8 @@ use Rattle.mot_commands.specs.declared.asking.Words.{Words}
 use Rattle.mot_commands.specs.declared.asking.Words.TheVariants.{Files, Objects}
 use Rattle.mot_files.specs.Call.{Call}
 use Rattle.mot_files.specs.Reading.{IsRead, IsUnread}
-use Rattle.mot_files.specs.declared.reading.Unread.{Unread}
-use Rattle.mot_files.specs.declared.reading.Unread.TheVariants.{TooLong, NoMemory}
+use Rattle.mot_files.specs.declared.reading.ReadFailure.{ReadFailure}
+use Rattle.mot_files.specs.declared.reading.ReadFailure.TheVariants.{TooLong, NoMemory}
 use Rattle.mot_numbers.specs.declared.refusal.Refusal.{Refusal}
 use Rattle.mot_numbers.specs.declared.refusal.Refusal.TheVariants.{BadName, BadType, BodyTooLong}
 use Rattle.mot_numbers.specs.declared.refusal.Refusal.TheVariants.{EmptyBody, OutOfMemory, ReadFault}
@@ -32,7 +32,7 @@ put_at None name type body = Put name type.content type.mime body
 put_at (Some place) name type body = Replace name type.content type.mime body
 
 -- what a file is refused with that was not read
-abbrev pub unread_refusal : Unread → Refusal
+abbrev pub unread_refusal : ReadFailure → Refusal
 unread_refusal (TooLong length) = BodyTooLong
 unread_refusal NoMemory = OutOfMemory
 unread_refusal unread = ReadFault
@@ -48,7 +48,7 @@ pub data IsUnput (types : List SuffixType) (path : List ℕ) (refusal : Refusal)
   unnamed : IsUnnamed (base_name path) refusal → new ≡ old → IsUnput types path refusal old new
   untyped : refusal ≡ BadType → type_of_name types (base_name path) ≡ None → new ≡ old
       → IsUnput types path refusal old new
-  unread : (unread : Unread) → refusal ≡ unread_refusal unread
+  unread : (unread : ReadFailure) → refusal ≡ unread_refusal unread
       → IsUnread path MAX_BODY true unread old new → IsUnput types path refusal old new
   empty : refusal ≡ EmptyBody → IsRead path MAX_BODY true [] old new
       → IsUnput types path refusal old new

@@ -9,14 +9,22 @@ use Rattle.disk_model.specs.Disk.{State, Throughout}
 use Rattle.disk_store.specs.Beginning.{SinceOpened}
 use Rattle.disk_store.specs.File.{file_state}
 use Rattle.disk_store.specs.declared.file.start.Start.{Ghosts}
-use Rattle.mot_commands.specs.Asking.{IsRequest}
+use Rattle.mot_commands.specs.Asking.{IsRequest, base_name}
 use Rattle.mot_commands.specs.Serving.{OpensFor}
 use Rattle.mot_commands.specs.declared.asking.Words.{Words}
 use Rattle.mot_commands.specs.declared.asking.Words.TheVariants.{Files, Objects}
 use Rattle.mot_endpoints.specs.Types.{IsTyped}
+use Rattle.mot_events.specs.Events.{event_of}
+use Rattle.mot_events.specs.declared.event.LookEvent.{LookEvent}
+use Rattle.mot_events.specs.declared.event.LookResult.{LookResult}
+use Rattle.mot_events.specs.declared.event.LookResult.TheVariants as met
+use Rattle.mot_events.specs.declared.event.LookStep.{LookStep}
+use Rattle.mot_events.specs.declared.event.LookStep.TheVariants.{Put, Withdraw}
+use Rattle.mot_events.specs.declared.event.Why.TheVariants.{Unsaid}
 use Rattle.mot_files.specs.Call.{Call}
 use Rattle.mot_journal.specs.Image.{Standing}
 use Rattle.mot_lines.specs.Text.{done_line, refusal_line}
+use Rattle.mot_log.specs.Text.{met_line}
 use Rattle.mot_numbers.specs.declared.refusal.Refusal.{Refusal}
 use Rattle.mot_objects.specs.declared.command.Command.{Command}
 use Rattle.mot_objects.specs.declared.command.Done.{Done}
@@ -32,6 +40,22 @@ use Rattle.mot_suffixes.specs.Types.{SuffixType}
 abbrev pub reply_line : Result Done Refusal → List ℕ
 reply_line (Ok done) = done_line done
 reply_line (Err refusal) = refusal_line refusal
+
+-- what came of a step
+abbrev pub taken_result : LookStep → Result Done Refusal → LookResult
+taken_result step (Ok done) = met.Done step done
+taken_result step (Err refusal) = met.Refused step refusal Unsaid
+
+-- what came of a word: a file is put, or an object withdrawn
+abbrev pub taken_event : Words → (word : List ℕ) → Result Done Refusal → LookEvent
+taken_event (Files types) path end = event_of (base_name path) (taken_result Put end)
+taken_event Objects name end = event_of name (taken_result Withdraw end)
+
+-- The line of a word tells that as the log does of a look. Where there was no memory for it, it is the
+-- reply alone.
+abbrev pub IsLineOf : Words → (word : List ℕ) → Result Done Refusal → (text : List ℕ) → Type 0
+IsLineOf words word end text =
+    (text ≡ met_line (taken_event words word end)) ⊎ (text ≡ reply_line end)
 
 -- a server, the known bytes of what is printed to, and the calls that were made of the system
 abbrev pub Progress : Type 0 → Type 0
@@ -69,7 +93,9 @@ module _ {D : Type 0} (state : D → State) (words : Words) where
     pub asked : IsRequest words word old.0.view.carousel request old.2 new.2
     pub end : Result Done Refusal
     pub answered : Executes state request old.0 new.0 end
-    pub printed : Prints ending (reply_line end) old.1 new.1
+    pub text : List ℕ
+    pub told : IsLineOf words word end text
+    pub printed : Prints ending text old.1 new.1
     pub right : ending ≡ None → done ≡ is_ok end
 
   -- so was each of these, or some first ones up to this ending; all is whether each is done

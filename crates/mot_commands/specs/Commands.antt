@@ -1,6 +1,6 @@
 -- What the commands that serve, make, check and migrate a disk do.
 use Rattle.std.specs.Prelude.{ℕ, ◌≡◌, ◌≢◌, ◌⊎◌, Bool, true, List, [], ◌∷◌, ◌++◌, Option, Some}
-use Rattle.std.specs.Prelude.{Result, false}
+use Rattle.std.specs.Prelude.{IsTrue, Result, false}
 use Rattle.std.specs.Io.KnownBytes.{Keeps}
 use Rattle.clap.specs.Words.{Text}
 use Rattle.disk_model.specs.Disk.{State}
@@ -74,6 +74,12 @@ Does state disk Export ending unread left old new start =
 Does state disk (Inspect rate) ending unread left old new start =
     Keeps unread left × Inspects rate ending old new start (state disk)
 
+-- it changes nothing on a disk
+abbrev pub only_looks : DiskTask → Bool
+only_looks Serve = false
+only_looks Migrate = false
+only_looks work = true
+
 module _ {S F : Type 0} {start : Ghosts S F} where
   -- a disk was made in memory, and served
   abbrev pub ServesMemory : Geometry → Option Refusal → UsedDisk S F start
@@ -89,9 +95,11 @@ module _ {S F : Type 0} {start : Ghosts S F} where
       IsValid g × (SinceOpened (Formats g directory ending old new) disk
       ⊎ SinceMade (length_of g) (Formats g directory ending old new) disk)) used
 
-  -- a file was opened, and this done with its disk
+  -- a file was opened, and this done with its disk; or this only looks, and was done with a copy
   abbrev pub DoesOnFile : DiskTask → Option Refusal → UsedDisk S F start
       → (unread left old new : Option (List ℕ)) → Type 0
+  DoesOnFile work ending (InMemory copy value) unread left old new = IsTrue (only_looks work)
+      × ((first : RamDisk) × Does ram_state copy work ending unread left old new (ram_state first))
   DoesOnFile work ending used unread left old new = OnFile (λ disk beside. SinceOpened
       (λ first now. Does file_state disk work ending unread left old new first) disk) used
 

@@ -7,7 +7,7 @@ use Rattle.mot_commands.specs.declared.health.TheConstants.{MAX_AGE}
 use Rattle.mot_files.specs.Call.{Call, followed, told_time}
 use Rattle.mot_files.specs.Listing.{is_file_kind}
 use Rattle.mot_files.specs.declared.system.Fault.{Fault}
-use Rattle.mot_files.specs.declared.system.Seen.{Seen}
+use Rattle.mot_files.specs.declared.system.FileStat.{FileStat}
 use Rattle.mot_files.specs.declared.system.Time.{Time}
 use Rattle.mot_numbers.specs.declared.refusal.Refusal.{Refusal}
 use Rattle.mot_outcome.specs.Outcome.{IsUntouched, Prints, status_of}
@@ -18,7 +18,7 @@ abbrev pub age_of : (written now : Time) → ℕ
 age_of written now = (now.nanos - written.nanos) / 1000000000
 
 -- the system said that a status is a regular file, which was written so many seconds ago at most
-abbrev pub is_well : (most : ℕ) → Result Seen Fault → (now : Option Time) → Bool
+abbrev pub is_well : (most : ℕ) → Result FileStat Fault → (now : Option Time) → Bool
 is_well most (Ok seen) (Some now) =
     is_file_kind seen.kind && nat_le (age_of seen.written now) most
 is_well most seen now = false
@@ -27,7 +27,7 @@ is_well most seen now = false
 -- is 0 exactly if that is well, and it could be printed.
 pub record AsksHealth (h : HealthTask) (status : ℕ) (ending : Option Refusal)
     (old new : List Call) : Type 0 where
-  pub seen : Result Seen Fault
+  pub seen : Result FileStat Fault
   pub now : Option Time
   pub calls : new ≡ old ++ followed h.status.now seen ∷ told_time now ∷ []
   pub well : status ≡ status_of (is_well (unwrap_or h.max_age MAX_AGE) seen now) ending

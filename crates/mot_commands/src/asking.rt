@@ -9,7 +9,7 @@ ghost use Rattle.mot_suffixes.specs.Types.{SuffixType};
 
 use crate::getting::name_of;
 use disk_store::OpenFault;
-use mot_files::{System, Unread, read_file};
+use mot_files::{ReadFailure, System, read_file};
 use mot_numbers::Refusal;
 use mot_objects::{Body, Carousel, Command, Content, MAX_BODY, Mime, Name};
 use mot_suffixes::FileTypes;
@@ -77,7 +77,7 @@ fn file_request<Y: System, E: Write>(
 }
 
 /// What follows the last `/` of a path; all of it, if there is none.
-fn base_name(path: &[u8]) -> &[u8]
+pub(crate) fn base_name(path: &[u8]) -> &[u8]
     ensures { result.now ≡ base_name path.now }
 {
     let mut found = path;
@@ -101,7 +101,7 @@ fn body_of_file<Y: System, E: Write>(
     ensures { MatchResult result
         (λ body. IsRead path.now MAX_BODY true body (Y.calls system.old) (Y.calls system.new)
         × (body ≢ []))
-        (λ refusal. ((unread : Unread) × (refusal ≡ unread_refusal unread)
+        (λ refusal. ((unread : ReadFailure) × (refusal ≡ unread_refusal unread)
         × IsUnread path.now MAX_BODY true unread (Y.calls system.old) (Y.calls system.new))
         ⊎ ((refusal ≡ EmptyBody)
         × IsRead path.now MAX_BODY true [] (Y.calls system.old) (Y.calls system.new))) }
@@ -154,20 +154,20 @@ fn refuse<E: Write>(errors: &mut E, word: &str, refusal: Refusal) -> Refusal
 }
 
 /// Prints why a file was not read; what it is refused with.
-fn refuse_unread<E: Write>(errors: &mut E, path: &str, unread: Unread) -> Refusal
+fn refuse_unread<E: Write>(errors: &mut E, path: &str, unread: ReadFailure) -> Refusal
     ensures { result ≡ unread_refusal unread }
 {
     match unread {
-        Unread::TooLong(length) => {
+        ReadFailure::TooLong(length) => {
             let _ = writeln!(errors, "motcar: {path}: {length} bytes, 262144 at most");
             Refusal::BodyTooLong
         }
-        Unread::System(fault) => {
+        ReadFailure::System(fault) => {
             let fault = OpenFault::System(fault.error());
             let _ = writeln!(errors, "motcar: {path}: {fault}");
             Refusal::ReadFault
         }
-        Unread::NoMemory => refuse(errors, path, Refusal::OutOfMemory),
-        Unread::Young | Unread::Changed => refuse(errors, path, Refusal::ReadFault),
+        ReadFailure::NoMemory => refuse(errors, path, Refusal::OutOfMemory),
+        ReadFailure::Young | ReadFailure::Changed => refuse(errors, path, Refusal::ReadFault),
     }
 }

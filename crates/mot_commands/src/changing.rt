@@ -1,34 +1,38 @@
 //! What `put` and `withdraw` do.
-ghost use Rattle.std.specs.Prelude.{◌≡◌, ◌⊎◌, ℕ, Bool, [], List, None, Option, false, is_ok};
+ghost use Rattle.std.specs.Prelude.{◌≡◌, ◌⊎◌, ℕ, Bool, [], IfOk, List, None, Option, false, is_ok};
 ghost use Rattle.std.specs.Result.{result_unwrap_or};
 ghost use Rattle.disk_model.specs.Disk.{KeepsLength};
 ghost use Rattle.mot_commands.specs.Changing.{Executes, Changes, ChangesFile, PutReads};
 ghost use Rattle.mot_commands.specs.Changing.{PutsFiles, Takes, TakesEach, WithdrawsFile};
-ghost use Rattle.mot_commands.specs.Changing.{reply_line, texts};
+ghost use Rattle.mot_commands.specs.Changing.{IsLineOf, reply_line, taken_event, taken_result, texts};
 ghost use Rattle.mot_endpoints.specs.Opened.{Need, if_given};
 ghost use Rattle.mot_endpoints.specs.Types.{IsUntyped};
+ghost use Rattle.mot_events.specs.Events.{event_of};
 ghost use Rattle.mot_files.specs.Call.{Call};
+ghost use Rattle.mot_log.specs.Text.{met_line};
 ghost use Rattle.mot_numbers.specs.declared.refusal.Refusal.TheVariants.{DeviceFault};
 ghost use Rattle.mot_outcome.specs.Outcome.{Concludes, Opens, OpensAnd, Prints};
 ghost use Rattle.mot_playout.specs.Attempts.{fault_of};
 
-use crate::asking::{Words, request_of};
+use crate::asking::{Words, base_name, request_of};
 use crate::working::finish;
 use disk_model::Disk;
 use disk_store::Start;
 use mot_endpoints::{Host, Machine, file_types};
+use mot_events::{LookEvent, LookResult, LookStep, Why};
 use mot_files::System;
 use mot_lines::{TextLine, done_text, refusal_text};
+use mot_log::add_met_line;
 use mot_numbers::Refusal;
 use mot_objects::{Command, Done};
-use mot_outcome::{Finished, write_last};
+use mot_outcome::{TaskEnd, write_last};
 use mot_playout::Server;
 use mot_update::Ended;
-use std::alloc::Global;
+use std::alloc::{AllocError, Global};
 use std::io::Write;
 
 /// Puts these files on the disk of the file at the path, one after the other, or replaces the
-/// objects of their names; prints the replies, and why a file was not read to `errors`. Each is
+/// objects of their names; prints a line for each, and why a file was not read to `errors`. Each is
 /// typed by its suffix, of the known ones and of those that a file adds. Whether each was put.
 pub fn put<S: Start, W: Write, E: Write, M: Machine<File = S::File> + Drop>(
     host: &mut Host<M>,
@@ -39,7 +43,7 @@ pub fn put<S: Start, W: Write, E: Write, M: Machine<File = S::File> + Drop>(
     start: S,
     writer: &mut W,
     errors: &mut E,
-) -> Finished<S, bool>
+) -> TaskEnd<S, bool>
     ensures ended { Concludes (λ r. IsUntyped types.entry r ⊎ (r ≡ DeviceFault))
         (λ all ending. (before after : List Call) × PutsFiles types.entry (texts files.now) all
         ending result.disk (W.contents writer.old) (W.contents writer.new) before after)
@@ -53,7 +57,7 @@ pub fn put<S: Start, W: Write, E: Write, M: Machine<File = S::File> + Drop>(
             let words = Words::Files(types);
             change_file(host, alloc, path, files, &words, start, writer, errors)
         }
-        Err(unbegun) => Finished::unbegun(unbegun.refusal, unbegun.cause, start),
+        Err(unbegun) => TaskEnd::unbegun(unbegun.refusal, unbegun.cause, start),
     }
 }
 
@@ -67,7 +71,7 @@ pub fn withdraw_file<S: Start, W: Write, E: Write, M: Machine<File = S::File> + 
     start: S,
     writer: &mut W,
     errors: &mut E,
-) -> Finished<S, bool>
+) -> TaskEnd<S, bool>
     ensures ended { Concludes (λ r. r ≡ DeviceFault) (λ all ending. WithdrawsFile
         (texts names.now) all ending result.disk (W.contents writer.old) (W.contents writer.new))
         result.result result.disk (W.contents writer.old) (W.contents writer.new) }
@@ -89,7 +93,7 @@ fn change_file<S: Start, W: Write, E: Write, M: Machine<File = S::File> + Drop>(
     start: S,
     writer: &mut W,
     errors: &mut E,
-) -> Finished<S, bool>
+) -> TaskEnd<S, bool>
     ensures ended { Concludes (λ r. r ≡ DeviceFault) (λ all ending. (before after : List Call)
         × ChangesFile words.now (texts list.now) all ending
         (W.contents writer.old) (W.contents writer.new) before after result.disk)
@@ -105,7 +109,7 @@ fn change_file<S: Start, W: Write, E: Write, M: Machine<File = S::File> + Drop>(
             let ended = change_disk(&mut host.system, alloc, disk, list, words, writer, errors);
             finish(host, ended)
         }
-        Err(unopened) => Finished::unopened(unopened),
+        Err(unopened) => TaskEnd::unopened(unopened),
     }
 }
 
@@ -179,7 +183,7 @@ fn take<Y: System, D: Disk, W: Write, E: Write>(
 {
     let request = request_of(system, alloc, words, server.carousel(), word, errors);
     let end = answer(alloc, request, server);
-    print_reply(writer, end)
+    print_line(alloc, writer, words, word, end)
 }
 
 /// Does the command, unless what was asked for is refused.
@@ -196,16 +200,82 @@ fn answer<D: Disk>(
     }
 }
 
-/// Prints the reply to a command; whether the command is done.
-fn print_reply<W: Write>(writer: &mut W, end: Result<Done, Refusal>) -> Result<bool, Refusal>
-    ensures printed { Prints (fault_of result) (reply_line end)
-        (W.contents writer.old) (W.contents writer.new) }
+/// Prints what came of a word, with its name; whether its command is done. Without memory for that
+/// line the reply comes without the name.
+fn print_line<W: Write>(
+    alloc: Global,
+    writer: &mut W,
+    words: &Words,
+    word: &str,
+    end: Result<Done, Refusal>,
+) -> Result<bool, Refusal>
+    ensures printed { (text : List ℕ) × IsLineOf words.now word.now end text
+        × Prints (fault_of result) text (W.contents writer.old) (W.contents writer.new) }
     ensures right { fault_of result ≡ None → result_unwrap_or result false ≡ is_ok end }
 {
-    match write_last(writer, reply_text(end).as_slice()) {
-        Ok(()) => Ok(end.is_ok()),
+    match line_of(alloc, words, word, end) {
+        Ok(line) => print_text(writer, line.as_slice(), end.is_ok()),
+        Err(AllocError) => print_text(writer, reply_text(end).as_slice(), end.is_ok()),
+    }
+}
+
+/// Prints a text, and answers this.
+fn print_text<W: Write>(writer: &mut W, text: &[u8], answer: bool) -> Result<bool, Refusal>
+    ensures printed { Prints (fault_of result) text.now
+        (W.contents writer.old) (W.contents writer.new) }
+    ensures right { fault_of result ≡ None → result_unwrap_or result false ≡ answer }
+{
+    match write_last(writer, text) {
+        Ok(()) => Ok(answer),
         Err(refusal) => Err(refusal),
     }
+}
+
+/// The line that tells what came of a word, as the log tells it of a look.
+fn line_of(
+    alloc: Global,
+    words: &Words,
+    word: &str,
+    end: Result<Done, Refusal>,
+) -> Result<Vec<u8>, AllocError>
+    ensures { IfOk result (λ line. line.items ≡ met_line (taken_event words.now word.now end)) }
+{
+    let event = event_of(alloc, words, word, end)?;
+    let mut line = Vec::new(alloc);
+    add_met_line(&mut line, &event)?;
+    Ok(line)
+}
+
+/// What came of a word.
+fn event_of(
+    alloc: Global,
+    words: &Words,
+    word: &str,
+    end: Result<Done, Refusal>,
+) -> Result<LookEvent, AllocError>
+    ensures { IfOk result (λ event. event ≡ taken_event words.now word.now end) }
+{
+    match words {
+        Words::Files(_) => named(alloc, base_name(word.as_bytes()), LookStep::Put, end),
+        Words::Objects => named(alloc, word.as_bytes(), LookStep::Withdraw, end),
+    }
+}
+
+/// What came of a step with this name.
+fn named(
+    alloc: Global,
+    name: &[u8],
+    step: LookStep,
+    end: Result<Done, Refusal>,
+) -> Result<LookEvent, AllocError>
+    ensures { IfOk result (λ event. event ≡ event_of name.now (taken_result step end)) }
+{
+    let name = mot_events::Words::new(Vec::from_slice(alloc, name)?);
+    let met = match end {
+        Ok(done) => LookResult::Done(step, done),
+        Err(refusal) => LookResult::Refused(step, refusal, Why::Unsaid),
+    };
+    Ok(LookEvent { name, met })
 }
 
 /// The reply to a command that ended so.

@@ -10,12 +10,12 @@ ghost use Rattle.mot_commands.specs.Report.{Formats};
 
 use crate::working::finish;
 use disk_model::Disk;
-use disk_store::{Start, Unopened};
+use disk_store::{FailedOpening, Start};
 use mot_devices::use_of;
 use mot_endpoints::{Cause, Host, Machine};
 use mot_journal::{Reason, format_from};
 use mot_numbers::{Geometry, Refusal, TransportId};
-use mot_outcome::{Beside, Finished, write_number};
+use mot_outcome::{TaskCalls, TaskEnd, write_number};
 use mot_update::Ended;
 use std::alloc::Global;
 use std::io::Write;
@@ -31,7 +31,7 @@ pub fn format_file<S: Start, W: Write, M: Machine<File = S::File> + Drop>(
     geometry: Geometry,
     directory: TransportId,
     writer: &mut W,
-) -> Finished<S, ()>
+) -> TaskEnd<S, ()>
     ensures ended { Finishes (IsUnformatted geometry) (λ ending used.
         FormatsFile geometry directory ending used (W.contents writer.old) (W.contents writer.new))
         result (W.contents writer.old) (W.contents writer.new) }
@@ -39,10 +39,10 @@ pub fn format_file<S: Start, W: Write, M: Machine<File = S::File> + Drop>(
         (M.System.calls host.old.system) (M.System.calls host.new.system) }
 {
     if !geometry.is_valid() {
-        return Finished::unbegun(Refusal::BadGeometry, None, start);
+        return TaskEnd::unbegun(Refusal::BadGeometry, None, start);
     }
     if let Some(found) = use_of(&mut host.system, alloc, path) {
-        return Finished::unbegun(Refusal::DeviceFault, Some(Cause::from(found)), start);
+        return TaskEnd::unbegun(Refusal::DeviceFault, Some(Cause::from(found)), start);
     }
     match host.disk(path, start) {
         Ok(mut disk) => {
@@ -62,11 +62,11 @@ pub fn format_file<S: Start, W: Write, M: Machine<File = S::File> + Drop>(
 fn format_new_file<S: Start, W: Write, M: Machine<File = S::File> + Drop>(
     host: &mut Host<M>,
     path: &str,
-    unopened: Unopened<S>,
+    unopened: FailedOpening<S>,
     geometry: Geometry,
     directory: TransportId,
     writer: &mut W,
-) -> Finished<S, ()>
+) -> TaskEnd<S, ()>
     requires { IsValid geometry }
     ensures ended { Finishes (IsUnformatted geometry) (λ ending used.
         FormatsFile geometry directory ending used (W.contents writer.old) (W.contents writer.new))
@@ -76,7 +76,7 @@ fn format_new_file<S: Start, W: Write, M: Machine<File = S::File> + Drop>(
 {
     let mut disk = match host.make_disk(path, geometry.length(), unopened.start) {
         Ok(disk) => disk,
-        Err(unmade) => return Finished::unopened(unmade.behind(unopened.fault)),
+        Err(unmade) => return TaskEnd::unopened(unmade.behind(unopened.fault)),
     };
     let result = format_disk(&mut disk, &geometry, directory, writer);
     if is_unformatted(&result) {
@@ -87,7 +87,7 @@ fn format_new_file<S: Start, W: Write, M: Machine<File = S::File> + Drop>(
         result,
         reason: None,
     };
-    Finished::of_file(ended, Beside::nothing(), None)
+    TaskEnd::of_file(ended, TaskCalls::nothing(), None)
 }
 
 /// Why a disk that was there was not formatted.

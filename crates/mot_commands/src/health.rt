@@ -9,9 +9,9 @@ ghost use Rattle.mot_playout.specs.Attempts.{fault_of};
 use disk_store::{OpenFault, Start};
 use mot_cli::HealthTask;
 use mot_endpoints::{Host, Machine};
-use mot_files::{Fault, Kind, Seen, System, Time};
+use mot_files::{Fault, FileStat, Kind, System, Time};
 use mot_numbers::Refusal;
-use mot_outcome::{Finished, UsedDisk, write_last};
+use mot_outcome::{TaskEnd, UsedDisk, write_last};
 use std::alloc::{AllocError, Global};
 use std::io::Write;
 
@@ -30,7 +30,7 @@ pub fn tell_health<S: Start, W: Write, M: Machine + Drop>(
     asked: &HealthTask<'_>,
     start: S,
     writer: &mut W,
-) -> Finished<S, bool>
+) -> TaskEnd<S, bool>
     ensures ended { Concludes (λ r. r ≡ OutOfMemory)
         (λ all ending. TellsHealth ending result.disk (W.contents writer.old) (W.contents writer.new))
         result.result result.disk (W.contents writer.old) (W.contents writer.new) }
@@ -44,7 +44,7 @@ pub fn tell_health<S: Start, W: Write, M: Machine + Drop>(
         Ok(line) => tell(writer, line.as_str(), well),
         Err(AllocError) => Err(Refusal::OutOfMemory),
     };
-    Finished {
+    TaskEnd {
         result,
         disk: UsedDisk::Untouched(start),
         cause: None,
@@ -64,7 +64,7 @@ fn tell<W: Write>(writer: &mut W, line: &str, well: bool) -> Result<bool, Refusa
 }
 
 /// Whether it is a regular file that was written so many seconds ago at most.
-fn is_well(most: u32, seen: Result<Seen, Fault>, now: Option<Time>) -> bool
+fn is_well(most: u32, seen: Result<FileStat, Fault>, now: Option<Time>) -> bool
     ensures { result ≡ is_well most seen now }
 {
     match (seen, now) {
@@ -96,7 +96,7 @@ fn age_of(written: Time, now: Time) -> u128
 fn line_of(
     alloc: Global,
     path: &str,
-    seen: Result<Seen, Fault>,
+    seen: Result<FileStat, Fault>,
     now: Option<Time>,
     well: bool,
 ) -> Result<String, AllocError> {

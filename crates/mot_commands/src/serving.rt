@@ -11,7 +11,7 @@ use disk_model::Disk;
 use disk_store::{RamDisk, Start};
 use mot_journal::format;
 use mot_numbers::{Geometry, Refusal};
-use mot_outcome::{Finished, UsedDisk};
+use mot_outcome::TaskEnd;
 use mot_playout::Server;
 use mot_session::{MAX_READS, serve};
 use mot_update::Ended;
@@ -26,7 +26,7 @@ pub fn serve_memory<S: Start, R: Read, W: Write>(
     start: S,
     reader: &mut R,
     writer: &mut W,
-) -> Finished<S, ()>
+) -> TaskEnd<S, ()>
     ensures { Finishes
         (λ r. IsUnmade geometry r × Keeps (R.remaining reader.old) (R.remaining reader.new))
         (λ ending used. ServesMemory geometry ending used
@@ -35,22 +35,16 @@ pub fn serve_memory<S: Start, R: Read, W: Write>(
         result (W.contents writer.old) (W.contents writer.new) }
 {
     if !geometry.is_valid() {
-        return Finished::unbegun(Refusal::BadGeometry, None, start);
+        return TaskEnd::unbegun(Refusal::BadGeometry, None, start);
     }
     let Some(mut disk) = RamDisk::new(alloc, geometry.length()) else {
-        return Finished::unbegun(Refusal::OutOfMemory, None, start);
+        return TaskEnd::unbegun(Refusal::OutOfMemory, None, start);
     };
     // A disk of zeros that is long enough fails for nothing else.
     let Ok(()) = format(&mut disk, &geometry) else {
-        return Finished::unbegun(Refusal::OutOfMemory, None, start);
+        return TaskEnd::unbegun(Refusal::OutOfMemory, None, start);
     };
-    let ended = serve_disk(alloc, disk, reader, writer);
-    Finished {
-        result: ended.result,
-        disk: UsedDisk::InMemory(ended.disk, start),
-        cause: None,
-        reason: None,
-    }
+    TaskEnd::in_memory(serve_disk(alloc, disk, reader, writer), None, start)
 }
 
 /// Serves the reader's lines from a disk that it opens.

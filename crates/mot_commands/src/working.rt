@@ -2,10 +2,10 @@
 ghost use Rattle.std.specs.Prelude.{◌≡◌, [], None};
 ghost use Rattle.std.specs.Io.KnownBytes.{Keeps};
 ghost use Rattle.disk_model.specs.Disk.{KeepsLength};
-ghost use Rattle.mot_commands.specs.Commands.{Does, DoesOnFile};
+ghost use Rattle.mot_commands.specs.Commands.{Does, DoesOnFile, only_looks};
 ghost use Rattle.mot_numbers.specs.declared.refusal.Refusal.TheVariants.{DeviceFault};
-ghost use Rattle.mot_outcome.specs.Outcome.{Finishes, Opens};
-ghost use Rattle.mot_outcome.specs.declared.used.Beside.{Beside};
+ghost use Rattle.mot_outcome.specs.Outcome.{Finishes, OpensOrReads};
+ghost use Rattle.mot_outcome.specs.declared.used.TaskCalls.{TaskCalls};
 ghost use Rattle.mot_outcome.specs.declared.used.UsedDisk.TheVariants.{OfFile};
 ghost use Rattle.mot_playout.specs.Attempts.{fault_of};
 
@@ -17,15 +17,16 @@ use crate::serving::serve_disk;
 use disk_model::Disk;
 use disk_store::{BegunFile, Start, WasThere};
 use mot_cli::DiskTask;
-use mot_endpoints::{Host, Machine};
+use mot_endpoints::{Host, Machine, copy_unopened};
 use mot_export::{export_disk, inspect_disk};
-use mot_outcome::{Beside, Finished, clear_after};
+use mot_outcome::{TaskCalls, TaskEnd, clear_after};
 use mot_update::Ended;
 use std::alloc::Global;
 use std::io::{Read, Write};
 
 /// Does what is asked with the disk of the file at the path; answers what ended it before its end.
-/// Lines are read to serve them alone.
+/// Lines are read to serve them alone. Work that only looks is done with a copy in memory, if another
+/// program has the disk or it can't be written.
 pub fn work_on_file<S: Start, R: Read, W: Write, M: Machine<File = S::File> + Drop>(
     host: &mut Host<M>,
     alloc: Global,
@@ -34,22 +35,45 @@ pub fn work_on_file<S: Start, R: Read, W: Write, M: Machine<File = S::File> + Dr
     start: S,
     reader: &mut R,
     writer: &mut W,
-) -> Finished<S, ()>
+) -> TaskEnd<S, ()>
     ensures ended { Finishes
         (λ r. (r ≡ DeviceFault) × Keeps (R.remaining reader.old) (R.remaining reader.new))
         (λ ending used. DoesOnFile work.now ending used
         (R.remaining reader.old) (R.remaining reader.new)
         (W.contents writer.old) (W.contents writer.new))
         result (W.contents writer.old) (W.contents writer.new) }
-    ensures files { Opens [] path.now (fault_of result.result) result.disk
-        (M.System.calls host.old.system) (M.System.calls host.new.system) }
+    ensures files { OpensOrReads (only_looks work.now) [] path.now (fault_of result.result)
+        result.disk (M.System.calls host.old.system) (M.System.calls host.new.system) }
 {
-    match host.disk(path, start) {
+    let unopened = match host.disk(path, start) {
         Ok(disk) => {
             let ended = work_on(alloc, disk, work, reader, writer);
-            finish(host, ended)
+            return finish(host, ended);
         }
-        Err(unopened) => Finished::unopened(unopened),
+        Err(unopened) => unopened,
+    };
+    match copy_unopened(
+        &mut host.system,
+        alloc,
+        path,
+        unopened.fault,
+        only_looks(work),
+    ) {
+        Some(copy) => {
+            let ended = work_on(alloc, copy, work, reader, writer);
+            TaskEnd::in_memory(ended, None, unopened.start)
+        }
+        None => TaskEnd::unopened(unopened),
+    }
+}
+
+/// Whether it changes nothing on a disk.
+fn only_looks(work: &DiskTask<'_>) -> bool
+    ensures { result ≡ only_looks work.now }
+{
+    match work {
+        DiskTask::Serve | DiskTask::Migrate => false,
+        _ => true,
     }
 }
 
@@ -82,8 +106,8 @@ fn work_on<D: Disk, R: Read, W: Write>(
 pub(crate) fn finish<S: Start, T, M: Machine<File = S::File> + Drop>(
     host: &mut Host<M>,
     ended: Ended<BegunFile<S, WasThere>, T>,
-) -> Finished<S, T>
-    ensures ended { (beside : Beside) × (result ≡ record {
+) -> TaskEnd<S, T>
+    ensures ended { (beside : TaskCalls) × (result ≡ record {
       result = ended.result;
       disk = OfFile ended.disk.disk beside;
       cause = None;
@@ -92,5 +116,5 @@ pub(crate) fn finish<S: Start, T, M: Machine<File = S::File> + Drop>(
     ensures calls { host.new.system ≡ host.old.system }
 {
     clear_after(host, &ended.result);
-    Finished::of_file(ended, Beside::nothing(), None)
+    TaskEnd::of_file(ended, TaskCalls::nothing(), None)
 }

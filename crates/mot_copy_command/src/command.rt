@@ -17,14 +17,14 @@ ghost use Rattle.mot_outcome.specs.Outcome.{Finishes};
 use crate::{NotCopied, copy};
 use disk_model::Disk;
 use disk_store::{
-    BegunFile, FileDiskFrom, Second, SecondDisk, Start, Unopened, WasThere, with_second,
+    BegunFile, FailedOpening, FileDiskFrom, Second, SecondDisk, Start, WasThere, with_second,
 };
 use mot_cli::CopyTask;
 use mot_devices::use_of;
 use mot_endpoints::{Cause, Host, Machine, NewDiskFault};
 use mot_journal::Reason;
 use mot_numbers::{Geometry, Refusal};
-use mot_outcome::{Finished, UsedDisk, clear_unfit, write_number};
+use mot_outcome::{TaskEnd, UsedDisk, clear_unfit, write_number};
 use mot_repository::Repository;
 use mot_update::Ended;
 use std::alloc::Global;
@@ -47,7 +47,7 @@ pub fn copy_file<S: Start, W: Write, M: Machine<File = S::File> + Drop>(
     task: &CopyTask<'_>,
     start: S,
     writer: &mut W,
-) -> Finished<S, ()>
+) -> TaskEnd<S, ()>
     ensures ended { Finishes (λ r. r ≡ DeviceFault) (λ ending used.
         CopiesFile task.now.sizes task.now.after ending used
         (W.contents writer.old) (W.contents writer.new))
@@ -58,10 +58,10 @@ pub fn copy_file<S: Start, W: Write, M: Machine<File = S::File> + Drop>(
     let (start, second) = with_second(start);
     let disk = match host.disk(task.disk, start) {
         Ok(disk) => disk,
-        Err(unopened) => return Finished::unopened(unopened),
+        Err(unopened) => return TaskEnd::unopened(unopened),
     };
     let (ended, to, cause) = copy_disk(host, alloc, task, disk, second, writer);
-    Finished {
+    TaskEnd {
         result: ended.result,
         disk: UsedDisk::OfCopy(ended.disk.disk, to),
         cause,
@@ -170,7 +170,7 @@ fn copy_to_new<S: Start, W: Write, M: Machine<File = S::File> + Drop>(
     mut repository: Repository<BegunFile<S, WasThere>>,
     geometry: &Geometry,
     task: &CopyTask<'_>,
-    unopened: Unopened<Second<S>>,
+    unopened: FailedOpening<Second<S>>,
     writer: &mut W,
 ) -> Copying<S>
     requires { IsValid geometry.now }

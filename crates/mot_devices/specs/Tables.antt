@@ -8,7 +8,7 @@ use Rattle.mot_files.specs.Call.{Call, followed, looked}
 use Rattle.mot_files.specs.Listing.{path_in}
 use Rattle.mot_files.specs.declared.system.Fault.{Fault}
 use Rattle.mot_files.specs.declared.system.How.TheVariants as how
-use Rattle.mot_files.specs.declared.system.Seen.{Seen}
+use Rattle.mot_files.specs.declared.system.FileStat.{FileStat}
 use Rattle.mot_devices.specs.Looking.{IsTold}
 use Rattle.mot_devices.specs.Mounts.{is_one_of}
 use Rattle.mot_devices.specs.Number.{number_text}
@@ -34,7 +34,7 @@ pub data AddsPartition (folder name before after : List ℕ) (old new : List Cal
   unmarked : (fault : Fault) → after ≡ before
       → new ≡ old ++ looked (mark_of folder name) (Err fault) ∷ []
       → AddsPartition folder name before after old new
-  marked : (seen : Seen) (number : List ℕ) → after ≡ before ++ number
+  marked : (seen : FileStat) (number : List ℕ) → after ≡ before ++ number
       → IsTold (number_of folder name) how.Read number
       (old ++ looked (mark_of folder name) (Ok seen) ∷ []) new
       → AddsPartition folder name before after old new
@@ -55,7 +55,7 @@ HasPartitions number others old new = (names : List ℕ) × (mid : List Call)
     new
 
 -- by what the system says of a path, that names one of these devices
-abbrev pub is_device : (own others : List ℕ) → Result Seen Fault → Bool
+abbrev pub is_device : (own others : List ℕ) → Result FileStat Fault → Bool
 is_device own others (Ok seen) =
     option_map_or (λ (number : ℕ). is_one_of own others (number_text number)) seen.block false
 is_device own others (Err fault) = false
@@ -66,7 +66,7 @@ pub data IsSwapLine (own others line : List ℕ) (is : Bool) (old new : List Cal
   no_field : parts_of 32 line ≡ [] → is ≡ false → new ≡ old → IsSwapLine own others line is old new
   no_text : (path : List ℕ) (rest : List (List ℕ)) → parts_of 32 line ≡ path ∷ rest
       → ¬ (IsUtf8 path) → is ≡ false → new ≡ old → IsSwapLine own others line is old new
-  path : (path : List ℕ) (rest : List (List ℕ)) (answer : Result Seen Fault)
+  path : (path : List ℕ) (rest : List (List ℕ)) (answer : Result FileStat Fault)
       → parts_of 32 line ≡ path ∷ rest → is ≡ is_device own others answer
       → new ≡ old ++ followed path answer ∷ [] → IsSwapLine own others line is old new
 

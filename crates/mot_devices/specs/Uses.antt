@@ -9,7 +9,7 @@ use Rattle.mot_files.specs.Call.{Call, followed}
 use Rattle.mot_files.specs.declared.system.Fault.{Fault}
 use Rattle.mot_files.specs.declared.system.Fault.TheVariants.{Absent}
 use Rattle.mot_files.specs.declared.system.How.TheVariants as how
-use Rattle.mot_files.specs.declared.system.Seen.{Seen}
+use Rattle.mot_files.specs.declared.system.FileStat.{FileStat}
 use Rattle.mot_devices.specs.Beside.{IsApart, IsFileOfDisk}
 use Rattle.mot_devices.specs.Looking.{IsUnread, WasRead, Within}
 use Rattle.mot_devices.specs.Mounts.{mount_in}
@@ -23,7 +23,7 @@ use Rattle.mot_devices.specs.declared.signature.Signature.{Signature}
 use Rattle.mot_devices.specs.declared.using.TheConstants.{HEAD, MOST}
 
 -- what the system said of the path: it names no block device, or nothing
-abbrev pub NamesNone : Result Seen Fault → Type 0
+abbrev pub NamesNone : Result FileStat Fault → Type 0
 NamesNone (Ok seen) = seen.block ≡ None
 NamesNone (Err (Absent error)) = Unit {0}
 NamesNone (Err fault) = ⊥
@@ -56,9 +56,9 @@ pub record IsFreeDevice (path : List ℕ) (number : ℕ) (old new : List Call) :
 
 -- The path named no block device, and nothing but that was asked; or it names one that is free.
 pub data IsFreeThere (path : List ℕ) (old new : List Call) : Type 0 where
-  no_device : (answer : Result Seen Fault) → NamesNone answer
+  no_device : (answer : Result FileStat Fault) → NamesNone answer
       → new ≡ old ++ followed path answer ∷ [] → IsFreeThere path old new
-  device : (seen : Seen) (number : ℕ) → seen.block ≡ Some number
+  device : (seen : FileStat) (number : ℕ) → seen.block ≡ Some number
       → IsFreeDevice path number (old ++ followed path (Ok seen) ∷ []) new
       → IsFreeThere path old new
 
@@ -119,7 +119,7 @@ pub data IsUsedDevice (path : List ℕ) (number : ℕ) (found : DeviceUse) (old 
 -- The path named a block device, and that is used; or the system refused to say what it names,
 -- though something is there.
 pub data IsUsedThere (path : List ℕ) (found : DeviceUse) (old new : List Call) : Type 0 where
-  device : (seen : Seen) (number : ℕ) → seen.block ≡ Some number
+  device : (seen : FileStat) (number : ℕ) → seen.block ≡ Some number
       → IsUsedDevice path number found (old ++ followed path (Ok seen) ∷ []) new
       → IsUsedThere path found old new
   unseen : (fault : Fault) (error : Error) → found ≡ DeviceUse.Unseen error

@@ -1,3 +1,4 @@
+pub mod Copies
 pub mod Inner
 pub mod LinePlaces
 pub mod Lines

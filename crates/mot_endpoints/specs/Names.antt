@@ -6,7 +6,7 @@ use Rattle.mot_endpoints.specs.Placing.{LeadsTo}
 use Rattle.mot_devices.specs.Beside.{is_store_end}
 use Rattle.mot_files.specs.Call.{Call, followed}
 use Rattle.mot_files.specs.declared.system.Fault.{Fault}
-use Rattle.mot_files.specs.declared.system.Seen.{Seen}
+use Rattle.mot_files.specs.declared.system.FileStat.{FileStat}
 
 -- a folder that is not named is the working folder
 abbrev pub or_working : Option (List ℕ) → List ℕ
@@ -22,7 +22,7 @@ folder_of path = or_working (path_parent path)
 pub data IsSameFolder (path other : List ℕ) (result : Bool) (old new : List Call) : Type 0 where
   unseen : (fault : Fault) → result ≡ false → new ≡ old ++ followed path (Err fault) ∷ []
       → IsSameFolder path other result old new
-  seen : (folder : Seen) → LeadsTo other folder result (old ++ followed path (Ok folder) ∷ []) new
+  seen : (folder : FileStat) → LeadsTo other folder result (old ++ followed path (Ok folder) ∷ []) new
       → IsSameFolder path other result old new
 
 -- whether the name of a file is one that the disk's store may have beside the disk

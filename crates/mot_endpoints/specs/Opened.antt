@@ -7,7 +7,7 @@ use Rattle.mot_endpoints.specs.declared.fault.Cause.{Cause}
 use Rattle.mot_endpoints.specs.declared.fault.LinesFault.{LinesFault}
 use Rattle.mot_endpoints.specs.LinePlaces.{ChecksLines}
 use Rattle.mot_endpoints.specs.Texts.{AsksFirst, IsTextOf}
-use Rattle.mot_endpoints.specs.declared.lines.Others.{Others}
+use Rattle.mot_endpoints.specs.declared.lines.OtherFiles.{OtherFiles}
 use Rattle.mot_files.specs.Call.{Call, apart}
 use Rattle.mot_files.specs.declared.system.Part.TheVariants as Part
 use Rattle.mot_numbers.specs.declared.refusal.Refusal.{Refusal}
@@ -21,7 +21,7 @@ TakesIn P old new = (calls : List Call) × P calls × (new ≡ old ++ calls)
 -- status, or what takes packets, is given to a system of its own.
 pub data Need : Type 0 where
   types : (path : List ℕ) → Need
-  lines : (path : List ℕ) → Others → Need
+  lines : (path : List ℕ) → OtherFiles → Need
   folder : (path : List ℕ) → Need
   status : (path : List ℕ) → Need
   packets : (path disk : List ℕ) → (turns : Option ℕ) → Need

@@ -28,7 +28,7 @@ use Rattle.mot_files.specs.declared.system.How.TheVariants as How
 use Rattle.mot_files.specs.declared.system.How.{How as Way}
 use Rattle.mot_files.specs.declared.system.Kind.{Kind}
 use Rattle.mot_files.specs.declared.system.Kind.TheVariants.{Pipe}
-use Rattle.mot_files.specs.declared.system.Seen.{Seen}
+use Rattle.mot_files.specs.declared.system.FileStat.{FileStat}
 
 -- what a path names, as far as it tells by itself: `-`, and nothing else, is standard output
 abbrev pub IsTarget : List ℕ → Target → Type 0
@@ -102,11 +102,11 @@ pub data IsStream (handle : Handle) (result : Result Handle PacketsFault) (old n
     Type 0 where
   unseen : (fault : Fault) → result ≡ Err (told_as fault)
       → new ≡ old ++ looked_at handle (Err fault) ∷ [] → IsStream handle result old new
-  block : (found : Seen) → found.block ≢ None → result ≡ Err PacketsFault.BlockDevice
+  block : (found : FileStat) → found.block ≢ None → result ≡ Err PacketsFault.BlockDevice
       → new ≡ old ++ looked_at handle (Ok found) ∷ [] → IsStream handle result old new
-  device : (found : Seen) → found.block ≡ None → found.kind ≢ Pipe → result ≡ Ok handle
+  device : (found : FileStat) → found.block ≡ None → found.kind ≢ Pipe → result ≡ Ok handle
       → new ≡ old ++ looked_at handle (Ok found) ∷ [] → IsStream handle result old new
-  pipe : (found : Seen) (answer : Result (Unit {0}) Fault) → found.block ≡ None
+  pipe : (found : FileStat) (answer : Result (Unit {0}) Fault) → found.block ≡ None
       → found.kind ≡ Pipe → result ≡ held_by handle answer
       → new ≡ old ++ looked_at handle (Ok found) ∷ [] ++ locked handle answer ∷ []
       → IsStream handle result old new
@@ -125,7 +125,7 @@ place_for None Kind.Link = Ok Place.Stream
 place_for None Kind.Pipe = Ok Place.Stream
 place_for None Kind.Special = Ok Place.Stream
 
-abbrev pub place_of : Seen → Result Place PacketsFault
+abbrev pub place_of : FileStat → Result Place PacketsFault
 place_of found = place_for found.block found.kind
 
 -- nothing stands at a path that has a name; any other fault is handed on
@@ -144,7 +144,7 @@ pub data IsPlace (path disk : List ℕ) (result : Result Place PacketsFault) (ol
   unseen : (fault : Fault) (inner : List Call) → result ≡ place_without path fault
       → IsOfDisk path disk false old inner → new ≡ inner ++ followed path (Err fault) ∷ []
       → IsPlace path disk result old new
-  seen : (found : Seen) (is : Bool) (inner : List Call) → IsOfDisk path disk false old inner
+  seen : (found : FileStat) (is : Bool) (inner : List Call) → IsOfDisk path disk false old inner
       → LeadsTo disk found is (inner ++ followed path (Ok found) ∷ []) new
       → result ≡ (if is then Err PacketsFault.IsDisk else place_of found)
       → IsPlace path disk result old new

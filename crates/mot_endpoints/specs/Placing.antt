@@ -14,7 +14,7 @@ use Rattle.mot_files.specs.declared.system.Fault.TheVariants.{Absent, Busy, Syst
 use Rattle.mot_files.specs.declared.system.Handle.{Handle}
 use Rattle.mot_files.specs.declared.system.How.TheVariants as How
 use Rattle.mot_files.specs.declared.system.Kind.TheVariants.{File}
-use Rattle.mot_files.specs.declared.system.Seen.{Seen}
+use Rattle.mot_files.specs.declared.system.FileStat.{FileStat}
 
 -- why packets are not written, by what the system says
 abbrev pub told_as : Fault → PacketsFault
@@ -39,13 +39,13 @@ unless_absent Busy = Err PacketsFault.InUse
 unless_absent (System error) = Err (PacketsFault.System error)
 
 -- whether the file that was seen is what a path leads to, by what the system says of that
-abbrev pub is_answer_of : Seen → Result Seen Fault → Bool
+abbrev pub is_answer_of : FileStat → Result FileStat Fault → Bool
 is_answer_of seen (Ok found) = (found.device == seen.device) && (found.number == seen.number)
 is_answer_of seen (Err fault) = false
 
 -- whether a path leads to the file that was seen
-abbrev pub LeadsTo : (path : List ℕ) (seen : Seen) → Bool → (old new : List Call) → Type 0
-LeadsTo path seen is old new = (answer : Result Seen Fault)
+abbrev pub LeadsTo : (path : List ℕ) (seen : FileStat) → Bool → (old new : List Call) → Type 0
+LeadsTo path seen is old new = (answer : Result FileStat Fault)
     × (new ≡ old ++ followed path answer ∷ []) × (is ≡ is_answer_of seen answer)
 
 -- what calls come to, from those that were made before to those that were made then
@@ -66,9 +66,9 @@ pub data Finds (path disk : List ℕ) (result : Result Bool PacketsFault) (old n
     Type 0 where
   unseen : (fault : Fault) → result ≡ unless_absent fault
       → new ≡ old ++ looked path (Err fault) ∷ [] → Finds path disk result old new
-  no_file : (named : Seen) → result ≡ Err PacketsFault.NoFile → named.kind ≢ File
+  no_file : (named : FileStat) → result ≡ Err PacketsFault.NoFile → named.kind ≢ File
       → new ≡ old ++ looked path (Ok named) ∷ [] → Finds path disk result old new
-  file : (named : Seen) (is : Bool) → named.kind ≡ File
+  file : (named : FileStat) (is : Bool) → named.kind ≡ File
       → LeadsTo disk named is (old ++ looked path (Ok named) ∷ []) new
       → result ≡ (if is then Err PacketsFault.IsDisk else Ok true) → Finds path disk result old new
 
@@ -97,13 +97,13 @@ Clears path disk = Then (Finds path disk) (IfThere (RemovesUnused path))
 pub data TakesAway (handle : Handle) (path : List ℕ) (old new : List Call) : Type 0 where
   unseen : (fault : Fault) → new ≡ old ++ looked path (Err fault) ∷ []
       → TakesAway handle path old new
-  unheld : (named : Seen) (fault : Fault)
+  unheld : (named : FileStat) (fault : Fault)
       → new ≡ old ++ looked path (Ok named) ∷ [] ++ looked_at handle (Err fault) ∷ []
       → TakesAway handle path old new
-  other : (named held : Seen) → ¬ (IsSame held named)
+  other : (named held : FileStat) → ¬ (IsSame held named)
       → new ≡ old ++ looked path (Ok named) ∷ [] ++ looked_at handle (Ok held) ∷ []
       → TakesAway handle path old new
-  same : (named held : Seen) (answer : Result (Unit {0}) Fault) → IsSame held named
+  same : (named held : FileStat) (answer : Result (Unit {0}) Fault) → IsSame held named
       → new ≡ old ++ looked path (Ok named) ∷ [] ++ looked_at handle (Ok held) ∷ []
       ++ removed path answer ∷ [] → TakesAway handle path old new
 

@@ -7,12 +7,12 @@ use Rattle.mot_files.specs.declared.system.Fault.{Fault}
 use Rattle.mot_files.specs.declared.system.Handle.{Handle}
 use Rattle.mot_files.specs.declared.system.How.TheVariants as How
 use Rattle.mot_files.specs.declared.system.Kind.TheVariants.{File}
-use Rattle.mot_files.specs.declared.system.Seen.{Seen}
+use Rattle.mot_files.specs.declared.system.FileStat.{FileStat}
 
 -- a regular file was opened, the one that the path led to
 pub record IsOpened (path : List ℕ) (handle : Handle) (old new : List Call) : Type 0 where
-  pub named : Seen
-  pub held : Seen
+  pub named : FileStat
+  pub held : FileStat
   pub regular : named.kind ≡ File
   pub same : IsSame held named
   pub calls : new ≡ old ++ followed path (Ok named) ∷ [] ++ opened path How.Read (Ok handle) ∷ []
@@ -35,6 +35,6 @@ pub record IsTextOf (path text : List ℕ) (old new : List Call) : Type 0 where
 
 -- calls were made, the first of which asked what the path leads to
 pub record AsksFirst (path : List ℕ) (old new : List Call) : Type 0 where
-  pub answer : Result Seen Fault
+  pub answer : Result FileStat Fault
   pub rest : List Call
   pub calls : new ≡ old ++ followed path answer ∷ rest

@@ -5,7 +5,7 @@ ghost use Rattle.mot_endpoints.specs.Names.{IsOfDisk, IsSameFolder, folder_of, i
 ghost use Rattle.mot_endpoints.specs.Placing.{LeadsTo};
 ghost use Rattle.mot_devices.specs.Beside.{is_store_end};
 
-use mot_files::{Seen, System};
+use mot_files::{FileStat, System};
 use std::path::Path;
 
 /// The end of the name of the file that is written.
@@ -66,7 +66,7 @@ fn is_same_folder<S: System>(system: &mut S, path: &str, other: &str) -> bool
 }
 
 /// Whether the path leads to the file that was seen.
-pub fn leads_to<S: System>(system: &mut S, path: &str, seen: &Seen) -> bool
+pub fn leads_to<S: System>(system: &mut S, path: &str, seen: &FileStat) -> bool
     ensures { LeadsTo path.now seen.now result (S.calls system.old) (S.calls system.new) }
 {
     match system.follow(path) {

@@ -125,29 +125,29 @@ impl Cause {
 
 /// Why a task was not begun.
 #[derive(Clone, Copy)]
-pub struct Unbegun {
+pub struct StartError {
     /// The refusal.
     pub refusal: Refusal,
     /// What is wrong with a file, if that is the cause.
     pub cause: Option<Cause>,
 }
 
-impl Unbegun {
+impl StartError {
     /// There is no memory.
-    pub fn no_memory() -> Unbegun
+    pub fn no_memory() -> StartError
         ensures { result.refusal ≡ OutOfMemory }
     {
-        Unbegun {
+        StartError {
             refusal: Refusal::OutOfMemory,
             cause: None,
         }
     }
 
     /// A file or a folder can't be read.
-    pub fn unread(cause: Cause) -> Unbegun
+    pub fn unread(cause: Cause) -> StartError
         ensures { result.refusal ≡ ReadFault }
     {
-        Unbegun {
+        StartError {
             refusal: Refusal::ReadFault,
             cause: Some(cause),
         }

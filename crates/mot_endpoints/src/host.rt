@@ -16,10 +16,10 @@ ghost use Rattle.mot_files.specs.declared.system.Part.TheVariants as Part;
 ghost use Rattle.mot_shelf.specs.Reader.{view};
 ghost use Rattle.mot_shelf.specs.View.{folder_at};
 
-use crate::lines::{Others, check_folder};
+use crate::lines::{OtherFiles, check_folder};
 use crate::{Cause, LinesFault, OpenPackets, StatusFile, Target, open_packets};
 use disk_store::{
-    BegunFile, DiskFiles, HostFiles, SideFile, Start, Unopened, WasMade, WasThere, make_file,
+    BegunFile, DiskFiles, FailedOpening, HostFiles, SideFile, Start, WasMade, WasThere, make_file,
     open_file,
 };
 use mot_files::{CallLog, Event, Fault, HostSystem, Part, System};
@@ -82,7 +82,7 @@ impl<M: Machine + Drop> Host<M> {
         &mut self,
         path: &str,
         start: S,
-    ) -> Result<BegunFile<S, WasThere>, Unopened<S>>
+    ) -> Result<BegunFile<S, WasThere>, FailedOpening<S>>
         ensures first { IfOk result (λ file. IsFirst false file.disk) }
         ensures calls { M.System.calls self.new.system
             ≡ M.System.calls self.old.system ++ opened_disk path.now (is_ok result) ∷ [] }
@@ -99,7 +99,7 @@ impl<M: Machine + Drop> Host<M> {
         path: &str,
         len: u64,
         start: S,
-    ) -> Result<BegunFile<S, WasMade>, Unopened<S>>
+    ) -> Result<BegunFile<S, WasMade>, FailedOpening<S>>
         ensures first { IfOk result (λ file. IsFirst true file.disk) }
         ensures len { IfOk result (λ file. (file_state file.disk).len ≡ len) }
         ensures calls { M.System.calls self.new.system
@@ -112,7 +112,7 @@ impl<M: Machine + Drop> Host<M> {
             }
             Err(error) => {
                 self.side = None;
-                Err(Unopened::of(start, error))
+                Err(FailedOpening::of(start, error))
             }
         };
         self.note(Event::MadeDisk(made.is_ok()), path);
@@ -198,7 +198,7 @@ impl<M: Machine + Drop> Host<M> {
     pub fn lines<'a>(
         &mut self,
         path: &'a str,
-        others: Others<'_>,
+        others: OtherFiles<'_>,
     ) -> Result<LinePlace<'a, M::System>, LinesFault>
         ensures path { IfOk result (λ place. place.path ≡ path.entry) }
         ensures checked { IfOk result (λ place. ChecksLines path.now others.entry (Ok tt)

@@ -3,6 +3,7 @@
 #![tactic(auto)]
 
 mod beside;
+mod copy;
 mod fault;
 mod host;
 mod lines;
@@ -12,9 +13,10 @@ mod status_file;
 mod types;
 
 pub use beside::{SUFFIX, folder_of, leads_to};
-pub use fault::{Cause, LinesFault, NewDiskFault, PacketsFault, TypesFault, Unbegun};
+pub use copy::copy_unopened;
+pub use fault::{Cause, LinesFault, NewDiskFault, PacketsFault, StartError, TypesFault};
 pub use host::{Host, Machine};
-pub use lines::{Others, line_folder};
+pub use lines::{OtherFiles, line_folder};
 pub use new_file::NewPlace;
 pub use packets::{Destination, OUTPUT, OpenPackets, Opening, PacketWriter, Target, open_packets};
 pub use status_file::StatusFile;

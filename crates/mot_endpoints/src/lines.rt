@@ -11,8 +11,8 @@ ghost use Rattle.mot_files.specs.declared.system.Kind.TheVariants.{Folder};
 ghost use Rattle.mot_line_folder.specs.declared.folder.LineFolder.{LineFolder};
 
 use crate::host::{Host, Machine};
-use crate::{Cause, LinesFault, OUTPUT, Unbegun, folder_of, leads_to};
-use mot_files::{Fault, Kind, Seen, System};
+use crate::{Cause, LinesFault, OUTPUT, StartError, folder_of, leads_to};
+use mot_files::{Fault, FileStat, Kind, System};
 use mot_line_folder::LineFolder;
 use mot_lines::Hand;
 use std::alloc::Global;
@@ -27,7 +27,7 @@ const PATH: usize = 4_096;
 
 /// The other files of the command. None may stand in the folder of lines, which are removed.
 #[derive(Clone, Copy)]
-pub struct Others<'a> {
+pub struct OtherFiles<'a> {
     /// The folder of objects, if one is given.
     pub objects: Option<&'a str>,
     /// The disk.
@@ -45,8 +45,8 @@ pub fn line_folder<'a, M: Machine + Drop>(
     alloc: Global,
     path: Option<&'a str>,
     every: Option<u32>,
-    others: Others<'_>,
-) -> Result<Option<LineFolder<'a, M::System>>, Unbegun>
+    others: OtherFiles<'_>,
+) -> Result<Option<LineFolder<'a, M::System>>, StartError>
     ensures given { IfOk result (λ lines. is_none lines ≡ is_none path.entry) }
     ensures folder { IfOk result
         (λ lines. option_map (λ lines. lines.place.path) lines ≡ path.entry) }
@@ -67,7 +67,7 @@ pub fn line_folder<'a, M: Machine + Drop>(
     };
     let place = match host.lines(path, others) {
         Ok(place) => place,
-        Err(fault) => return Err(Unbegun::unread(Cause::Lines(fault))),
+        Err(fault) => return Err(StartError::unread(Cause::Lines(fault))),
     };
     match Hand::new(alloc) {
         Ok(hand) => Ok(Some(LineFolder {
@@ -75,7 +75,7 @@ pub fn line_folder<'a, M: Machine + Drop>(
             hand,
             every: every.unwrap_or(EVERY),
         })),
-        Err(_) => Err(Unbegun::no_memory()),
+        Err(_) => Err(StartError::no_memory()),
     }
 }
 
@@ -83,7 +83,7 @@ pub fn line_folder<'a, M: Machine + Drop>(
 pub(crate) fn check_folder<S: System>(
     system: &mut S,
     path: &str,
-    others: Others<'_>,
+    others: OtherFiles<'_>,
 ) -> Result<(), LinesFault>
     ensures { ChecksLines path.now others.entry result (S.calls system.old) (S.calls system.new) }
 {
@@ -109,7 +109,7 @@ fn refused(fault: Fault) -> LinesFault
 }
 
 /// Whether it is a folder.
-fn is_folder(found: &Seen) -> bool
+fn is_folder(found: &FileStat) -> bool
     ensures { IsTrue result ↔ (found.now.kind ≡ Folder) }
 {
     found.kind == Kind::Folder
@@ -118,8 +118,8 @@ fn is_folder(found: &Seen) -> bool
 /// Refuses the folder if it is that of the objects, or if another file stands in it.
 fn check_others<S: System>(
     system: &mut S,
-    folder: &Seen,
-    others: Others<'_>,
+    folder: &FileStat,
+    others: OtherFiles<'_>,
 ) -> Result<(), LinesFault>
     ensures { IsApartFrom others.entry folder.now result (S.calls system.old)
         (S.calls system.new) }
@@ -139,7 +139,7 @@ fn check_others<S: System>(
 /// Refuses the folder if it is that of the objects, if one is given.
 fn check_objects<S: System>(
     system: &mut S,
-    folder: &Seen,
+    folder: &FileStat,
     objects: Option<&str>,
 ) -> Result<(), LinesFault>
     ensures { IfGiven (IsElsewhere folder.now LinesFault.HasObjects) objects.entry result
@@ -152,7 +152,11 @@ fn check_objects<S: System>(
 }
 
 /// Refuses what takes the packets if it stands in the folder. Standard output stands nowhere.
-fn check_packets<S: System>(system: &mut S, folder: &Seen, packets: &str) -> Result<(), LinesFault>
+fn check_packets<S: System>(
+    system: &mut S,
+    folder: &FileStat,
+    packets: &str,
+) -> Result<(), LinesFault>
     ensures { PacketsApart folder.now packets.now result (S.calls system.old) (S.calls system.new) }
 {
     if packets == OUTPUT {
@@ -164,7 +168,7 @@ fn check_packets<S: System>(system: &mut S, folder: &Seen, packets: &str) -> Res
 /// Refuses the file that adds suffixes, if one is given, if it stands in the folder.
 fn check_types<S: System>(
     system: &mut S,
-    folder: &Seen,
+    folder: &FileStat,
     types: Option<&str>,
 ) -> Result<(), LinesFault>
     ensures { IfGiven (IsApart folder.now LinesFault.HasTypes) types.entry result
@@ -179,7 +183,7 @@ fn check_types<S: System>(
 /// Refuses a path if what it names stands in the folder, or would; or, of a link, what it leads to.
 fn check_apart<S: System>(
     system: &mut S,
-    folder: &Seen,
+    folder: &FileStat,
     path: &str,
     why: LinesFault,
 ) -> Result<(), LinesFault>
@@ -202,7 +206,7 @@ fn check_apart<S: System>(
 /// Refuses a path that leads to the folder.
 fn check_elsewhere<S: System>(
     system: &mut S,
-    folder: &Seen,
+    folder: &FileStat,
     path: &str,
     why: LinesFault,
 ) -> Result<(), LinesFault>

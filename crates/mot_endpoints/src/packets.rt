@@ -17,7 +17,7 @@ ghost use Rattle.mot_packets.specs.Outlet.{Grows};
 use crate::beside::{SUFFIX, folder_of, is_of_disk, leads_to};
 use crate::fault::{Cause, PacketsFault};
 use crate::new_file::{NewPlace, begin, take_away};
-use mot_files::{CallLog, Fault, Handle, How, Kind, Seen, System, take_place};
+use mot_files::{CallLog, Fault, FileStat, Handle, How, Kind, System, take_place};
 use mot_packets::Outlet;
 use std::alloc::{AllocError, Global};
 use std::io;
@@ -312,7 +312,7 @@ fn open_stream<S: System>(system: &mut S, path: &str) -> Result<Handle, PacketsF
 }
 
 /// Whether it is a named pipe.
-fn is_pipe(found: &Seen) -> bool
+fn is_pipe(found: &FileStat) -> bool
     ensures { IsTrue result ↔ (found.now.kind ≡ Pipe) }
 {
     found.kind == Kind::Pipe
@@ -351,7 +351,7 @@ fn place_without(path: &str, fault: Fault) -> Result<Place, PacketsFault>
 }
 
 /// What it is, as far as it takes packets: a block device takes none.
-fn place_of(found: &Seen) -> Result<Place, PacketsFault>
+fn place_of(found: &FileStat) -> Result<Place, PacketsFault>
     ensures { result ≡ place_of found.now }
 {
     match (found.block, found.kind) {

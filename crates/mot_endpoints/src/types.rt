@@ -8,11 +8,11 @@ ghost use Rattle.mot_endpoints.specs.Texts.{AsksFirst, IsOpened, IsReadToEnd, Is
 ghost use Rattle.mot_endpoints.specs.Types.{IsTyped, IsUntyped};
 ghost use Rattle.mot_files.specs.Call.{looked_at, read_of};
 ghost use Rattle.mot_files.specs.Reading.{IsSame};
-ghost use Rattle.mot_files.specs.declared.system.Seen.{Seen};
+ghost use Rattle.mot_files.specs.declared.system.FileStat.{FileStat};
 
 use crate::host::{Host, Machine};
-use crate::{Cause, TypesFault, Unbegun};
-use mot_files::{Fault, Handle, How, Seen, System, is_regular, is_same};
+use crate::{Cause, StartError, TypesFault};
+use mot_files::{Fault, FileStat, Handle, How, System, is_regular, is_same};
 use mot_numbers::Refusal;
 use mot_suffixes::{FileTypes, RefusedLine};
 use std::alloc::{AllocError, Global};
@@ -26,7 +26,7 @@ pub fn file_types<M: Machine + Drop>(
     host: &mut Host<M>,
     alloc: Global,
     path: Option<&str>,
-) -> Result<FileTypes, Unbegun>
+) -> Result<FileTypes, StartError>
     ensures typed { IfOk result (IsTyped path.entry) }
     ensures refused { IfErr result (λ unbegun. IsUntyped path.entry unbegun.refusal) }
     ensures opens { MatchResult result
@@ -37,14 +37,14 @@ pub fn file_types<M: Machine + Drop>(
 {
     let mut types = match FileTypes::new(alloc) {
         Ok(types) => types,
-        Err(AllocError) => return Err(Unbegun::no_memory()),
+        Err(AllocError) => return Err(StartError::no_memory()),
     };
     let Some(path) = path else {
         return Ok(types);
     };
     let text = match read_text(&mut host.system, alloc, path) {
         Ok(text) => text,
-        Err(fault) => return Err(Unbegun::unread(Cause::Types(fault))),
+        Err(fault) => return Err(StartError::unread(Cause::Types(fault))),
     };
     match types.add(alloc, &text) {
         Ok(()) => Ok(types),
@@ -53,12 +53,12 @@ pub fn file_types<M: Machine + Drop>(
 }
 
 /// A line of the file does not have the form, or there was no memory for it.
-fn wrong(at: RefusedLine) -> Unbegun
+fn wrong(at: RefusedLine) -> StartError
     ensures { result.refusal ≡ at.refusal }
 {
     match at.refusal {
-        Refusal::OutOfMemory => Unbegun::no_memory(),
-        refusal => Unbegun {
+        Refusal::OutOfMemory => StartError::no_memory(),
+        refusal => StartError {
             refusal,
             cause: Some(Cause::Types(TypesFault::Line(at.number))),
         },
@@ -112,9 +112,9 @@ fn open_regular<S: System>(system: &mut S, path: &str) -> Result<Handle, TypesFa
 }
 
 /// Whether what was opened is the file that was seen at its path.
-fn check_same<S: System>(system: &mut S, handle: Handle, named: &Seen) -> Result<(), TypesFault>
+fn check_same<S: System>(system: &mut S, handle: Handle, named: &FileStat) -> Result<(), TypesFault>
     ensures more { Extends (S.calls system.old) (S.calls system.new) }
-    ensures same { IfOk result (λ _. (held : Seen) × IsSame held named.now × (S.calls system.new
+    ensures same { IfOk result (λ _. (held : FileStat) × IsSame held named.now × (S.calls system.new
         ≡ S.calls system.old ++ looked_at handle (Ok held) ∷ [])) }
 {
     let held = match system.look_at(handle) {

@@ -1,20 +1,20 @@
 -- The words of events, what a look met of a name, and whether it went by the folder's list.
 use Rattle.std.specs.Prelude.{ℕ, Bool, true, false, not, List, codes}
 use Rattle.std.specs.List.{list_any}
-use Rattle.mot_events.specs.declared.event.Deed.{Deed}
-use Rattle.mot_events.specs.declared.event.Deed.TheVariants as deed
+use Rattle.mot_events.specs.declared.event.LookStep.{LookStep}
+use Rattle.mot_events.specs.declared.event.LookStep.TheVariants as deed
 use Rattle.mot_events.specs.declared.event.LookEvent.{LookEvent}
-use Rattle.mot_events.specs.declared.event.Met.{Met}
-use Rattle.mot_events.specs.declared.event.Met.TheVariants as met
+use Rattle.mot_events.specs.declared.event.LookResult.{LookResult}
+use Rattle.mot_events.specs.declared.event.LookResult.TheVariants as met
 use Rattle.mot_events.specs.declared.event.Skip.{Skip}
 use Rattle.mot_events.specs.declared.event.Skip.TheVariants as skip
 
-abbrev pub deed_word : Deed → List ℕ
-deed_word deed.Put = codes "put"
-deed_word deed.Replace = codes "replace"
-deed_word deed.Withdraw = codes "withdraw"
-deed_word deed.Read = codes "read"
-deed_word deed.Look = codes "look"
+abbrev pub step_word : LookStep → List ℕ
+step_word deed.Put = codes "put"
+step_word deed.Replace = codes "replace"
+step_word deed.Withdraw = codes "withdraw"
+step_word deed.Read = codes "read"
+step_word deed.Look = codes "look"
 
 abbrev pub skip_word : Skip → List ℕ
 skip_word skip.Suffix = codes "suffix"
@@ -24,15 +24,15 @@ skip_word skip.Special = codes "special"
 skip_word skip.NotUtf8 = codes "not UTF-8"
 
 -- what a look met of this name
-abbrev pub event_of : List ℕ → Met → LookEvent
+abbrev pub event_of : List ℕ → LookResult → LookEvent
 event_of name met = record { name = name; met = met }
 
 -- the whole look went wrong: the folder was not listed, has no object, or too few
-abbrev pub is_look : Deed → Bool
+abbrev pub is_look : LookStep → Bool
 is_look deed.Look = true
 is_look other = false
 
-abbrev pub is_of_folder : Met → Bool
+abbrev pub is_of_folder : LookResult → Bool
 is_of_folder (met.Refused deed refusal why) = is_look deed
 is_of_folder met.Kept = true
 is_of_folder (met.KeptMost going all) = true

@@ -1,6 +1,6 @@
 //! What happened, as data. An event is made once, where what it says is known.
 ghost use Rattle.std.specs.Prelude.{◌≡◌};
-ghost use Rattle.mot_events.specs.Events.{deed_word, is_look, skip_word};
+ghost use Rattle.mot_events.specs.Events.{step_word, is_look, skip_word};
 
 use crate::words::Words;
 use mot_lines::Verb;
@@ -10,7 +10,7 @@ use mot_suffixes::OtherImage;
 
 /// What was done in a look at a folder, or was to be done.
 #[derive(Clone, Copy, PartialEq, Eq)]
-pub enum Deed {
+pub enum LookStep {
     /// The object of a name was put.
     Put,
     /// The object of a name was replaced.
@@ -23,17 +23,17 @@ pub enum Deed {
     Look,
 }
 
-impl Deed {
+impl LookStep {
     /// Its word in a line.
     pub fn word(self) -> &'static str
-        ensures { result.now ≡ deed_word self }
+        ensures { result.now ≡ step_word self }
     {
         match self {
-            Deed::Put => "put",
-            Deed::Replace => "replace",
-            Deed::Withdraw => "withdraw",
-            Deed::Read => "read",
-            Deed::Look => "look",
+            LookStep::Put => "put",
+            LookStep::Replace => "replace",
+            LookStep::Withdraw => "withdraw",
+            LookStep::Read => "read",
+            LookStep::Look => "look",
         }
     }
 
@@ -42,7 +42,7 @@ impl Deed {
         ensures { result ≡ is_look self }
     {
         match self {
-            Deed::Look => true,
+            LookStep::Look => true,
             _ => false,
         }
     }
@@ -113,11 +113,11 @@ pub enum Why {
 
 /// What a look at a folder met.
 #[derive(PartialEq, Drop)]
-pub enum Met {
+pub enum LookResult {
     /// A command was done, with these ids.
-    Done(Deed, Done),
+    Done(LookStep, Done),
     /// It was refused, and nothing was changed by it.
-    Refused(Deed, Refusal, Why),
+    Refused(LookStep, Refusal, Why),
     /// A file was changed a moment ago. The next look may take it.
     Young,
     /// A file was changed while it was read. The next look may take it.
@@ -146,7 +146,7 @@ pub struct LookEvent {
     /// The name, as it is.
     pub name: Words,
     /// What was met.
-    pub met: Met,
+    pub met: LookResult,
 }
 
 impl LookEvent {

@@ -12,7 +12,7 @@ mod listed;
 mod tells;
 mod words;
 
-pub use event::{Deed, Event, LookEvent, Met, Reply, Skip, Why};
+pub use event::{Event, LookEvent, LookResult, LookStep, Reply, Skip, Why};
 pub use inlet::Inlet;
 pub use line_count::LineCount;
 pub use listed::is_listed;

@@ -2,7 +2,7 @@
 ghost use Rattle.std.specs.Prelude.{◌≡◌};
 ghost use Rattle.mot_events.specs.Events.{is_listed, is_of_folder};
 
-use crate::event::{LookEvent, Met};
+use crate::event::{LookEvent, LookResult};
 
 /// Whether the last look went by the folder's list.
 pub fn is_listed(events: &[LookEvent]) -> bool
@@ -17,12 +17,12 @@ pub fn is_listed(events: &[LookEvent]) -> bool
 }
 
 /// Whether the whole look went wrong.
-fn is_of_folder(met: &Met) -> bool
+fn is_of_folder(met: &LookResult) -> bool
     ensures { result ≡ is_of_folder met.now }
 {
     match met {
-        Met::Refused(deed, _, _) => deed.is_look(),
-        Met::Kept | Met::KeptMost(_, _) => true,
+        LookResult::Refused(deed, _, _) => deed.is_look(),
+        LookResult::Kept | LookResult::KeptMost(_, _) => true,
         _ => false,
     }
 }

@@ -23,7 +23,7 @@ use Rattle.mot_player.specs.Turn.{turn_of_carousel}
 use Rattle.mot_listening.specs.TurnSize.{size_of_turn}
 use Rattle.mot_listening.specs.declared.turn.TurnSize.{TurnSize}
 use Rattle.mot_export.specs.Inspecting.{Inspects, PrintsFigures, TellsOfDisk}
-use Rattle.mot_export.specs.Inspecting.{bytes_of_bodies, inspection_text, rates_of}
+use Rattle.mot_export.specs.Inspecting.{bytes_of_bodies, inspection_text, usual_pause}
 use Rattle.mot_export.specs.Inspecting.{sizes_text, turn_lengths_text, turn_text, use_text}
 use Rattle.mot_export.specs.Inspecting.{waits_text}
 use Rattle.mot_export.specs.Inner.Inspected.{HasInspected, IsInspectingFault}
@@ -93,15 +93,16 @@ front_text s layout records gap rates =
     (turn_of_carousel s.carousel s.geometry.segment)
 
 -- and that
-pub waits_so : (front : List ℕ) (a b g : Geometry) (d directory t turn : ℕ) → a ≡ b → b ≡ g
-    → d ≡ directory → t ≡ turn
-    → front ++ waits_text (div_ceil (a.segment + 11) (packet_room a)) d t
-    ≡ front ++ waits_text (div_ceil (g.segment + 11) (packet_room g)) directory turn
-waits_so front a b g d directory t turn first then ds ts =
-    ap (λ (h : Geometry). front ++ waits_text (div_ceil (h.segment + 11) (packet_room h)) d t)
-    (first ∙ then)
-    ∙ ap (λ n. front ++ waits_text (div_ceil (g.segment + 11) (packet_room g)) n t) ds
-    ∙ ap (λ n. front ++ waits_text (div_ceil (g.segment + 11) (packet_room g)) directory n) ts
+pub waits_so : (front : List ℕ) (rate : Option ℕ) (a b g : Geometry) (d directory t turn : ℕ) → a ≡ b
+    → b ≡ g → d ≡ directory → t ≡ turn
+    → front ++ waits_text (usual_pause rate a.packet) (div_ceil (a.segment + 11) (packet_room a)) d t
+    ≡ front ++ waits_text (usual_pause rate g.packet) (div_ceil (g.segment + 11) (packet_room g))
+    directory turn
+waits_so front rate a b g d directory t turn first then ds ts =
+    let text = λ (h : Geometry) (m n : ℕ). front ++ waits_text (usual_pause rate h.packet)
+    (div_ceil (h.segment + 11) (packet_room h)) m n in
+    ap (λ (h : Geometry). text h d t) (first ∙ then) ∙ ap (λ n. text g n t) ds
+    ∙ ap (λ n. text g directory n) ts
 
 module _ (view : RepositoryView) (s : Standing) (agrees : Agrees view s) where
   abbrev items : List beside.Object
@@ -165,7 +166,7 @@ module _ {D : Type 0} (state : D → State) (disk : D) (server : ServerView D)
   tells_of : (is_printed : List ℕ → Type 0)
       → ((s : Standing) → Agrees server.view s
       → HasInspected rate server.view.journal (place_in server s) s is_printed)
-      → OfStanding (λ s. TellsOfDisk (rates_of rate) s (state disk).bytes is_printed) (state disk)
+      → OfStanding (λ s. TellsOfDisk rate s (state disk).bytes is_printed) (state disk)
       (state server.disk)
   tells_of is_printed told = λ s honest stands.
       let first = opened honest in
@@ -178,10 +179,10 @@ module _ {D : Type 0} (state : D → State) (disk : D) (server : ServerView D)
         gap = so.gap;
         longest = so.longest;
         printed = subst (λ (p : Place). is_printed (inspection_text s server.view.journal.layout
-            (length first.records) so.gap (directory_packets p) (rates_of rate)))
+            (length first.records) so.gap (directory_packets p) rate))
             (at_start s is.agrees)
             (subst (λ n. is_printed (inspection_text s server.view.journal.layout n so.gap
-            (directory_packets (place_in server s)) (rates_of rate))) first.count so.printed);
+            (directory_packets (place_in server s)) rate)) first.count so.printed);
       }
 
   -- what was printed of an open server was printed of the disk

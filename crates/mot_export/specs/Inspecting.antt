@@ -19,7 +19,7 @@ use Rattle.mot_listening.specs.Waits.{longest_group, round_for, soon_for, turn_p
 use Rattle.mot_player.specs.Laws.{IsAtTurnsBeginning}
 use Rattle.mot_player.specs.Place.{Place, directory_packets}
 use Rattle.mot_player.specs.Turn.{Turn, turn_of_carousel}
-use Rattle.mot_listening.specs.Lengths.{frame_size, lengths_of_turn}
+use Rattle.mot_listening.specs.Lengths.{frame_packets, frame_size, lengths_of_turn}
 use Rattle.mot_listening.specs.TurnSize.{size_of_turn}
 use Rattle.mot_listening.specs.declared.turn.TurnSize.{TurnSize}
 use Rattle.mot_export.specs.Filling.{frames_of, tenths_of}
@@ -123,14 +123,16 @@ turn_lengths_text rates size turn =
     lengths_text rates size (lengths_of_turn 19 size turn) (lengths_of_turn 43 size turn)
     (lengths_of_turn 67 size turn) (lengths_of_turn 91 size turn)
 
--- after how many packets `play` sends the directory again, if it is not told otherwise
-abbrev pub usual_pause : ℕ
-usual_pause = 340
+-- after how many packets of this length `play` sends the directory again, if it is told this rate or
+-- none, and no number of packets
+abbrev pub usual_pause : (rate : Option ℕ) → (packet : ℕ) → ℕ
+usual_pause None packet = 340
+usual_pause (Some rate) packet = 340 * frame_packets rate packet
 
--- the directory is heard after so many packets, as it usually is sent again, or with the carousel
-abbrev pub usually_heard : (group directory turn : ℕ) → ℕ
-usually_heard group directory turn =
-    min (soon_for (max usual_pause (10 * directory)) group directory)
+-- the directory is heard after so many packets, as it is sent again, or with the carousel
+abbrev pub usually_heard : (pause group directory turn : ℕ) → ℕ
+usually_heard pause group directory turn =
+    min (soon_for (max pause (10 * directory)) group directory)
     (round_for group 0 turn directory)
 
 abbrev pub heard_line : (directory carousel : ℕ) → List ℕ
@@ -140,10 +142,10 @@ heard_line directory carousel =
 
 -- After how many packets at most a receiver that begins to listen at any packet has the directory,
 -- and the carousel, if no command is accepted.
-abbrev pub waits_text : (group directory turn : ℕ) → List ℕ
-waits_text group directory turn =
+abbrev pub waits_text : (pause group directory turn : ℕ) → List ℕ
+waits_text pause group directory turn =
     number_line (codes "group") group ++ number_line (codes "directory") directory
-    ++ heard_line (usually_heard group directory turn) (round_for group 0 turn directory)
+    ++ heard_line (usually_heard pause group directory turn) (round_for group 0 turn directory)
 
 -- The packets of a turn that is played from its beginning are as many as its groups take.
 abbrev pub TurnsHaveTheirPackets : Type 0
@@ -152,30 +154,31 @@ TurnsHaveTheirPackets =
     → IsAtTurnsBeginning place → HasPlayedTurn place packets new
     → length packets ≡ turn_packets place
 
--- all that is told, with the longest gap, the packets of the directory, and the rates of
--- sub-channels
-abbrev pub inspection_text : Standing → Layout → (records gap directory : ℕ) → List ℕ → List ℕ
-inspection_text s layout records gap directory rates =
+-- all that is told, with the longest gap, the packets of the directory, and the rate of the
+-- sub-channel, if it is given
+abbrev pub inspection_text : Standing → Layout → (records gap directory : ℕ) → Option ℕ → List ℕ
+inspection_text s layout records gap directory rate =
     let turn = turn_of_carousel s.carousel s.geometry.segment in
     let size = size_of_turn (packet_room s.geometry) s.geometry.segment turn in
     sizes_text s.geometry
     ++ use_text s.geometry layout (length s.carousel.objects) (bytes_of_bodies s.carousel.objects)
     gap records
-    ++ turn_text size ++ turn_lengths_text rates s.geometry.segment turn
-    ++ waits_text (longest_group (first_place s)) directory size.packets
+    ++ turn_text size ++ turn_lengths_text (rates_of rate) s.geometry.segment turn
+    ++ waits_text (usual_pause rate s.geometry.packet) (longest_group (first_place s)) directory
+    size.packets
 
 -- In these the disk was in a state start and is in a state now, and the writer's known bytes were
 -- old and are new.
 
 -- what was printed, of which this is known, tells of a disk of these bytes, which stands for s
-pub record TellsOfDisk (rates : List ℕ) (s : Standing) (bytes : List ℕ)
+pub record TellsOfDisk (rate : Option ℕ) (s : Standing) (bytes : List ℕ)
     (is_printed : List ℕ → Type 0) : Type 0 where
   pub journal : DiskRecords
   pub read : records_of bytes ≡ Ok journal
   pub gap : ℕ
   pub longest : IsLongestGap s.extents s.geometry.area gap
   pub printed : is_printed (inspection_text s journal.layout (length journal.records) gap
-      (directory_packets (first_place s)) rates)
+      (directory_packets (first_place s)) rate)
 
 -- This refusal ended the telling, or none did, and the disk has not failed. All of what is told of
 -- it was printed; or some first bytes of it, since the writer failed; or nothing, since memory was
@@ -183,9 +186,9 @@ pub record TellsOfDisk (rates : List ℕ) (s : Standing) (bytes : List ℕ)
 abbrev pub PrintsFigures : (rate : Option ℕ) → Option Refusal → (old new : Option (List ℕ))
     → (start now : State) → Type 0
 PrintsFigures rate None old new start now = (now.failures ≡ start.failures)
-    × OfStanding (λ s. TellsOfDisk (rates_of rate) s start.bytes (Appends old new)) start now
+    × OfStanding (λ s. TellsOfDisk rate s start.bytes (Appends old new)) start now
 PrintsFigures rate (Some WriteFault) old new start now = (now.failures ≡ start.failures)
-    × OfStanding (λ s. TellsOfDisk (rates_of rate) s start.bytes
+    × OfStanding (λ s. TellsOfDisk rate s start.bytes
     (λ text. WritesFront text old new)) start now
 PrintsFigures rate (Some OutOfMemory) old new start now =
     (now.failures ≡ start.failures) × Keeps old new

@@ -14,7 +14,7 @@ ghost use Rattle.mot_player.specs.Turn.{turn_of_carousel};
 ghost use Rattle.mot_export.specs.Filling.{TurnsHaveTheirLengths};
 ghost use Rattle.mot_export.specs.Inspecting.{Inspects, data_text, number_line};
 ghost use Rattle.mot_export.specs.Inspecting.{TurnsHaveTheirPackets, heard_line, rates_of};
-ghost use Rattle.mot_export.specs.Inspecting.{shares_line, usually_heard};
+ghost use Rattle.mot_export.specs.Inspecting.{shares_line, usual_pause, usually_heard};
 ghost use Rattle.mot_export.specs.Inspecting.{sizes_text, turn_lengths_text, turn_text, use_text};
 ghost use Rattle.mot_export.specs.Inspecting.{waits_text};
 ghost use Rattle.mot_export.specs.Inner.Inspected.{HasInspected, IsInspectingFault};
@@ -27,7 +27,7 @@ ghost use Rattle.mot_session.specs.Served.{WritesFront};
 use crate::lengths::write_lengths;
 use disk_model::Disk;
 use mot_journal::Layout;
-use mot_listening::{GROUP_FRAME, TurnSize, turn_size};
+use mot_listening::{GROUP_FRAME, TurnSize, frame_packets, turn_size};
 use mot_numbers::{Geometry, Refusal};
 use mot_objects::Object;
 use mot_packets::packet_count;
@@ -37,13 +37,14 @@ use mot_update::Ended;
 use std::alloc::Global;
 use std::io::Write;
 
-/// After how many packets `play` sends the directory again, if it is not told otherwise.
+/// After how many packets `play` sends the directory again, if it is not told otherwise and a frame
+/// holds one packet.
 const USUAL_PAUSE: u128 = 340;
 
 /// Opens the disk, and writes its sizes, what is used and free of them, what a turn takes, and how
 /// long it is in packets of each length: in a sub-channel of this rate in kbit/s or, if none is
-/// given, of the usual ones. Behind them comes for how many packets a receiver has to listen. No
-/// body is read.
+/// given, of the usual ones. Behind them comes for how many packets a receiver has to listen, if
+/// `play` is told this rate or none. No body is read.
 pub fn inspect_disk<D: Disk, W: Write>(
     alloc: Global,
     disk: D,
@@ -97,7 +98,7 @@ fn write_inspection<D: Disk, W: Write>(
         return Err(Refusal::OutOfMemory);
     };
     let directory = server.directory_packets() as u128;
-    let Ok(()) = write_waits(&mut text, &geometry, directory, turn.packets) else {
+    let Ok(()) = write_waits(&mut text, &geometry, rate, directory, turn.packets) else {
         return Err(Refusal::OutOfMemory);
     };
     print(writer, &text)
@@ -245,18 +246,20 @@ fn write_turn<W: Write>(writer: &mut W, turn: TurnSize) -> Result<(), Refusal>
 fn write_waits<W: Write>(
     writer: &mut W,
     geometry: &Geometry,
+    rate: Option<u32>,
     directory: u128,
     packets: u64,
 ) -> Result<(), Refusal>
     requires valid { is_valid geometry.now ≡ true }
     requires few { directory < 2 ^ 32 }
     ensures written { OnOk result (Appends (W.contents writer.old) (W.contents writer.new)
-        (waits_text (div_ceil (geometry.now.segment + 11) (packet_room geometry.now)) directory
-        packets)) }
+        (waits_text (usual_pause rate geometry.now.packet)
+        (div_ceil (geometry.now.segment + 11) (packet_room geometry.now)) directory packets)) }
 {
     let group = longest_group(geometry);
     let turn = u128::from(packets);
-    let soon = usually_heard(group, directory, turn);
+    let pause = usual_pause(rate, geometry.packet);
+    let soon = usually_heard(pause, group, directory, turn);
     let round = round_for(group, directory, turn);
     write_number(writer, "group", group)?;
     write_number(writer, "directory", directory)?;
@@ -273,13 +276,24 @@ fn longest_group(geometry: &Geometry) -> u128
     packet_count(bytes, geometry.length_of_packets()) as u128
 }
 
-/// After how many packets a receiver has the directory, as it usually is sent again, or with the
-/// carousel.
-fn usually_heard(group: u128, directory: u128, turn: u128) -> u128
-    requires few { (group < 2 ^ 32) × (directory < 2 ^ 32) × (turn < 2 ^ 64) }
-    ensures { result ≡ usually_heard group directory turn }
+/// After how many packets of this length the directory is sent again.
+fn usual_pause(rate: Option<u32>, packet: u16) -> u128
+    requires { 24 ≤ packet }
+    ensures value { result ≡ usual_pause rate packet }
+    ensures few { result < 2 ^ 50 }
 {
-    let pause = USUAL_PAUSE.max(10 * directory);
+    match rate {
+        Some(rate) => USUAL_PAUSE * u128::from(frame_packets(rate, packet)),
+        None => USUAL_PAUSE,
+    }
+}
+
+/// After how many packets a receiver has the directory, as it is sent again, or with the carousel.
+fn usually_heard(pause: u128, group: u128, directory: u128, turn: u128) -> u128
+    requires few { (group < 2 ^ 32) × (directory < 2 ^ 32) × (turn < 2 ^ 64) × (pause < 2 ^ 50) }
+    ensures { result ≡ usually_heard pause group directory turn }
+{
+    let pause = pause.max(10 * directory);
     let soon = with_directories(pause + group + 2 * directory);
     soon.min(round_for(group, directory, turn))
 }

@@ -53,7 +53,7 @@ use Rattle.mot_playout.proofs.Laws.{accepted-join, reads_leave, runs_join}
 use Rattle.mot_update.specs.Between.{IsUpdating, Telling}
 use Rattle.mot_update.specs.HasRun.{HasRun}
 use Rattle.mot_update.proofs.Laws.{same_err, same_ok, same_some}
-use Rattle.mot_update.specs.declared.moment.Moment.{Moment}
+use Rattle.mot_update.specs.declared.moment.UpdatePoint.{UpdatePoint}
 
 -- ---- events in a row
 
@@ -474,7 +474,7 @@ module _ {D : Type 0} where
   -- ---- feeding
 
   -- what was fed so far: so many turns are left, and so many packets were sent
-  pub record SoFar {U : Type 0} (tells : U → U → Moment → Telling) (how : Manner) (stage : Stage)
+  pub record SoFar {U : Type 0} (tells : U → U → UpdatePoint → Telling) (how : Manner) (stage : Stage)
       (first last : U) (old new : ServerView D) (start now : State) (s : Standing)
       (left : ℕ) (between_turns : Bool) (until : Option ℕ) (rest count : ℕ)
       (before after : Option (List (List ℕ))) : Type 0 where
@@ -508,7 +508,7 @@ module _ {D : Type 0} where
     pub often : 0 < how.directory → OftenUpTo how.directory between_turns until events
 
   -- feeding that begins has sent nothing
-  pub fed_none : {U : Type 0} (tells : U → U → Moment → Telling) (how : Manner) (first : U)
+  pub fed_none : {U : Type 0} (tells : U → U → UpdatePoint → Telling) (how : Manner) (first : U)
       (old mid : ServerView D) (start now : State) (s : Standing)
       (contents : Option (List (List ℕ)))
       → mid.view ≡ old.view → place_in mid s ≡ place_in (server_for how old) s
@@ -536,7 +536,7 @@ module _ {D : Type 0} where
         often = λ asked. often-none how.directory;
       }
 
-  module _ {U : Type 0} {tells : U → U → Moment → Telling} {how : Manner} {stage : Stage}
+  module _ {U : Type 0} {tells : U → U → UpdatePoint → Telling} {how : Manner} {stage : Stage}
       {first since : U} {old mid : ServerView D} {start between : State} {s : Standing}
       {left : ℕ} {between_turns : Bool} {until : Option ℕ} {rest count : ℕ}
       {before after : Option (List (List ℕ))}
@@ -553,7 +553,7 @@ module _ {D : Type 0} where
       from = server_for how old
 
       -- where the update comes now
-      abbrev moment : Moment
+      abbrev moment : UpdatePoint
       moment = moment_at look between_turns rest
 
       -- what it tells so far, up to a carousel

@@ -21,8 +21,8 @@ use Rattle.mot_playout.specs.Runs.{accepted_commands}
 use Rattle.mot_playout.specs.Server.{ServerView, place_in}
 use Rattle.mot_update.specs.Between.{Telling, may_look}
 use Rattle.mot_update.specs.Faults.{IsUpdateFault}
-use Rattle.mot_update.specs.declared.moment.Moment.{Moment}
-use Rattle.mot_update.specs.declared.moment.Moment.TheVariants.{AtLook, BetweenTurns, Within}
+use Rattle.mot_update.specs.declared.moment.UpdatePoint.{UpdatePoint}
+use Rattle.mot_update.specs.declared.moment.UpdatePoint.TheVariants.{AtLook, BetweenTurns, Within}
 
 -- what happens while a server is fed from: a command is accepted, the directory is asked for, or a
 -- packet is sent
@@ -74,7 +74,7 @@ is_between_turns ended (event ∷ events) = is_between_turns ended events
 
 -- where an update comes: between turns; or within one, where a look may come, if it is to and no
 -- more packets of the rest go out before it
-abbrev pub moment_at : (look : ℕ) → (ended : Bool) → (left : ℕ) → Moment
+abbrev pub moment_at : (look : ℕ) → (ended : Bool) → (left : ℕ) → UpdatePoint
 moment_at look true left = BetweenTurns
 moment_at look false left = if nat_lt 0 look && nat_eq left 0 then AtLook else Within
 
@@ -94,7 +94,7 @@ left_after look ended left (Played sent ∷ events) =
 left_after look ended left (event ∷ events) = left_after look ended left events
 
 -- where an update comes behind these
-abbrev pub moment_behind : ℕ → List Event → Moment
+abbrev pub moment_behind : ℕ → List Event → UpdatePoint
 moment_behind look events =
     moment_at look (is_between_turns true events) (left_after look true 0 events)
 
@@ -113,7 +113,7 @@ fault_at (Called fault) = fault
 -- in front of each packet, and nowhere else. The commands are those of its calls, one call behind
 -- the other: each that a fault did not break off had all of its commands answered, and found the
 -- carousel that those before it had made. The accepted ones are among the events.
-pub data AreTold {U : Type 0} (tells : U → U → Moment → Telling) (look limit : ℕ) (old : U)
+pub data AreTold {U : Type 0} (tells : U → U → UpdatePoint → Telling) (look limit : ℕ) (old : U)
     (c : Carousel) : Stage → List Event → List Command → List Bool → U → Carousel → Type 0 where
   no_call : AreTold tells look limit old c Ready [] [] [] old c
   one_call : (events : List Event) (earlier commands : List Command)

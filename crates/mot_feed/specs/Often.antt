@@ -12,7 +12,7 @@ use Rattle.mot_objects.specs.declared.command.Command.{Command}
 use Rattle.mot_player.specs.Place.{Place, directory_packets}
 use Rattle.mot_playout.specs.Server.{ServerView}
 use Rattle.mot_update.specs.Between.{Telling}
-use Rattle.mot_update.specs.declared.moment.Moment.{Moment}
+use Rattle.mot_update.specs.declared.moment.UpdatePoint.{UpdatePoint}
 
 -- how many packets go out before the directory is asked for again, at least ten times those that it
 -- takes itself
@@ -62,7 +62,7 @@ follows_in how = if how.directory == 0 then None else Some how.early
 
 -- Turns were fed, so many if nothing ended feeding before. All commands that were run are those of
 -- the calls of the update, which was the first and is the last.
-pub record Feeds {D U : Type 0} (tells : U → U → Moment → Telling) (how : Manner)
+pub record Feeds {D U : Type 0} (tells : U → U → UpdatePoint → Telling) (how : Manner)
     (ending : Option Refusal) (first last : U) (old new : ServerView D) (start now : State)
     (s : Standing) (before after : Option (List (List ℕ))) : Type 0 where
   pub stage : Stage

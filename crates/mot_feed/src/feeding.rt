@@ -16,7 +16,7 @@ use crate::sending::send_one;
 use disk_model::Disk;
 use mot_numbers::Refusal;
 use mot_playout::Server;
-use mot_update::{Moment, Update};
+use mot_update::{Update, UpdatePoint};
 use std::alloc::Global;
 
 /// Sends packets, each in one write, with a call of the update before each, until so many turns
@@ -97,15 +97,15 @@ fn look_in(how: Manner) -> u32
 
 /// Where the update comes: between turns, or within one, where a look may come if no more packets go
 /// out before it.
-fn moment_at(how: Manner, between_turns: bool, rest: u32) -> Moment
+fn moment_at(how: Manner, between_turns: bool, rest: u32) -> UpdatePoint
     ensures { result ≡ moment_at (look_in how) between_turns rest }
 {
     if between_turns {
-        Moment::BetweenTurns
+        UpdatePoint::BetweenTurns
     } else if look_in(how) > 0 && rest == 0 {
-        Moment::AtLook
+        UpdatePoint::AtLook
     } else {
-        Moment::Within
+        UpdatePoint::Within
     }
 }
 

@@ -12,4 +12,4 @@ mod telling;
 pub use answering::answer_there;
 pub use intake::Intake;
 pub use lines::Lines;
-pub use reported::Reported;
+pub use reported::WatchedUpdate;

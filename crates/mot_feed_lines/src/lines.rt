@@ -11,40 +11,40 @@ ghost use Rattle.mot_update.specs.Faults.{TellsFaults};
 
 use crate::answering::answer_there;
 use crate::intake::Intake;
-use crate::reported::Reported;
+use crate::reported::WatchedUpdate;
 use disk_model::Disk;
 use mot_events::{Inlet, LineCount};
 use mot_lines::Hand;
 use mot_numbers::Refusal;
 use mot_playout::Server;
-use mot_update::{Facts, Moment, Update, Watch};
+use mot_update::{LookHistory, Update, UpdatePoint, Watch};
 use std::alloc::Global;
 
 /// Answers lines between packets: at its first call, before the first packet, and then at one call
 /// of every so many it answers what there is of the inlet, in one read, as `answer_there` does. At
 /// each call another update is called first, which is watched; what watches it is told of lines, too.
 #[derive(Drop)]
-pub struct Lines<R: Inlet + Drop, U: Update + Facts + Drop, T: Watch + Drop> {
+pub struct Lines<R: Inlet + Drop, U: Update + LookHistory + Drop, T: Watch + Drop> {
     /// What gives the lines.
     pub reader: R,
     /// What has come of them.
     pub intake: Intake,
     /// The other update.
-    pub reported: Reported<U, T>,
+    pub reported: WatchedUpdate<U, T>,
     /// How many updates come between two that read.
     pub between: u32,
     /// How many updates come before the next that reads.
     pub left: u32,
 }
 
-impl<R: Inlet + Drop, U: Update + Facts + Drop, T: Watch + Drop> Lines<R, U, T> {
+impl<R: Inlet + Drop, U: Update + LookHistory + Drop, T: Watch + Drop> Lines<R, U, T> {
     /// Nothing was read but what is in hand. 0 packets count as 1.
     pub fn new(
         alloc: Global,
         reader: R,
         hand: Hand,
         every: u32,
-        reported: Reported<U, T>,
+        reported: WatchedUpdate<U, T>,
     ) -> Lines<R, U, T>
         ensures given { (result.reader ≡ reader) × (result.intake.hand ≡ hand)
             × (result.reported ≡ reported) }
@@ -82,7 +82,7 @@ impl<R: Inlet + Drop, U: Update + Facts + Drop, T: Watch + Drop> Lines<R, U, T> 
     }
 }
 
-impl<R: Inlet + Drop, U: Update + Facts + Drop, T: Watch + Drop> Update for Lines<R, U, T> {
+impl<R: Inlet + Drop, U: Update + LookHistory + Drop, T: Watch + Drop> Update for Lines<R, U, T> {
     // What the other update tells; and, where a read was due, what the lines do after it.
     ghost tells = { λ old new moment. TellsOnTime R.gave
         old.between new.between old.left new.left old.intake.hand new.intake.hand
@@ -93,7 +93,7 @@ impl<R: Inlet + Drop, U: Update + Facts + Drop, T: Watch + Drop> Update for Line
         &mut self,
         server: &mut Server<D>,
         alloc: Global,
-        moment: Moment,
+        moment: UpdatePoint,
     ) -> Result<(), Refusal>
         ensures keeps { KeepsLength (D.state server.old.disk) (D.state server.new.disk) }
         ensures faults { TellsFaults server.old server.new

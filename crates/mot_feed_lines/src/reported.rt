@@ -10,19 +10,19 @@ ghost use Rattle.mot_update.specs.Faults.{TellsFaults};
 use disk_model::Disk;
 use mot_numbers::Refusal;
 use mot_playout::Server;
-use mot_update::{Facts, Moment, Update, Watch};
+use mot_update::{LookHistory, Update, UpdatePoint, Watch};
 use std::alloc::Global;
 
 /// Updates that are watched. Nothing is changed by that.
 #[derive(Drop)]
-pub struct Reported<U: Update + Facts + Drop, T: Watch + Drop> {
+pub struct WatchedUpdate<U: Update + LookHistory + Drop, T: Watch + Drop> {
     /// The updates.
     pub update: U,
     /// What is told of them.
     pub watch: T,
 }
 
-impl<U: Update + Facts + Drop, T: Watch + Drop> Reported<U, T> {
+impl<U: Update + LookHistory + Drop, T: Watch + Drop> WatchedUpdate<U, T> {
     /// The updates, and what was told of them.
     pub fn into_parts(self) -> (U, T)
         ensures update { result.0 ≡ self.update }
@@ -32,7 +32,7 @@ impl<U: Update + Facts + Drop, T: Watch + Drop> Reported<U, T> {
     }
 }
 
-impl<U: Update + Facts + Drop, T: Watch + Drop> Update for Reported<U, T> {
+impl<U: Update + LookHistory + Drop, T: Watch + Drop> Update for WatchedUpdate<U, T> {
     ghost tells = { λ old new moment. U.tells old.update new.update moment };
 
     #[inline(always)]
@@ -40,7 +40,7 @@ impl<U: Update + Facts + Drop, T: Watch + Drop> Update for Reported<U, T> {
         &mut self,
         server: &mut Server<D>,
         alloc: Global,
-        moment: Moment,
+        moment: UpdatePoint,
     ) -> Result<(), Refusal>
         ensures keeps { KeepsLength (D.state server.old.disk) (D.state server.new.disk) }
         ensures faults { TellsFaults server.old server.new

@@ -9,7 +9,7 @@ use Rattle.mot_files.specs.Call.{Call, call, failed_read, read, read_of}
 use Rattle.mot_files.specs.declared.system.Event.TheVariants.{Read}
 use Rattle.mot_files.specs.Reading.{IsUnfilled, joined, reads}
 use Rattle.mot_files.specs.Reading.IsUnfilled.{ended, failed}
-use Rattle.mot_files.specs.declared.reading.Unread.TheVariants.{Changed, System}
+use Rattle.mot_files.specs.declared.reading.ReadFailure.TheVariants.{Changed, System}
 use Rattle.mot_files.specs.declared.system.Fault.{Fault}
 use Rattle.mot_files.specs.declared.system.Handle.{Handle}
 

@@ -1,6 +1,6 @@
 -- Calls of a system of files, each with its answer.
 use Rattle.std.specs.Prelude.{ℕ, List, [], Result, Ok, Err, Bool, Option, take, length}
-use Rattle.mot_files.specs.declared.system.Seen.{Seen}
+use Rattle.mot_files.specs.declared.system.FileStat.{FileStat}
 use Rattle.mot_files.specs.declared.system.Fault.{Fault}
 use Rattle.mot_files.specs.declared.system.Handle.{Handle}
 use Rattle.mot_files.specs.declared.system.How.{How}
@@ -23,16 +23,16 @@ pub record Call : Type 0 where
 abbrev pub call : Event → List ℕ → List ℕ → Call
 call what bytes more = record { what = what; bytes = bytes; more = more }
 
-abbrev pub looked : List ℕ → Result Seen Fault → Call
+abbrev pub looked : List ℕ → Result FileStat Fault → Call
 looked path answer = call (Looked answer) path []
 
-abbrev pub followed : List ℕ → Result Seen Fault → Call
+abbrev pub followed : List ℕ → Result FileStat Fault → Call
 followed path answer = call (Followed answer) path []
 
 abbrev pub opened : List ℕ → How → Result Handle Fault → Call
 opened path how answer = call (Opened how answer) path []
 
-abbrev pub looked_at : Handle → Result Seen Fault → Call
+abbrev pub looked_at : Handle → Result FileStat Fault → Call
 looked_at handle answer = call (LookedAt handle answer) [] []
 
 -- the bytes that a read gave, of the room that it left

@@ -4,14 +4,14 @@ use Rattle.std.specs.Prelude.{◌≡◌, ◌≢◌, ℕ, List, [], ◌∷◌, �
 use Rattle.std.specs.IoError.{error_kind}
 use Rattle.std.specs.declared.io.ErrorKind.TheVariants.{InvalidInput}
 use Rattle.mot_files.specs.Call.{Call, closed, looked, opened, synced}
-use Rattle.mot_files.specs.declared.reading.Unread.{Unread}
-use Rattle.mot_files.specs.declared.reading.Unread.TheVariants as unread
+use Rattle.mot_files.specs.declared.reading.ReadFailure.{ReadFailure}
+use Rattle.mot_files.specs.declared.reading.ReadFailure.TheVariants as unread
 use Rattle.mot_files.specs.declared.system.Fault.{Fault}
 use Rattle.mot_files.specs.declared.system.Fault.TheVariants.{Absent, Busy, System}
 use Rattle.mot_files.specs.declared.system.Handle.{Handle}
 use Rattle.mot_files.specs.declared.system.How.TheVariants as How
 use Rattle.mot_files.specs.declared.system.Kind.TheVariants.{File}
-use Rattle.mot_files.specs.declared.system.Seen.{Seen}
+use Rattle.mot_files.specs.declared.system.FileStat.{FileStat}
 
 -- the system says that nothing there can be made to last
 abbrev pub IsUnable : Result (Unit {0}) Fault → Type 0
@@ -35,25 +35,25 @@ pub data SyncsPath (path : List ℕ) (result : Result (Unit {0}) Fault) (old new
       ++ closed handle ∷ [] → SyncsPath path result old new
 
 -- why a file is not made to last, by what the system says
-abbrev pub unread_of : Result (Unit {0}) Fault → Result (Unit {0}) Unread
+abbrev pub unread_of : Result (Unit {0}) Fault → Result (Unit {0}) ReadFailure
 unread_of (Ok done) = Ok done
 unread_of (Err fault) = Err (unread.System fault)
 
 -- the same of a file, if a regular one stands at the path
-pub data SyncsFile (path : List ℕ) (result : Result (Unit {0}) Unread) (old new : List Call) :
+pub data SyncsFile (path : List ℕ) (result : Result (Unit {0}) ReadFailure) (old new : List Call) :
     Type 0 where
   unnamed : (fault : Fault) → result ≡ Err (unread.System fault)
       → new ≡ old ++ looked path (Err fault) ∷ [] → SyncsFile path result old new
-  none : (named : Seen) → result ≡ Err unread.Changed → named.kind ≢ File
+  none : (named : FileStat) → result ≡ Err unread.Changed → named.kind ≢ File
       → new ≡ old ++ looked path (Ok named) ∷ [] → SyncsFile path result old new
-  tried : (named : Seen) (answer : Result (Unit {0}) Fault) → named.kind ≡ File
+  tried : (named : FileStat) (answer : Result (Unit {0}) Fault) → named.kind ≡ File
       → result ≡ unread_of answer → SyncsPath path answer (old ++ looked path (Ok named) ∷ []) new
       → SyncsFile path result old new
 
 -- first the file is made to last, and then the folder
-pub data MakesLast (path folder : List ℕ) (result : Result (Unit {0}) Unread)
+pub data MakesLast (path folder : List ℕ) (result : Result (Unit {0}) ReadFailure)
     (old new : List Call) : Type 0 where
-  lost : (why : Unread) → result ≡ Err why → SyncsFile path (Err why) old new
+  lost : (why : ReadFailure) → result ≡ Err why → SyncsFile path (Err why) old new
       → MakesLast path folder result old new
   tried : (answer : Result (Unit {0}) Fault) (inner : List Call) → SyncsFile path (Ok tt) old inner
       → result ≡ unread_of answer → SyncsPath folder answer inner new

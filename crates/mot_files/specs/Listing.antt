@@ -4,7 +4,7 @@ use Rattle.mot_files.specs.declared.system.Fault.{Fault}
 use Rattle.mot_files.specs.declared.system.Fault.TheVariants.{Absent, Busy, System}
 use Rattle.mot_files.specs.declared.system.Kind.{Kind}
 use Rattle.mot_files.specs.declared.system.Kind.TheVariants.{File, Folder, Link, Pipe, Special}
-use Rattle.mot_files.specs.declared.system.Seen.{Seen}
+use Rattle.mot_files.specs.declared.system.FileStat.{FileStat}
 
 abbrev pub is_file_kind : Kind → Bool
 is_file_kind File = true
@@ -15,7 +15,7 @@ is_file_kind Special = false
 
 -- whether a name is that of a regular file, by what the system says of it: only what is not there is
 -- no file
-abbrev pub file_of : Result Seen Fault → Result Bool Fault
+abbrev pub file_of : Result FileStat Fault → Result Bool Fault
 file_of (Ok named) = Ok (is_file_kind named.kind)
 file_of (Err (Absent error)) = Ok false
 file_of (Err Busy) = Err Busy

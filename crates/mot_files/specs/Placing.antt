@@ -6,7 +6,7 @@ use Rattle.mot_files.specs.Reading.{IsSame}
 use Rattle.mot_files.specs.Writing.{Writes}
 use Rattle.mot_files.specs.declared.system.Fault.TheVariants.{Busy}
 use Rattle.mot_files.specs.declared.system.Handle.{Handle}
-use Rattle.mot_files.specs.declared.system.Seen.{Seen}
+use Rattle.mot_files.specs.declared.system.FileStat.{FileStat}
 use Rattle.mot_files.specs.declared.system.How.TheVariants as How
 
 -- The lock of the file is taken, and the path names it, once it is.
@@ -17,13 +17,13 @@ pub data Holds (handle : Handle) (beside : List ℕ) (result : Result (Unit {0})
   unnamed : (fault : Fault) → result ≡ Err fault
       → new ≡ old ++ locked handle (Ok tt) ∷ [] ++ looked beside (Err fault) ∷ []
       → Holds handle beside result old new
-  unseen : (named : Seen) (fault : Fault) → result ≡ Err fault
+  unseen : (named : FileStat) (fault : Fault) → result ≡ Err fault
       → new ≡ old ++ locked handle (Ok tt) ∷ [] ++ looked beside (Ok named) ∷ []
       ++ looked_at handle (Err fault) ∷ [] → Holds handle beside result old new
-  other : (named held : Seen) → result ≡ Err Busy → ¬ (IsSame held named)
+  other : (named held : FileStat) → result ≡ Err Busy → ¬ (IsSame held named)
       → new ≡ old ++ locked handle (Ok tt) ∷ [] ++ looked beside (Ok named) ∷ []
       ++ looked_at handle (Ok held) ∷ [] → Holds handle beside result old new
-  held : (named held : Seen) → result ≡ Ok tt → IsSame held named
+  held : (named held : FileStat) → result ≡ Ok tt → IsSame held named
       → new ≡ old ++ locked handle (Ok tt) ∷ [] ++ looked beside (Ok named) ∷ []
       ++ looked_at handle (Ok held) ∷ [] → Holds handle beside result old new
 

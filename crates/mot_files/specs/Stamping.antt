@@ -4,12 +4,12 @@ use Rattle.std.specs.Prelude.{Option, Some, None, Ok, ℕ, if◌then◌else◌}
 use Rattle.mot_files.specs.Call.{Call, looked, told_time}
 use Rattle.mot_files.specs.Listing.{is_file_kind}
 use Rattle.mot_files.specs.Reading.{IsRead, IsUnread}
-use Rattle.mot_files.specs.declared.reading.Unread.{Unread}
-use Rattle.mot_files.specs.declared.system.Seen.{Seen}
+use Rattle.mot_files.specs.declared.reading.ReadFailure.{ReadFailure}
+use Rattle.mot_files.specs.declared.system.FileStat.{FileStat}
 use Rattle.mot_files.specs.declared.system.Stamp.{Stamp}
 use Rattle.mot_files.specs.declared.system.Time.{Time}
 
-abbrev pub stamp_of : Seen → Stamp
+abbrev pub stamp_of : FileStat → Stamp
 stamp_of seen = record {
   device = seen.device;
   number = seen.number;
@@ -25,7 +25,7 @@ is_past time (Some now) = nat_le (time.nanos + 2000000000) now.nanos
 
 -- The stamp of a file whose last change is two seconds ago, or longer; of another file none: a
 -- further change could bear the same time.
-abbrev pub stamp_at : Seen → (now : Option Time) → Option Stamp
+abbrev pub stamp_at : FileStat → (now : Option Time) → Option Stamp
 stamp_at seen now =
     if is_past seen.written now && is_past seen.changed now then Some (stamp_of seen) else None
 
@@ -37,12 +37,12 @@ IsReadStamped path most at_once bytes stamp old new = (now : Option Time)
     × (is : IsRead path most at_once bytes (old ++ told_time now ∷ []) new)
     × (stamp ≡ stamp_at is.named now)
 
-abbrev pub IsUnreadStamped : (path : List ℕ) → (most : ℕ) → (at_once : Bool) → Unread
+abbrev pub IsUnreadStamped : (path : List ℕ) → (most : ℕ) → (at_once : Bool) → ReadFailure
     → (old new : List Call) → Type 0
 IsUnreadStamped path most at_once unread old new =
     (now : Option Time) × IsUnread path most at_once unread (old ++ told_time now ∷ []) new
 
 -- the file of this path is a regular one that has this stamp: the system was asked for it
 abbrev pub HasStamp : (path : List ℕ) → Stamp → (old new : List Call) → Type 0
-HasStamp path stamp old new = (seen : Seen) × (is_file_kind seen.kind ≡ true)
+HasStamp path stamp old new = (seen : FileStat) × (is_file_kind seen.kind ≡ true)
     × (stamp_of seen ≡ stamp) × (new ≡ old ++ looked path (Ok seen) ∷ [])

@@ -5,7 +5,7 @@ ghost use Rattle.std.specs.Time.{system_time_nanos};
 ghost use Rattle.std.specs.Path.{path_buf_bytes};
 ghost use Rattle.mot_files.specs.Inner.Answers.{IsFaultOf, IsKindOf, IsLockFaultOf, IsSeenOf, seconds_of};
 
-use crate::system::{Fault, Kind, Seen, Time};
+use crate::system::{Fault, FileStat, Kind, Time};
 use std::fs::{Metadata, TryLockError};
 use std::io::{self, ErrorKind};
 use std::os::unix::fs::{FileTypeExt, MetadataExt};
@@ -62,12 +62,12 @@ fn lock_fault(refused: TryLockError) -> Fault
 }
 
 /// What the system said of a file.
-pub(crate) fn seen(answer: io::Result<Metadata>) -> Result<Seen, Fault>
+pub(crate) fn seen(answer: io::Result<Metadata>) -> Result<FileStat, Fault>
     ensures { MatchResult answer (λ found. IsOkAnd result (IsSeenOf found))
         (λ error. IsErrAnd result (IsFaultOf error)) }
 {
     match answer {
-        Ok(found) => Ok(Seen {
+        Ok(found) => Ok(FileStat {
             kind: kind(&found),
             device: found.dev(),
             number: found.ino(),

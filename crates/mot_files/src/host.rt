@@ -5,7 +5,7 @@ ghost use Rattle.mot_files.specs.Host.{calls_of};
 
 use crate::answers::{closed, locked, real_path, seen, time_of_day, told};
 use crate::call_log::CallLog;
-use crate::system::{Event, Fault, Handle, How, Seen, System, Time};
+use crate::system::{Event, Fault, FileStat, Handle, How, System, Time};
 use crate::table::Table;
 use std::fs::{File, OpenOptions, TryLockError};
 use std::io::{self, IsTerminal, Read, Write};
@@ -118,14 +118,14 @@ impl<'a> HostSystem<'a> {
 impl<'a> System for HostSystem<'a> {
     ghost calls = { calls_of };
 
-    fn look(&mut self, path: &str) -> Result<Seen, Fault> {
+    fn look(&mut self, path: &str) -> Result<FileStat, Fault> {
         let answer = seen(self.rt.symlink_metadata(path));
         self.calls
             .note(&Event::Looked(answer), path.as_bytes(), &[]);
         answer
     }
 
-    fn follow(&mut self, path: &str) -> Result<Seen, Fault> {
+    fn follow(&mut self, path: &str) -> Result<FileStat, Fault> {
         let answer = seen(self.rt.metadata(path));
         self.calls
             .note(&Event::Followed(answer), path.as_bytes(), &[]);
@@ -146,7 +146,7 @@ impl<'a> System for HostSystem<'a> {
         answer
     }
 
-    fn look_at(&mut self, handle: Handle) -> Result<Seen, Fault> {
+    fn look_at(&mut self, handle: Handle) -> Result<FileStat, Fault> {
         let answer = match self.file(handle) {
             Some(file) => seen(file.metadata()),
             None => told(Err(closed())),

@@ -4,13 +4,13 @@ ghost use Rattle.std.specs.IoError.{error_kind};
 ghost use Rattle.std.specs.declared.io.ErrorKind.TheVariants.{InvalidInput};
 ghost use Rattle.mot_files.specs.Lasting.{IsUnable, IsUnlessUnable, MakesLast, SyncsFile, SyncsPath};
 
-use crate::reading::{Unread, is_regular};
+use crate::reading::{ReadFailure, is_regular};
 use crate::system::{Fault, How, System};
 use std::io::{self, ErrorKind};
 
 /// Makes the regular file at the path last, and then the names of its folder. So after a power cut
 /// the folder has under this name what it has now, or what came to it later.
-pub fn make_last<S: System>(system: &mut S, path: &str, folder: &str) -> Result<(), Unread>
+pub fn make_last<S: System>(system: &mut S, path: &str, folder: &str) -> Result<(), ReadFailure>
     ensures { MakesLast path.now folder.now result (S.calls system.old) (S.calls system.new) }
 {
     if let Err(unread) = sync_file(system, path) {
@@ -18,25 +18,25 @@ pub fn make_last<S: System>(system: &mut S, path: &str, folder: &str) -> Result<
     }
     match sync_path(system, folder) {
         Ok(()) => Ok(()),
-        Err(fault) => Err(Unread::System(fault)),
+        Err(fault) => Err(ReadFailure::System(fault)),
     }
 }
 
 /// Makes the bytes of the regular file at the path last.
-fn sync_file<S: System>(system: &mut S, path: &str) -> Result<(), Unread>
+fn sync_file<S: System>(system: &mut S, path: &str) -> Result<(), ReadFailure>
     ensures { SyncsFile path.now result (S.calls system.old) (S.calls system.new) }
 {
     let named = match system.look(path) {
         Ok(named) => named,
-        Err(fault) => return Err(Unread::System(fault)),
+        Err(fault) => return Err(ReadFailure::System(fault)),
     };
     // What is none is not opened: a pipe would wait for its writer.
     if !is_regular(&named) {
-        return Err(Unread::Changed);
+        return Err(ReadFailure::Changed);
     }
     match sync_path(system, path) {
         Ok(()) => Ok(()),
-        Err(fault) => Err(Unread::System(fault)),
+        Err(fault) => Err(ReadFailure::System(fault)),
     }
 }
 

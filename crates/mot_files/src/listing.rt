@@ -3,14 +3,14 @@ ghost use Rattle.std.specs.Prelude.{◌≡◌, ◌∷◌, ◌++◌, [], IfOk, Re
 ghost use Rattle.mot_files.specs.Call.{looked};
 ghost use Rattle.mot_files.specs.Listing.{file_of, path_in};
 ghost use Rattle.mot_files.specs.declared.system.Fault.{Fault};
-ghost use Rattle.mot_files.specs.declared.system.Seen.{Seen};
+ghost use Rattle.mot_files.specs.declared.system.FileStat.{FileStat};
 
 use crate::system::{Fault, Kind, System};
 use std::alloc::{AllocError, Global};
 
 /// Whether the path names a regular file. A link is none, and nothing is none.
 pub fn is_file<S: System>(system: &mut S, path: &str) -> Result<bool, Fault>
-    ensures { (answer : Result Seen Fault) × (S.calls system.new
+    ensures { (answer : Result FileStat Fault) × (S.calls system.new
         ≡ S.calls system.old ++ looked path.now answer ∷ []) × (result ≡ file_of answer) }
 {
     match system.look(path) {

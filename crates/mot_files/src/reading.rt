@@ -1,7 +1,7 @@
 //! Reading one file of a folder.
 ghost use Rattle.std.specs.Prelude.{◌≡◌, ◌≢◌, ◌<◌, ◌≤◌, ◌+◌, ◌++◌, ◌∷◌, [], ℕ, List, MatchResult};
 ghost use Rattle.std.specs.Prelude.{IfErr, IfOk, IsTrue, Ok, ◌↔◌, length, take, true};
-ghost use Rattle.mot_files.specs.declared.reading.Unread.TheVariants.{TooLong, Young};
+ghost use Rattle.mot_files.specs.declared.reading.ReadFailure.TheVariants.{TooLong, Young};
 ghost use Rattle.mot_files.specs.Call.{Call, failed_read, looked, read_of};
 ghost use Rattle.mot_files.specs.Reading.{AgeIs, IsRead, IsReadOpen, is_recent, IsSame, IsTaken, IsUnchanged};
 ghost use Rattle.mot_files.specs.Reading.{IsUnfilled, IsUnread, IsUnreadOpen, IsUntaken, joined, reads};
@@ -9,7 +9,7 @@ ghost use Rattle.mot_files.specs.Stamping.{IsReadStamped, IsUnreadStamped};
 ghost use Rattle.mot_files.specs.declared.system.Kind.TheVariants.{File};
 
 use crate::stamping::stamp_at;
-use crate::system::{Fault, Handle, How, Kind, Seen, Stamp, System, Time};
+use crate::system::{Fault, FileStat, Handle, How, Kind, Stamp, System, Time};
 use std::alloc::{AllocError, Global};
 
 /// How many nanoseconds ago the last change of a file has to be.
@@ -17,7 +17,7 @@ const OLD: u128 = 2_000_000_000;
 
 /// Why a file was not read.
 #[derive(Clone, Copy)]
-pub enum Unread {
+pub enum ReadFailure {
     /// Its last change is less than two seconds ago, so it may be written still.
     Young,
     /// It was exchanged or written while it was read, or is no regular file.
@@ -47,7 +47,7 @@ pub fn read_file<S: System>(
     path: &str,
     most: u64,
     at_once: bool,
-) -> Result<Vec<u8>, Unread>
+) -> Result<Vec<u8>, ReadFailure>
     ensures young { at_once ≡ true → IfErr result (λ unread. unread ≢ Young) }
     ensures long { IfErr result (λ unread. (count : ℕ) → unread ≡ TooLong count → most < count) }
     ensures calls { MatchResult result
@@ -57,7 +57,7 @@ pub fn read_file<S: System>(
 {
     match system.look(path) {
         Ok(named) => read_named(system, alloc, path, &named, most, at_once),
-        Err(fault) => Err(Unread::System(fault)),
+        Err(fault) => Err(ReadFailure::System(fault)),
     }
 }
 
@@ -68,7 +68,7 @@ pub fn read_stamped<S: System>(
     path: &str,
     most: u64,
     at_once: bool,
-) -> Result<FileRead, Unread>
+) -> Result<FileRead, ReadFailure>
     ensures young { at_once ≡ true → IfErr result (λ unread. unread ≢ Young) }
     ensures long { IfErr result (λ unread. (count : ℕ) → unread ≡ TooLong count → most < count) }
     ensures calls { MatchResult result
@@ -80,7 +80,7 @@ pub fn read_stamped<S: System>(
     let now = system.now();
     let named = match system.look(path) {
         Ok(named) => named,
-        Err(fault) => return Err(Unread::System(fault)),
+        Err(fault) => return Err(ReadFailure::System(fault)),
     };
     match read_named(system, alloc, path, &named, most, at_once) {
         Ok(bytes) => {
@@ -96,10 +96,10 @@ fn read_named<S: System>(
     system: &mut S,
     alloc: Global,
     path: &str,
-    named: &Seen,
+    named: &FileStat,
     most: u64,
     at_once: bool,
-) -> Result<Vec<u8>, Unread>
+) -> Result<Vec<u8>, ReadFailure>
     ensures young { at_once ≡ true → IfErr result (λ unread. unread ≢ Young) }
     ensures long { IfErr result (λ unread. (count : ℕ) → unread ≡ TooLong count → most < count) }
     ensures calls { (old : List Call)
@@ -110,11 +110,11 @@ fn read_named<S: System>(
 {
     // What is none is not opened: a pipe would wait for its writer.
     if !is_regular(named) {
-        return Err(Unread::Changed);
+        return Err(ReadFailure::Changed);
     }
     let handle = match system.open(path, How::Read) {
         Ok(handle) => handle,
-        Err(fault) => return Err(Unread::System(fault)),
+        Err(fault) => return Err(ReadFailure::System(fault)),
     };
     let bytes = read_open(system, alloc, handle, named, most, at_once);
     system.close(handle);
@@ -126,10 +126,10 @@ fn read_open<S: System>(
     system: &mut S,
     alloc: Global,
     handle: Handle,
-    named: &Seen,
+    named: &FileStat,
     most: u64,
     at_once: bool,
-) -> Result<Vec<u8>, Unread>
+) -> Result<Vec<u8>, ReadFailure>
     ensures young { at_once ≡ true → IfErr result (λ unread. unread ≢ Young) }
     ensures long { IfErr result (λ unread. (count : ℕ) → unread ≡ TooLong count → most < count) }
     ensures calls { MatchResult result
@@ -140,16 +140,16 @@ fn read_open<S: System>(
 {
     let held = match system.look_at(handle) {
         Ok(held) => held,
-        Err(fault) => return Err(Unread::System(fault)),
+        Err(fault) => return Err(ReadFailure::System(fault)),
     };
     if !is_same(&held, named) {
-        return Err(Unread::Changed);
+        return Err(ReadFailure::Changed);
     }
     if is_young(system, &held, at_once) {
-        return Err(Unread::Young);
+        return Err(ReadFailure::Young);
     }
     if held.len > most {
-        return Err(Unread::TooLong(held.len));
+        return Err(ReadFailure::TooLong(held.len));
     }
     take_all(system, alloc, handle, &held)
 }
@@ -159,30 +159,30 @@ fn take_all<S: System>(
     system: &mut S,
     alloc: Global,
     handle: Handle,
-    held: &Seen,
-) -> Result<Vec<u8>, Unread>
+    held: &FileStat,
+) -> Result<Vec<u8>, ReadFailure>
     ensures { MatchResult result
         (λ bytes. IsTaken handle held.now bytes.items (S.calls system.old) (S.calls system.new))
         (λ unread. IsUntaken handle held.now unread (S.calls system.old) (S.calls system.new)) }
 {
     let Ok(mut bytes) = Vec::from_elem(alloc, 0u8, held.len as usize) else {
-        return Err(Unread::NoMemory);
+        return Err(ReadFailure::NoMemory);
     };
     if let Err(unread) = fill(system, handle, &mut bytes) {
         return Err(unread);
     }
     let after = match system.look_at(handle) {
         Ok(after) => after,
-        Err(fault) => return Err(Unread::System(fault)),
+        Err(fault) => return Err(ReadFailure::System(fault)),
     };
     if !is_unchanged(held, &after) {
-        return Err(Unread::Changed);
+        return Err(ReadFailure::Changed);
     }
     Ok(bytes)
 }
 
 /// Whether the file is too young.
-fn is_young<S: System>(system: &mut S, held: &Seen, at_once: bool) -> bool
+fn is_young<S: System>(system: &mut S, held: &FileStat, at_once: bool) -> bool
     ensures { AgeIs at_once held.now result (S.calls system.old) (S.calls system.new) }
 {
     if at_once {
@@ -203,28 +203,28 @@ fn is_recent(written: Time, now: Option<Time>) -> bool
 }
 
 /// Whether it is a regular file.
-pub fn is_regular(named: &Seen) -> bool
+pub fn is_regular(named: &FileStat) -> bool
     ensures { IsTrue result ↔ (named.now.kind ≡ File) }
 {
     named.kind == Kind::File
 }
 
 /// Whether it is a regular file, and the same one.
-pub fn is_same(held: &Seen, named: &Seen) -> bool
+pub fn is_same(held: &FileStat, named: &FileStat) -> bool
     ensures { IsTrue result ↔ IsSame held.now named.now }
 {
     held.kind == Kind::File && held.device == named.device && held.number == named.number
 }
 
 /// Whether nothing of it was changed between the two.
-fn is_unchanged(before: &Seen, after: &Seen) -> bool
+fn is_unchanged(before: &FileStat, after: &FileStat) -> bool
     ensures { IsTrue result ↔ IsUnchanged before.now after.now }
 {
     before.len == after.len && before.written == after.written && before.changed == after.changed
 }
 
 /// Fills the room with the next bytes.
-fn fill<S: System>(system: &mut S, handle: Handle, room: &mut [u8]) -> Result<(), Unread>
+fn fill<S: System>(system: &mut S, handle: Handle, room: &mut [u8]) -> Result<(), ReadFailure>
     ensures { MatchResult result
         (λ _. (chunks : List (List ℕ)) × (S.calls system.new
         ≡ S.calls system.old ++ reads handle chunks) × (room.new ≡ joined chunks))
@@ -234,9 +234,9 @@ fn fill<S: System>(system: &mut S, handle: Handle, room: &mut [u8]) -> Result<()
     let mut at = 0;
     while at < room.len() {
         match read_some(system, handle, room, at) {
-            Ok(0) => return Err(Unread::Changed),
+            Ok(0) => return Err(ReadFailure::Changed),
             Ok(count) => at += count,
-            Err(fault) => return Err(Unread::System(fault)),
+            Err(fault) => return Err(ReadFailure::System(fault)),
         }
     }
     Ok(())

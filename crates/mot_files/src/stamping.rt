@@ -4,16 +4,16 @@ ghost use Rattle.mot_files.specs.Call.{looked};
 ghost use Rattle.mot_files.specs.Listing.{is_file_kind};
 ghost use Rattle.mot_files.specs.Stamping.{HasStamp, is_past, stamp_at};
 ghost use Rattle.mot_files.specs.declared.system.Fault.{Fault};
-ghost use Rattle.mot_files.specs.declared.system.Seen.{Seen};
+ghost use Rattle.mot_files.specs.declared.system.FileStat.{FileStat};
 
-use crate::system::{Kind, Seen, Stamp, System, Time};
+use crate::system::{FileStat, Kind, Stamp, System, Time};
 
 /// How many nanoseconds ago the last change of a file has to be.
 const PAST: u128 = 2_000_000_000;
 
 /// The stamp of a file of which the system said this, if its last change was two seconds before this
 /// time of day, or longer.
-pub(crate) fn stamp_at(seen: &Seen, now: Option<Time>) -> Option<Stamp>
+pub(crate) fn stamp_at(seen: &FileStat, now: Option<Time>) -> Option<Stamp>
     ensures { result ≡ stamp_at seen.now now }
 {
     if is_past(seen.written, now) && is_past(seen.changed, now) {
@@ -27,7 +27,7 @@ pub(crate) fn stamp_at(seen: &Seen, now: Option<Time>) -> Option<Stamp>
 pub fn has_stamp<S: System>(system: &mut S, path: &str, stamp: &Stamp) -> bool
     ensures has { result ≡ true → HasStamp path.now stamp.now (S.calls system.old)
         (S.calls system.new) }
-    ensures asked { (answer : Result Seen Fault) × (S.calls system.new
+    ensures asked { (answer : Result FileStat Fault) × (S.calls system.new
         ≡ S.calls system.old ++ looked path.now answer ∷ []) }
 {
     match system.look(path) {

@@ -39,7 +39,7 @@ pub struct Time {
 
 /// What the system says of a file.
 #[derive(Clone, Copy)]
-pub struct Seen {
+pub struct FileStat {
     /// What it is.
     pub kind: Kind,
     /// The device that it stands on.
@@ -75,7 +75,7 @@ pub struct Stamp {
 
 impl Stamp {
     /// That of the file of which the system says this.
-    pub fn of(seen: &Seen) -> Stamp
+    pub fn of(seen: &FileStat) -> Stamp
         ensures { result ≡ stamp_of seen.now }
     {
         Stamp {
@@ -142,15 +142,15 @@ pub enum Part {
 #[derive(Clone, Copy)]
 pub enum Event {
     /// What a path names; a link is not followed.
-    Looked(Result<Seen, Fault>),
+    Looked(Result<FileStat, Fault>),
     /// What a path names, or what a link there leads to.
-    Followed(Result<Seen, Fault>),
+    Followed(Result<FileStat, Fault>),
     /// The path without links of what a path names: so many bytes, which come first.
     Resolved(Result<usize, Fault>),
     /// A path was opened.
     Opened(How, Result<Handle, Fault>),
     /// What a handle stands for.
-    LookedAt(Handle, Result<Seen, Fault>),
+    LookedAt(Handle, Result<FileStat, Fault>),
     /// So many bytes were read of it.
     Read(Handle, Result<usize, Fault>),
     /// So many of its first bytes were asked for, and so many came; what is read next stays.
@@ -185,11 +185,11 @@ pub trait System {
     ghost calls: { Self → List Call };
 
     /// What the path names. A link is not followed.
-    fn look(&mut self, path: &str) -> Result<Seen, Fault>
+    fn look(&mut self, path: &str) -> Result<FileStat, Fault>
         ensures { calls self.new ≡ calls self.old ++ looked path.now result ∷ [] };
 
     /// What the path names, or what a link there leads to.
-    fn follow(&mut self, path: &str) -> Result<Seen, Fault>
+    fn follow(&mut self, path: &str) -> Result<FileStat, Fault>
         ensures { calls self.new ≡ calls self.old ++ followed path.now result ∷ [] };
 
     /// The path from the topmost folder, without links, of what the path names; how many bytes it
@@ -203,7 +203,7 @@ pub trait System {
         ensures { calls self.new ≡ calls self.old ++ opened path.now how result ∷ [] };
 
     /// What the handle stands for.
-    fn look_at(&mut self, handle: Handle) -> Result<Seen, Fault>
+    fn look_at(&mut self, handle: Handle) -> Result<FileStat, Fault>
         ensures { calls self.new ≡ calls self.old ++ looked_at handle result ∷ [] };
 
     /// The next bytes, or names, each ended by a zero byte; how many bytes they are.

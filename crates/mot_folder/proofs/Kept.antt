@@ -3,8 +3,8 @@ use Rattle.std.proofs.Common.{◌≡◌, ◌∙◌, ◌++◌, ℕ, [], ◌∷◌
 use Rattle.std.proofs.Common.{Bool, true, false, nat_eq, not, suc, List}
 use Rattle.std.proofs.Common.{length, map}
 use Rattle.mot_events.specs.Events.{event_of}
-use Rattle.mot_events.specs.declared.event.Met.{Met}
-use Rattle.mot_events.specs.declared.event.Met.TheVariants.{Kept, KeptMost}
+use Rattle.mot_events.specs.declared.event.LookResult.{LookResult}
+use Rattle.mot_events.specs.declared.event.LookResult.TheVariants.{Kept, KeptMost}
 use Rattle.mot_folder.specs.Guard.{going, kept_so}
 use Rattle.mot_folder.specs.Inner.Notes.{unknown_objects}
 use Rattle.mot_folder.specs.Log.{images_noted, of_look}
@@ -59,7 +59,7 @@ as_counted f names view s agrees =
 
 -- that they stay is told of the look, and of no image
 module _ (path : List ℕ) (all objects : ℕ) where
-  abbrev either : (is_empty : Bool) → Met
+  abbrev either : (is_empty : Bool) → LookResult
   either is_empty = cond is_empty Kept (KeptMost all objects)
 
   either_of_look : (is_empty : Bool) → of_look (event_of path (either is_empty) ∷ [])

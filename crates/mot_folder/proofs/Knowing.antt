@@ -26,8 +26,8 @@ use Rattle.mot_update.specs.Told.{Answer, Put, Replaced, TellsBoth, Withdrew, an
 use Rattle.mot_update.specs.Told.{was_accepted}
 use Rattle.mot_update.specs.Looking.{was_settled}
 use Rattle.mot_update.specs.Updating.{is_known}
-use Rattle.mot_update.specs.declared.settling.Settled.{Settled}
-use Rattle.mot_update.specs.declared.settling.Settled.TheVariants as settles
+use Rattle.mot_update.specs.declared.settling.SettleOutcome.{SettleOutcome}
+use Rattle.mot_update.specs.declared.settling.SettleOutcome.TheVariants as settles
 use Rattle.mot_update.specs.declared.wanted.Wanted.{Wanted}
 
 -- ---- lists
@@ -111,7 +111,7 @@ noted_now old new name accepted (inr (same, inr more)) =
     ((bytes_eq-Decides name name).1 refl)))
 
 -- the answers to what was done for one object
-noted_of : (old new : KnownFiles) (name : List ℕ) (settled : Settled)
+noted_of : (old new : KnownFiles) (name : List ℕ) (settled : SettleOutcome)
     → NotesName old new name (not (was_settled settled))
     → AllByRecursion (IsNoted new) (answers_of name settled)
 noted_of old new name settles.Right more = tt
@@ -241,7 +241,7 @@ knows_noted g old new told name notes known read was = record {
 
 -- an object is settled
 pub knows_settled : (g : Given) (old new : KnownFiles) (told : List Answer) (name : List ℕ)
-    (settled : Settled) → NotesName old new name (not (was_settled settled))
+    (settled : SettleOutcome) → NotesName old new name (not (was_settled settled))
     → new.known ≡ old.known → new.read ≡ old.read → KnowsFiles g old told
     → KnowsFiles g new (told ++ answers_of name settled)
 knows_settled g old new told name settled notes known read was = record {

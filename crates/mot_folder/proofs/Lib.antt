@@ -6,7 +6,7 @@ pub mod Log
 pub mod Nameless
 pub mod Order
 pub mod Rows
-pub mod Seen
+pub mod FileStat
 pub mod Stages
 pub mod Taken
 pub mod Unlisted

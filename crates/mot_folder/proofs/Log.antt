@@ -6,8 +6,8 @@ use Rattle.std.proofs.lemmas.List.{map-append}
 use Rattle.std.proofs.lemmas.List.Elements.{filter-append}
 use Rattle.mot_events.specs.Events.{event_of}
 use Rattle.mot_events.specs.declared.event.LookEvent.{LookEvent}
-use Rattle.mot_events.specs.declared.event.Met.{Met}
-use Rattle.mot_events.specs.declared.event.Met.TheVariants as met
+use Rattle.mot_events.specs.declared.event.LookResult.{LookResult}
+use Rattle.mot_events.specs.declared.event.LookResult.TheVariants as met
 use Rattle.mot_folder.specs.Log.{ReportTells, TellsAnswers, TellsOne, images_noted, is_note}
 use Rattle.mot_folder.specs.Log.{is_of_file, is_of_image, is_of_look, names_read, of_look}
 use Rattle.mot_folder.specs.Log.{unreasoned}
@@ -56,7 +56,7 @@ tells_beside old new last none no_image one = λ answers told.
     })
 
 -- what is told of a file, and a note, notes no image type
-file_image_cases : (m : Met) → is_of_file m ≡ true → is_of_image m ≡ false
+file_image_cases : (m : LookResult) → is_of_file m ≡ true → is_of_image m ≡ false
 file_image_cases (met.Done what done) is = refl
 file_image_cases (met.Refused what refusal why) is = refl
 file_image_cases met.Young is = refl
@@ -70,7 +70,7 @@ file_image_cases (met.KeptMost going all) is = refl
 file_image_cases met.Listed is = refl
 file_image_cases (met.OtherImage other) is = absurd (cc (is))
 
-note_image_cases : (m : Met) → is_note m ≡ true → is_of_image m ≡ false
+note_image_cases : (m : LookResult) → is_note m ≡ true → is_of_image m ≡ false
 note_image_cases (met.Done what done) is = refl
 note_image_cases (met.Refused what refusal why) is = refl
 note_image_cases met.Young is = refl
@@ -84,7 +84,7 @@ note_image_cases (met.KeptMost going all) is = refl
 note_image_cases met.Listed is = refl
 note_image_cases (met.OtherImage other) is = absurd (cc (is))
 
-module _ (name : List ℕ) (m : Met) where
+module _ (name : List ℕ) (m : LookResult) where
   -- what is told of a file is told of no command, and of its name
   pub file_beside : is_of_file m ≡ true → of_look (event_of name m ∷ []) ≡ []
   file_beside is =
@@ -107,7 +107,7 @@ module _ (name : List ℕ) (m : Met) where
       tells_beside old new (event_of name m) (file_beside is) (file_no_image is) one
 
 -- a note is told of no file
-note_cases : (m : Met) → is_note m ≡ true → is_of_file m ≡ false
+note_cases : (m : LookResult) → is_note m ≡ true → is_of_file m ≡ false
 note_cases (met.Done what done) is = refl
 note_cases (met.Refused what refusal why) is = absurd (cc (is))
 note_cases met.Young is = absurd (cc (is))
@@ -121,7 +121,7 @@ note_cases (met.KeptMost going all) is = refl
 note_cases met.Listed is = refl
 note_cases (met.OtherImage other) is = absurd (cc (is))
 
-module _ (name : List ℕ) (m : Met) (is : is_note m ≡ true) where
+module _ (name : List ℕ) (m : LookResult) (is : is_note m ≡ true) where
   pub note_unread : is_of_file m ≡ false
   note_unread = note_cases m is
 
@@ -143,7 +143,7 @@ module _ (name : List ℕ) (m : Met) (is : is_note m ≡ true) where
       ap (λ (b : Bool). cond b (event_of name m ∷ []) []) (note_image_cases m is)
 
 -- a note is told
-pub tells_note : (old new : Report) (name : List ℕ) (m : Met) → is_note m ≡ true
+pub tells_note : (old new : Report) (name : List ℕ) (m : LookResult) → is_note m ≡ true
     → TellsOne old new (event_of name m) → TellsMore (TellsAnswers old) (TellsAnswers new) []
 tells_note old new name m is one =
     tells_beside old new (event_of name m) (note_beside name m is) (note_no_image name m is) one

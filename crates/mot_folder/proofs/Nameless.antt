@@ -3,7 +3,7 @@ use Rattle.std.proofs.Common.{◌≡◌, ◌∙◌, ◌++◌, ℕ, Bool, true, f
 use Rattle.std.proofs.Common.{append-nil, cond, refl, sym}
 use Rattle.std.proofs.lemmas.List.Elements.{filter-append}
 use Rattle.mot_events.specs.Events.{event_of}
-use Rattle.mot_events.specs.declared.event.Met.{Met}
+use Rattle.mot_events.specs.declared.event.LookResult.{LookResult}
 use Rattle.mot_folder.proofs.Log.{file_beside, file_named, file_no_image, images_same, look-more}
 use Rattle.mot_folder.proofs.Log.{note_beside, note_no_image, note_unnamed, note_unread}
 use Rattle.mot_folder.proofs.Taken.{any_noted, any_read, read-more}
@@ -21,7 +21,7 @@ nameless_none report fine told =
     record { entries = []; told = told; are = refl; any = fine; read = refl; images = refl }
 
 -- a note is told beside them
-pub nameless_note : (files : List (List ℕ)) (old new : Report) (name : List ℕ) (met : Met)
+pub nameless_note : (files : List (List ℕ)) (old new : Report) (name : List ℕ) (met : LookResult)
     → is_note met ≡ true → new.any_refused ≡ old.any_refused
     → TellsOne old new (event_of name met) → TellsNameless files old → TellsNameless files new
 nameless_note files old new name met is same one was =
@@ -60,7 +60,7 @@ nameless_named files report name named was = record {
 }
 
 -- or it has none, and is told
-pub nameless_told : (files : List (List ℕ)) (old new : Report) (name : List ℕ) (met : Met)
+pub nameless_told : (files : List (List ℕ)) (old new : Report) (name : List ℕ) (met : LookResult)
     → is_of_file met ≡ true → is_name MAX_NAME name ≡ false → new.any_refused ≡ true
     → TellsOne old new (event_of name met) → TellsNameless files old
     → TellsNameless (files ++ name ∷ []) new

@@ -7,14 +7,14 @@ use lib.Utf8.{encode}
 use Rattle.mot_folder.specs.Listed.{and_in_order, names_in, object_names, with_type}
 use Rattle.mot_events.specs.Events.{event_of}
 use Rattle.mot_log.specs.Text.{met_line}
-use Rattle.mot_events.specs.declared.event.Deed.TheVariants as deed
-use Rattle.mot_events.specs.declared.event.Met.TheVariants as met
+use Rattle.mot_events.specs.declared.event.LookStep.TheVariants as deed
+use Rattle.mot_events.specs.declared.event.LookResult.TheVariants as met
 use Rattle.mot_events.specs.declared.event.Skip.TheVariants as skip
 use Rattle.mot_events.specs.declared.event.Why.TheVariants.{Bytes, Control, NotUtf8, Space, Unsaid}
 use Rattle.mot_events.specs.declared.event.Why.TheVariants.{Words}
 use Rattle.mot_folder.specs.Inner.Reading.{unread_for}
 use Rattle.mot_folder.specs.Inner.Reasons.{why_nameless, why_not_stored}
-use Rattle.mot_folder.specs.Log.{event_of_answer, met_for, names_read, of_look, told_of}
+use Rattle.mot_folder.specs.Log.{event_of_answer, result_for, names_read, of_look, told_of}
 use Rattle.mot_folder.specs.Log.{unlisted_for, waiting_in}
 use Rattle.mot_folder.specs.Guard.{guard_of, is_kept}
 use Rattle.mot_folder.specs.Looked.{is_look_due, packets_left_behind, packets_left}
@@ -47,7 +47,7 @@ refused_line = refl
 
 -- for want of room the reason is how many bytes an object has, and else how many there may be
 refused_put : Refusal → List ℕ
-refused_put refusal = met_line (event_of (codes "a") (met_for deed.Put (Refused refusal)
+refused_put refusal = met_line (event_of (codes "a") (result_for deed.Put (Refused refusal)
     (why_not_stored (record { length = 20; most = 40; waiting = 0 }) (Refused refusal))))
 
 no_room_line : refused_put NoRoom ≡ codes "put a refused 12 NoRoom: 20 bytes\n"
@@ -68,7 +68,7 @@ unfolding digits is_utf8 chars encode
 unlisted_for_line = refl
 
 -- what is told of the look is the same with a reason and without
-reason_beside : of_look (event_of (codes "a") (met_for deed.Put (Refused NoRoom) (Bytes 20)) ∷ [])
+reason_beside : of_look (event_of (codes "a") (result_for deed.Put (Refused NoRoom) (Bytes 20)) ∷ [])
     ≡ event_of_answer (Put (codes "a") (Refused NoRoom)) ∷ []
 reason_beside = refl
 

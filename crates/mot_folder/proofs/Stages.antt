@@ -8,9 +8,9 @@ use Rattle.mot_folder.specs.Inner.Listing.{TellsFurther, TellsNameless, stage}
 use Rattle.mot_folder.specs.Listed.{IsListing, names_in}
 use Rattle.mot_folder.specs.Log.{TellsAnswers}
 use Rattle.mot_folder.proofs.Log.{tells_same}
-use Rattle.mot_folder.proofs.Seen.{all_given, goes_nowhere, goes_on, is_listing, is_unlisted}
-use Rattle.mot_folder.proofs.Seen.{is_unopened, no_more, no_piece, some_more, some_none}
-use Rattle.mot_folder.proofs.Seen.{stops_behind, unread_failed, unread_listed, unread_on}
+use Rattle.mot_folder.proofs.FileStat.{all_given, goes_nowhere, goes_on, is_listing, is_unlisted}
+use Rattle.mot_folder.proofs.FileStat.{is_unopened, no_more, no_piece, some_more, some_none}
+use Rattle.mot_folder.proofs.FileStat.{stops_behind, unread_failed, unread_listed, unread_on}
 use Rattle.mot_folder.specs.declared.report.Report.{Report}
 use Rattle.mot_numbers.specs.declared.refusal.Refusal.{Refusal}
 use Rattle.mot_shelf.specs.Given.{Given, and_failed, and_kept_names, and_listed, nothing}

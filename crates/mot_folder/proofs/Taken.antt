@@ -12,9 +12,9 @@ use Rattle.std.proofs.lemmas.List.Folds.{list_any-append}
 use Rattle.std.proofs.lemmas.List.{map-append}
 use Rattle.std.proofs.lemmas.List.Elements.{filter-append}
 use Rattle.mot_events.specs.Events.{event_of}
-use Rattle.mot_events.specs.declared.event.Deed.TheVariants as deed
+use Rattle.mot_events.specs.declared.event.LookStep.TheVariants as deed
 use Rattle.mot_events.specs.declared.event.LookEvent.{LookEvent}
-use Rattle.mot_events.specs.declared.event.Met.{Met}
+use Rattle.mot_events.specs.declared.event.LookResult.{LookResult}
 use Rattle.mot_events.specs.declared.event.Why.{Why}
 use Rattle.mot_folder.specs.Inner.Images.{NotesImage}
 use Rattle.mot_folder.specs.Inner.Names.{name_or_none}
@@ -28,7 +28,7 @@ use Rattle.mot_folder.specs.Looked.{EachIsTold}
 use Rattle.mot_folder.proofs.Log.{file_beside, file_named, file_no_image, images-more, images_same}
 use Rattle.mot_folder.proofs.Log.{look-more, note_beside, note_no_image, note_unnamed, note_unread}
 use Rattle.mot_folder.specs.Log.{AreKept, IsKept}
-use Rattle.mot_folder.specs.Log.{TellsOf, TellsOne, event_of_answer, is_note, is_read, is_waiting, met_for}
+use Rattle.mot_folder.specs.Log.{TellsOf, TellsOne, event_of_answer, is_note, is_read, is_waiting, result_for}
 use Rattle.mot_folder.specs.Log.{all_image_notes, image_note, image_notes, images_noted}
 use Rattle.mot_folder.specs.Log.{names_read, not_accepted, of_look, told_of}
 use Rattle.mot_folder.specs.Taken.{AreTaken}
@@ -49,8 +49,8 @@ use Rattle.mot_update.specs.Looking.{AreAccepted, was_stored}
 use Rattle.mot_update.specs.Told.{Answer, AreAnswers, Put, Replaced, TellsBoth, Withdrew}
 use Rattle.mot_update.specs.Told.{answers_of, came_of, was_accepted}
 use Rattle.mot_update.specs.Updating.{is_known}
-use Rattle.mot_update.specs.declared.settling.Settled.{Settled}
-use Rattle.mot_update.specs.declared.settling.Settled.TheVariants as settles
+use Rattle.mot_update.specs.declared.settling.SettleOutcome.{SettleOutcome}
+use Rattle.mot_update.specs.declared.settling.SettleOutcome.TheVariants as settles
 use Rattle.mot_update.specs.declared.wanted.Wanted.{Wanted}
 
 -- those that were read, of more entries
@@ -205,9 +205,9 @@ fine_is entries answers commands marks any are is = (
 
 -- what is told of a command, with this reason of a refusal
 abbrev pub event_for : Answer → Why → LookEvent
-event_for (Withdrew name came) why = event_of name (met_for deed.Withdraw came why)
-event_for (Put name came) why = event_of name (met_for deed.Put came why)
-event_for (Replaced name came) why = event_of name (met_for deed.Replace came why)
+event_for (Withdrew name came) why = event_of name (result_for deed.Withdraw came why)
+event_for (Put name came) why = event_of name (result_for deed.Put came why)
+event_for (Replaced name came) why = event_of name (result_for deed.Replace came why)
 
 -- of the look, and of no file
 answer_told : (answer : Answer) (why : Why) → (names_read (event_for answer why ∷ []) ≡ [])
@@ -313,7 +313,7 @@ known_last kept name =
     ∙ or_true (list_any (bytes_eq name) kept)
 
 -- what was done for an object, whose file was made to last if it was stored
-pub answers_kept : (kept : List (List ℕ)) (name : List ℕ) (settled : Settled)
+pub answers_kept : (kept : List (List ℕ)) (name : List ℕ) (settled : SettleOutcome)
     → (was_stored settled ≡ true → is_known kept name ≡ true)
     → AreKept kept (answers_of name settled)
 answers_kept kept name settles.Right is = tt
@@ -586,7 +586,7 @@ module _ (types : List SuffixType) where
 
   -- a note is told
   pub of_note : (g : Given) (old new : Report) (waiting : ℕ) (names : List (List ℕ)) (name : List ℕ)
-      (met : Met)
+      (met : LookResult)
       (answers : List Answer) (given : List Wanted) → is_note met ≡ true
       → new.any_refused ≡ old.any_refused
       → (old.any_without_memory ≡ true → new.any_without_memory ≡ true)

@@ -1,8 +1,8 @@
 -- Which looks change nothing, since too much would go.
 use Rattle.std.specs.Prelude.{ℕ, ◌/◌, ◌&&◌, ◌||◌, nat_eq, nat_lt, Bool, true, false, List, length}
 use Rattle.std.specs.Prelude.{if◌then◌else◌}
-use Rattle.mot_events.specs.declared.event.Met.{Met}
-use Rattle.mot_events.specs.declared.event.Met.TheVariants.{Kept, KeptMost}
+use Rattle.mot_events.specs.declared.event.LookResult.{LookResult}
+use Rattle.mot_events.specs.declared.event.LookResult.TheVariants.{Kept, KeptMost}
 use Rattle.mot_folder.specs.declared.guard.Guard.{Guard}
 use Rattle.mot_folder.specs.declared.guard.Guard.TheVariants.{Empty, Most, Off}
 use Rattle.mot_objects.specs.Carousel.{Carousel}
@@ -34,5 +34,5 @@ is_kept Empty names going objects = are_all names objects
 is_kept Most names going objects = are_all names objects || are_most going objects
 
 -- what is told then
-abbrev pub kept_so : (names : List (List ℕ)) → (going objects : ℕ) → Met
+abbrev pub kept_so : (names : List (List ℕ)) → (going objects : ℕ) → LookResult
 kept_so names going objects = if nat_eq (length names) 0 then Kept else KeptMost going objects

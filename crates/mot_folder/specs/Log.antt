@@ -3,11 +3,11 @@ use Rattle.std.specs.Prelude.{◌≡◌, ◌&&◌, ◌||◌, ℕ, Bool, true, fa
 use Rattle.std.specs.Prelude.{None, Option, Some, filter, if◌then◌else◌, length, min}
 use Rattle.std.specs.List.{AllByRecursion, flat_map, list_any}
 use Rattle.mot_events.specs.Events.{event_of}
-use Rattle.mot_events.specs.declared.event.Deed.{Deed}
-use Rattle.mot_events.specs.declared.event.Deed.TheVariants as deed
+use Rattle.mot_events.specs.declared.event.LookStep.{LookStep}
+use Rattle.mot_events.specs.declared.event.LookStep.TheVariants as deed
 use Rattle.mot_events.specs.declared.event.LookEvent.{LookEvent}
-use Rattle.mot_events.specs.declared.event.Met.{Met}
-use Rattle.mot_events.specs.declared.event.Met.TheVariants as met
+use Rattle.mot_events.specs.declared.event.LookResult.{LookResult}
+use Rattle.mot_events.specs.declared.event.LookResult.TheVariants as met
 use Rattle.mot_events.specs.declared.event.Why.{Why}
 use Rattle.mot_events.specs.declared.event.Why.TheVariants.{Unsaid}
 use Rattle.mot_folder.specs.Listed.{nameless}
@@ -26,20 +26,20 @@ use Rattle.mot_update.specs.Updating.{is_known}
 use Rattle.mot_update.specs.declared.wanted.Wanted.{Wanted}
 
 -- what came of a command, with the reason of a refusal
-abbrev pub met_for : Deed → Attempt → Why → Met
-met_for what (Accepted done) why = met.Done what done
-met_for what (Refused refusal) why = met.Refused what refusal why
+abbrev pub result_for : LookStep → Attempt → Why → LookResult
+result_for what (Accepted done) why = met.Done what done
+result_for what (Refused refusal) why = met.Refused what refusal why
 
 -- the same of the object of this name, with no reason
-abbrev pub answered : Deed → List ℕ → Attempt → LookEvent
-answered what name came = event_of name (met_for what came Unsaid)
+abbrev pub answered : LookStep → List ℕ → Attempt → LookEvent
+answered what name came = event_of name (result_for what came Unsaid)
 
 -- the folder of this path is not listed
 abbrev pub unlisted_for : List ℕ → Refusal → Why → LookEvent
 unlisted_for path refusal why = event_of path (met.Refused deed.Look refusal why)
 
 -- the same, whatever the reason of a refusal
-abbrev pub without_why : Met → Met
+abbrev pub without_why : LookResult → LookResult
 without_why (met.Refused what refusal why) = met.Refused what refusal Unsaid
 without_why other = other
 
@@ -52,19 +52,19 @@ event_of_answer (Withdrew name came) = answered deed.Withdraw name came
 event_of_answer (Put name came) = answered deed.Put name came
 event_of_answer (Replaced name came) = answered deed.Replace name came
 
-abbrev pub is_reading : Deed → Bool
+abbrev pub is_reading : LookStep → Bool
 is_reading deed.Read = true
 is_reading other = false
 
 -- it is told of a file that was not taken
-abbrev pub is_of_file : Met → Bool
+abbrev pub is_of_file : LookResult → Bool
 is_of_file (met.Refused what refusal why) = is_reading what
 is_of_file met.Young = true
 is_of_file met.Changed = true
 is_of_file other = false
 
 -- it is a note beside, or of a name that is left out: nothing was done
-abbrev pub is_note : Met → Bool
+abbrev pub is_note : LookResult → Bool
 is_note (met.Skipped skip) = true
 is_note (met.Going unknown all) = true
 is_note (met.Gap gap) = true
@@ -73,7 +73,7 @@ is_note met.Listed = true
 is_note other = false
 
 -- it is noted of an object that its bytes are of another image type than its suffix says
-abbrev pub is_of_image : Met → Bool
+abbrev pub is_of_image : LookResult → Bool
 is_of_image (met.OtherImage other) = true
 is_of_image other = false
 

@@ -37,7 +37,7 @@ use Rattle.mot_update.specs.Laws.{IsUpdate}
 use Rattle.mot_update.specs.Looking.{AreAccepted}
 use Rattle.mot_update.specs.Told.{Answer, AreAnswers, AreAttemptsOf}
 use Rattle.mot_update.specs.Updating.{updating}
-use Rattle.mot_update.specs.declared.moment.Moment.{Moment}
+use Rattle.mot_update.specs.declared.moment.UpdatePoint.{UpdatePoint}
 use Rattle.mot_update.specs.declared.wanted.Wanted.{Wanted}
 
 -- Why the folder of this path is not listed, which gave this: a call of it failed, or it gave names
@@ -172,7 +172,7 @@ so_far left folder refused files =
 
 -- What is told of a call behind these looks, which are those then: no look was due there, and
 -- nothing was done; or there was a further one.
-pub data TellsLooks (w : Watch) (moment : Moment) (old new : LooksSoFar) (c : Carousel)
+pub data TellsLooks (w : Watch) (moment : UpdatePoint) (old new : LooksSoFar) (c : Carousel)
     (commands : List Command) (marks : List Bool) (fault : Option Refusal) : Type 0 where
   no_look : is_look_due old.left (may_look moment) ≡ false
       → new ≡ record old { left = packets_left_behind w.within (may_look moment) old.left }
@@ -188,7 +188,7 @@ pub data TellsLooks (w : Watch) (moment : Moment) (old new : LooksSoFar) (c : Ca
       → TellsLooks w moment old new c commands marks fault
 
 -- looks that go on, of the same folder
-abbrev pub TellsWatch : (old new : Watch) → Moment → (before after : LooksSoFar)
+abbrev pub TellsWatch : (old new : Watch) → UpdatePoint → (before after : LooksSoFar)
     → Carousel → List Command → List Bool → Option Refusal → Type 0
 TellsWatch old new moment before after c commands marks fault =
     (new ≡ old) × TellsLooks old moment before after c commands marks fault

@@ -9,10 +9,10 @@ ghost use Rattle.mot_folder.specs.Inner.Reasons.{TellsSettled, and_settled};
 ghost use Rattle.mot_folder.specs.Inner.Images.{NotesImage};
 ghost use Rattle.mot_folder.specs.Log.{AreKept, TellsOf, has_to_wait, image_notes};
 ghost use Rattle.mot_folder.specs.declared.folder.Untaken.TheVariants.{Refused as NotTaken};
-ghost use Rattle.mot_folder.specs.declared.folder.Untaken.TheVariants.{Unread as NotRead};
+ghost use Rattle.mot_folder.specs.declared.folder.Untaken.TheVariants.{ReadFailure as NotRead};
 ghost use Rattle.mot_numbers.specs.declared.refusal.Refusal.{Refusal};
 ghost use Rattle.mot_numbers.specs.declared.refusal.Refusal.TheVariants.{OutOfMemory};
-ghost use Rattle.mot_files.specs.declared.reading.Unread.TheVariants.{TooLong};
+ghost use Rattle.mot_files.specs.declared.reading.ReadFailure.TheVariants.{TooLong};
 ghost use Rattle.mot_shelf.specs.Given.{Given, and_unchanged};
 ghost use Rattle.mot_shelf.specs.Gives.{Gives, GoesOnSo};
 ghost use Rattle.mot_shelf.specs.Reader.{reader_path, view};
@@ -27,14 +27,14 @@ use crate::known::KnownFiles;
 use crate::listing::read_refusal;
 use crate::names::FileNames;
 use crate::report::{Report, Sizes};
-use mot_events::{Deed, Why};
-use mot_files::{Stamp, System, Unread};
+use mot_events::{LookStep, Why};
+use mot_files::{ReadFailure, Stamp, System};
 use mot_numbers::Refusal;
 use mot_objects::{Body, MAX_BODY, Name};
 use mot_playout::Attempt;
 use mot_shelf::FolderReader;
 use mot_suffixes::{FileType, FileTypes, other_image};
-use mot_update::{Settled, Source, Wanted};
+use mot_update::{SettleOutcome, Source, Wanted};
 use std::alloc::{AllocError, Global};
 use std::io;
 
@@ -170,7 +170,7 @@ impl<'a, S: System + Drop> Source for Folder<'a, S> {
                 // What is not stored is not known: the next look reads it again.
                 self.files
                     .settle(&self.names, self.place.saturating_sub(1), true);
-                tell_untaken(&mut self.report, name, Untaken::Unread(unread));
+                tell_untaken(&mut self.report, name, Untaken::ReadFailure(unread));
                 false
             }
         }
@@ -178,10 +178,10 @@ impl<'a, S: System + Drop> Source for Folder<'a, S> {
 
     fn withdrew(&mut self, name: &Name, attempt: Attempt) {
         self.report
-            .answered(Deed::Withdraw, name.as_bytes(), attempt);
+            .answered(LookStep::Withdraw, name.as_bytes(), attempt);
     }
 
-    fn settled(&mut self, settled: Settled) {
+    fn settled(&mut self, settled: SettleOutcome) {
         let waiting = and_settled(self.sizes.waiting, &settled);
         self.files.settle(
             &self.names,
@@ -203,7 +203,7 @@ impl<'a, S: System + Drop> Source for Folder<'a, S> {
 #[derive(Clone, Copy)]
 enum Untaken {
     /// It was not read.
-    Unread(Unread),
+    ReadFailure(ReadFailure),
     /// What was read of it makes no object.
     Refused(Refusal),
 }
@@ -221,15 +221,15 @@ fn tell_untaken(report: &mut Report, name: &[u8], untaken: Untaken)
     ensures left { report.new.any_left ≡ (report.old.any_left || is_for_next untaken) }
 {
     match untaken {
-        Untaken::Refused(refusal) => report.refused(Deed::Read, name, refusal),
-        Untaken::Unread(Unread::Young) => report.young(name),
-        Untaken::Unread(Unread::Changed) => report.changed(name),
-        Untaken::Unread(Unread::TooLong(length)) => {
+        Untaken::Refused(refusal) => report.refused(LookStep::Read, name, refusal),
+        Untaken::ReadFailure(ReadFailure::Young) => report.young(name),
+        Untaken::ReadFailure(ReadFailure::Changed) => report.changed(name),
+        Untaken::ReadFailure(ReadFailure::TooLong(length)) => {
             report.missed(name, Refusal::BodyTooLong, Why::TooLong(length));
         }
-        Untaken::Unread(Unread::System(fault)) => tell_fault(report, name, fault.error()),
-        Untaken::Unread(Unread::NoMemory) => {
-            report.refused(Deed::Read, name, Refusal::OutOfMemory);
+        Untaken::ReadFailure(ReadFailure::System(fault)) => tell_fault(report, name, fault.error()),
+        Untaken::ReadFailure(ReadFailure::NoMemory) => {
+            report.refused(LookStep::Read, name, Refusal::OutOfMemory);
         }
     }
 }
@@ -247,7 +247,7 @@ fn tell_fault(report: &mut Report, name: &[u8], error: io::Error)
             let why = report.words_of(error);
             report.missed(name, Refusal::ReadFault, why);
         }
-        refusal => report.refused(Deed::Read, name, refusal),
+        refusal => report.refused(LookStep::Read, name, refusal),
     }
 }
 
@@ -278,7 +278,7 @@ fn tell_settled(
     names: &FileNames,
     place: usize,
     sizes: Sizes,
-    settled: Settled,
+    settled: SettleOutcome,
 )
     ensures fine { report.new.any_refused ≡ false
         → (report.old.any_refused ≡ false) × (was_settled settled ≡ true) }
@@ -295,20 +295,20 @@ fn tell_settled(
 {
     let name = name_at(names, place.saturating_sub(1));
     match settled {
-        Settled::Right => {}
-        Settled::Put(attempt) => report.stored(Deed::Put, name, attempt, sizes),
-        Settled::Replaced(attempt) => report.stored(Deed::Replace, name, attempt, sizes),
+        SettleOutcome::Right => {}
+        SettleOutcome::Put(attempt) => report.stored(LookStep::Put, name, attempt, sizes),
+        SettleOutcome::Replaced(attempt) => report.stored(LookStep::Replace, name, attempt, sizes),
     }
 }
 
 /// Whether a command was needed, and refused.
-fn is_refused(settled: &Settled) -> bool
+fn is_refused(settled: &SettleOutcome) -> bool
     ensures { result ≡ not (was_settled settled.now) }
 {
     match settled {
-        Settled::Right => false,
-        Settled::Put(attempt) => is_refusal(attempt),
-        Settled::Replaced(attempt) => is_refusal(attempt),
+        SettleOutcome::Right => false,
+        SettleOutcome::Put(attempt) => is_refusal(attempt),
+        SettleOutcome::Replaced(attempt) => is_refusal(attempt),
     }
 }
 
@@ -323,13 +323,13 @@ fn is_refusal(attempt: &Attempt) -> bool
 }
 
 /// How many objects wait, where so many did before one was settled so.
-fn and_settled(waiting: u32, settled: &Settled) -> u32
+fn and_settled(waiting: u32, settled: &SettleOutcome) -> u32
     ensures { result ≡ and_settled waiting settled.now }
 {
     let waits = match settled {
-        Settled::Right => false,
-        Settled::Put(attempt) => has_to_wait(attempt),
-        Settled::Replaced(attempt) => has_to_wait(attempt),
+        SettleOutcome::Right => false,
+        SettleOutcome::Put(attempt) => has_to_wait(attempt),
+        SettleOutcome::Replaced(attempt) => has_to_wait(attempt),
     };
     if waits {
         waiting.saturating_add(1)
@@ -399,7 +399,7 @@ fn read<S: System + Drop>(
 {
     let file = match shelf.read(alloc, name.as_bytes(), u64::from(MAX_BODY)) {
         Ok(file) => file,
-        Err(unread) => return Err(Untaken::Unread(unread)),
+        Err(unread) => return Err(Untaken::ReadFailure(unread)),
     };
     let stamp = file.stamp;
     match wanted_of_file(types, name, file.bytes) {

@@ -5,7 +5,7 @@ ghost use Rattle.std.specs.Prelude.{◌≡◌, ◌<◌, ◌∷◌, ◌++◌, [],
 ghost use Rattle.std.specs.Prelude.{IfNone, IfSome, IsTrue};
 ghost use Rattle.std.specs.Prelude.{◌==◌, ◌≢◌, List, MatchResult, OnErr, OnOk, Some, nat_le, ℕ};
 ghost use Rattle.mot_events.specs.Events.{event_of};
-ghost use Rattle.mot_events.specs.declared.event.Met.TheVariants.{Skipped};
+ghost use Rattle.mot_events.specs.declared.event.LookResult.TheVariants.{Skipped};
 ghost use Rattle.mot_events.specs.declared.event.Skip.TheVariants.{NotUtf8};
 ghost use Rattle.mot_events.specs.declared.event.Why.{Why};
 ghost use Rattle.mot_folder.specs.Inner.Listing.{AreGoneOver, AreRead, IsCallRefusal, IsLeftOutFor};
@@ -29,7 +29,7 @@ ghost use Rattle.mot_folder.specs.declared.report.TheConstants.{MAX_SKIPPED};
 use crate::names::FileNames;
 use crate::report::Report;
 use memchr::memchr;
-use mot_events::{Deed, Skip, Why};
+use mot_events::{LookStep, Skip, Why};
 use mot_files::{Kind, System};
 use mot_numbers::Refusal;
 use mot_objects::{Carousel, Name};
@@ -390,7 +390,7 @@ pub(crate) fn tell_unlisted(report: &mut Report, path: &[u8], unlisted: Unlisted
         (unlisted_for path.now unlisted.refusal why) }
 {
     let why = why_unlisted(report, unlisted);
-    report.refused_for(Deed::Look, path, unlisted.refusal, why);
+    report.refused_for(LookStep::Look, path, unlisted.refusal, why);
 }
 
 /// Why a folder is not listed, if more is known than the refusal.

@@ -6,8 +6,8 @@ ghost use Rattle.disk_model.specs.Disk.{KeepsLength};
 ghost use Rattle.mot_update.specs.Between.{IsUpdating, may_look};
 ghost use Rattle.mot_events.specs.Events.{is_listed};
 ghost use Rattle.mot_events.specs.Events.{event_of};
-ghost use Rattle.mot_events.specs.declared.event.Met.TheVariants.{Gap, Going, Listed};
-ghost use Rattle.mot_events.specs.declared.event.Met.TheVariants.{Waiting};
+ghost use Rattle.mot_events.specs.declared.event.LookResult.TheVariants.{Gap, Going, Listed};
+ghost use Rattle.mot_events.specs.declared.event.LookResult.TheVariants.{Waiting};
 ghost use Rattle.mot_events.specs.declared.event.Why.{Why};
 ghost use Rattle.mot_folder.specs.Log.{TellsAnswers, TellsOf, TellsOne, unlisted_for};
 ghost use Rattle.mot_folder.specs.Inner.Notes.{unknown_objects};
@@ -41,7 +41,7 @@ use mot_objects::Carousel;
 use mot_playout::Server;
 use mot_shelf::FolderReader;
 use mot_suffixes::FileTypes;
-use mot_update::{Facts, Moment, Update, look};
+use mot_update::{LookHistory, Update, UpdatePoint, look};
 use std::alloc::Global;
 use std::mem::swap;
 
@@ -345,7 +345,7 @@ impl<'a, S: System + Drop> Update for Looks<'a, S> {
         &mut self,
         server: &mut Server<D>,
         alloc: Global,
-        moment: Moment,
+        moment: UpdatePoint,
     ) -> Result<(), Refusal>
         ensures keeps { KeepsLength (D.state server.old.disk) (D.state server.new.disk) }
         ensures faults { TellsFaults server.old server.new
@@ -445,7 +445,7 @@ fn turn_over(report: &mut Report, before: &mut Vec<LookEvent>) -> bool
     is_listed(before.as_slice())
 }
 
-impl<'a, S: System + Drop> Facts for Looks<'a, S> {
+impl<'a, S: System + Drop> LookHistory for Looks<'a, S> {
     fn looks(&self) -> u64
         ensures { result ≡ self.now.count }
     {

@@ -2,17 +2,17 @@
 ghost use Rattle.std.specs.Prelude.{◌≡◌, ◌≢◌, ◌↔◌, ◌||◌, ◌++◌, ◌∷◌, [], true, false, not};
 ghost use Rattle.std.specs.Prelude.{IfErr, IsOk, OnOk, nat_le};
 ghost use Rattle.mot_events.specs.Events.{event_of};
-ghost use Rattle.mot_events.specs.declared.event.Met.TheVariants as met;
+ghost use Rattle.mot_events.specs.declared.event.LookResult.TheVariants as met;
 ghost use Rattle.mot_folder.specs.Inner.Reading.{unread_for};
 ghost use Rattle.mot_folder.specs.Inner.Reasons.{TellsNoMore, TellsUnless, is_counted};
 ghost use Rattle.mot_folder.specs.Inner.Reasons.{why_not_stored, why_refused};
-ghost use Rattle.mot_folder.specs.Log.{BeginsAnew, ReportTells, TellsOne, answered, met_for};
+ghost use Rattle.mot_folder.specs.Log.{BeginsAnew, ReportTells, TellsOne, answered, result_for};
 ghost use Rattle.mot_numbers.specs.declared.refusal.Refusal.TheVariants.{NoRoom, OutOfMemory};
 ghost use Rattle.mot_playout.specs.declared.running.Attempt.TheVariants.{Accepted, Refused};
 ghost use Rattle.mot_update.specs.Told.{was_accepted};
 
 use disk_store::OpenFault;
-use mot_events::{Deed, LookEvent, Met, Skip, Why, Words};
+use mot_events::{LookEvent, LookResult, LookStep, Skip, Why, Words};
 use mot_numbers::Refusal;
 use mot_objects::Done;
 use mot_playout::Attempt;
@@ -105,7 +105,7 @@ impl Report {
     }
 
     /// What became of a command on the object of this name.
-    pub fn answered(&mut self, deed: Deed, name: &[u8], attempt: Attempt)
+    pub fn answered(&mut self, deed: LookStep, name: &[u8], attempt: Attempt)
         ensures fine { self.new.any_refused ≡ false
             → (self.old.any_refused ≡ false) × (was_accepted attempt ≡ true) }
         ensures any { self.new.any_refused
@@ -121,7 +121,7 @@ impl Report {
     }
 
     /// What became of a command that was to store an object of these sizes.
-    pub(crate) fn stored(&mut self, deed: Deed, name: &[u8], attempt: Attempt, sizes: Sizes)
+    pub(crate) fn stored(&mut self, deed: LookStep, name: &[u8], attempt: Attempt, sizes: Sizes)
         ensures fine { self.new.any_refused ≡ false
             → (self.old.any_refused ≡ false) × (was_accepted attempt ≡ true) }
         ensures any { self.new.any_refused
@@ -129,7 +129,7 @@ impl Report {
         ensures stays { self.old.any_without_memory ≡ true
             → self.new.any_without_memory ≡ true }
         ensures told { TellsUnless (is_counted sizes.waiting attempt) self.old self.new
-            (event_of name.now (met_for deed attempt (why_not_stored sizes attempt))) }
+            (event_of name.now (result_for deed attempt (why_not_stored sizes attempt))) }
     {
         match attempt {
             Attempt::Accepted(done) => self.done(deed, name, done),
@@ -140,7 +140,7 @@ impl Report {
     /// An object of these sizes was not stored. For want of room, the reason is how many bytes it
     /// has; and where there are as many objects as there may be, how many those are. Of those that
     /// have to wait for others to go only the first is told.
-    fn not_stored(&mut self, deed: Deed, name: &[u8], refusal: Refusal, sizes: Sizes)
+    fn not_stored(&mut self, deed: LookStep, name: &[u8], refusal: Refusal, sizes: Sizes)
         ensures any { self.new.any_refused ≡ true }
         ensures stays { self.old.any_without_memory ≡ true
             → self.new.any_without_memory ≡ true }
@@ -160,17 +160,17 @@ impl Report {
     }
 
     /// It was done, with these ids.
-    fn done(&mut self, deed: Deed, name: &[u8], done: Done)
+    fn done(&mut self, deed: LookStep, name: &[u8], done: Done)
         ensures same { self.new.any_refused ≡ self.old.any_refused }
         ensures stays { self.old.any_without_memory ≡ true
             → self.new.any_without_memory ≡ true }
         ensures told { TellsOne self.old self.new (answered deed name.now (Accepted done)) }
     {
-        self.add(name, Met::Done(deed, done));
+        self.add(name, LookResult::Done(deed, done));
     }
 
     /// It was refused.
-    pub fn refused(&mut self, deed: Deed, name: &[u8], refusal: Refusal)
+    pub fn refused(&mut self, deed: LookStep, name: &[u8], refusal: Refusal)
         ensures any { self.new.any_refused ≡ true }
         ensures memory { refusal ≡ OutOfMemory → self.new.any_without_memory ≡ true }
         ensures stays { self.old.any_without_memory ≡ true
@@ -182,7 +182,7 @@ impl Report {
     }
 
     /// It was refused, for this reason.
-    pub(crate) fn refused_for(&mut self, deed: Deed, name: &[u8], refusal: Refusal, why: Why)
+    pub(crate) fn refused_for(&mut self, deed: LookStep, name: &[u8], refusal: Refusal, why: Why)
         ensures any { self.new.any_refused ≡ true }
         ensures memory { refusal ≡ OutOfMemory → self.new.any_without_memory ≡ true }
         ensures stays { self.old.any_without_memory ≡ true
@@ -191,7 +191,7 @@ impl Report {
         ensures told { TellsOne self.old self.new (event_of name.now (met.Refused deed refusal why)) }
     {
         self.note_refusal(refusal);
-        self.add(name, Met::Refused(deed, refusal, why));
+        self.add(name, LookResult::Refused(deed, refusal, why));
     }
 
     /// Notes that something was refused so.
@@ -226,7 +226,7 @@ impl Report {
         ensures told { TellsOne self.old self.new (unread_for name.now refusal why) }
     {
         self.any_refused = true;
-        self.add(name, Met::Refused(Deed::Read, refusal, why));
+        self.add(name, LookResult::Refused(LookStep::Read, refusal, why));
     }
 
     /// The file of this name was changed a moment ago. The next look may take it.
@@ -239,7 +239,7 @@ impl Report {
     {
         self.any_left = true;
         self.any_refused = true;
-        self.add(name, Met::Young);
+        self.add(name, LookResult::Young);
     }
 
     /// The file of this name was changed while it was read. The next look may take it.
@@ -252,7 +252,7 @@ impl Report {
     {
         self.any_left = true;
         self.any_refused = true;
-        self.add(name, Met::Changed);
+        self.add(name, LookResult::Changed);
     }
 
     /// A look at the folder of this path took no object off the air, since it has none. That counts
@@ -262,7 +262,7 @@ impl Report {
         ensures told { TellsOne self.old self.new (event_of path.now met.Kept) }
     {
         self.any_refused = true;
-        self.add(path, Met::Kept);
+        self.add(path, LookResult::Kept);
     }
 
     /// A look at the folder of this path took no object off the air, since so many of so many would
@@ -272,7 +272,7 @@ impl Report {
         ensures told { TellsOne self.old self.new (event_of path.now (met.KeptMost going all)) }
     {
         self.any_refused = true;
-        self.add(path, Met::KeptMost(going, all));
+        self.add(path, LookResult::KeptMost(going, all));
     }
 
     /// The folder of this path is listed again.
@@ -280,7 +280,7 @@ impl Report {
         ensures same { self.new.any_refused ≡ self.old.any_refused }
         ensures told { TellsOne self.old self.new (event_of path.now met.Listed) }
     {
-        self.add(path, Met::Listed);
+        self.add(path, LookResult::Listed);
     }
 
     /// So many of so many objects go.
@@ -290,7 +290,7 @@ impl Report {
             → self.new.any_without_memory ≡ true }
         ensures told { TellsOne self.old self.new (event_of path.now (met.Going unknown all)) }
     {
-        self.add(path, Met::Going(unknown, all));
+        self.add(path, LookResult::Going(unknown, all));
     }
 
     /// So many bytes are in the longest gap.
@@ -300,7 +300,7 @@ impl Report {
             → self.new.any_without_memory ≡ true }
         ensures told { TellsOne self.old self.new (event_of path.now (met.Gap gap)) }
     {
-        self.add(path, Met::Gap(gap));
+        self.add(path, LookResult::Gap(gap));
     }
 
     /// So many objects may be there, and so many files wait.
@@ -311,7 +311,7 @@ impl Report {
             → self.new.any_without_memory ≡ true }
         ensures told { TellsOne self.old self.new (event_of path.now (met.Waiting most files)) }
     {
-        self.add(path, Met::Waiting(most, files));
+        self.add(path, LookResult::Waiting(most, files));
     }
 
     /// The bytes of the object of this name are of another image type than its suffix says.
@@ -321,7 +321,7 @@ impl Report {
             → self.new.any_without_memory ≡ true }
         ensures told { TellsOne self.old self.new (event_of name.now (met.OtherImage other)) }
     {
-        self.add(name, Met::OtherImage(other));
+        self.add(name, LookResult::OtherImage(other));
     }
 
     /// Whether as many names were skipped as are told.
@@ -337,7 +337,7 @@ impl Report {
         ensures told { TellsOne self.old self.new (event_of name.now (met.Skipped skip)) }
     {
         self.skipped = self.skipped.saturating_add(1);
-        self.add(name, Met::Skipped(skip));
+        self.add(name, LookResult::Skipped(skip));
     }
 
     /// Why the system refused a call, in its words. If there is no memory for them, something is
@@ -357,7 +357,7 @@ impl Report {
     }
 
     /// A further event, of this name.
-    fn add(&mut self, name: &[u8], met: Met)
+    fn add(&mut self, name: &[u8], met: LookResult)
         ensures same { self.new.any_refused ≡ self.old.any_refused }
         ensures memory { self.new.any_without_memory ≡ self.old.any_without_memory }
         ensures left { (self.new.any_left ≡ self.old.any_left)
@@ -376,7 +376,7 @@ fn add_event(
     events: &mut Vec<LookEvent>,
     alloc: Global,
     name: &[u8],
-    met: Met,
+    met: LookResult,
 ) -> Result<(), AllocError>
     ensures { OnOk result (events.new.items ≡ events.old.items ++ event_of name.now met ∷ []) }
 {

@@ -2,7 +2,7 @@
 use Rattle.std.proofs.Common.{ℕ, List, [], ◌∷◌, ◌++◌, ◌≡◌, refl, sym, subst, Option, Result, Ok, Err, IsTrue, MatchResult}
 use Rattle.mot_files.specs.Call.{Call}
 use Rattle.mot_files.specs.declared.system.Handle.{Handle}
-use Rattle.mot_files.specs.declared.system.Seen.{Seen}
+use Rattle.mot_files.specs.declared.system.FileStat.{FileStat}
 use Rattle.mot_files.specs.declared.system.Fault.{Fault}
 use Rattle.mot_line_folder.specs.LineFiles.{IsFound, IsLookedInto, Leaves, Stamps, TakesAway}
 use Rattle.mot_line_folder.specs.LineFiles.IsFound.{kept, left, none as no_file, unopened, unseen}
@@ -34,7 +34,7 @@ stamped (stamp_unheld fault is here) = one_call _ refl here
 stamped (stamp_held held of is right here) = one_call _ refl here
 
 -- looking into a file
-pub looking_into : {handle : Handle} {named : Seen} {f : Found} {old new : List Call}
+pub looking_into : {handle : Handle} {named : FileStat} {f : Found} {old new : List Call}
     → IsLookedInto handle named f old new → OnlyReads old new
 looking_into (unheld fault is here) = one_call _ refl here
 looking_into (other held is not here) = one_call _ refl here

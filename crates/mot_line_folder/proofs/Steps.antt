@@ -5,10 +5,10 @@ use Rattle.mot_files.specs.Call.{Call, looked, opened, removed}
 use Rattle.mot_files.specs.declared.system.Fault.{Fault}
 use Rattle.mot_files.specs.declared.system.Handle.{Handle}
 use Rattle.mot_files.specs.declared.system.How.{How}
-use Rattle.mot_files.specs.declared.system.Seen.{Seen}
+use Rattle.mot_files.specs.declared.system.FileStat.{FileStat}
 
 -- a look at a path that is written otherwise
-pub look_step : {new mid front : List Call} {path other : List ℕ} (answer : Result Seen Fault)
+pub look_step : {new mid front : List Call} {path other : List ℕ} (answer : Result FileStat Fault)
     → path ≡ other → new ≡ mid ++ looked path answer ∷ [] → mid ≡ front
     → new ≡ front ++ looked other answer ∷ []
 look_step {front = front} answer same here before =

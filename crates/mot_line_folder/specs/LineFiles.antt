@@ -10,7 +10,7 @@ use Rattle.mot_files.specs.declared.system.Fault.TheVariants.{Absent, Busy, Syst
 use Rattle.mot_files.specs.declared.system.Handle.{Handle}
 use Rattle.mot_files.specs.declared.system.How.TheVariants as How
 use Rattle.mot_files.specs.declared.system.Kind.TheVariants.{File}
-use Rattle.mot_files.specs.declared.system.Seen.{Seen}
+use Rattle.mot_files.specs.declared.system.FileStat.{FileStat}
 use Rattle.mot_line_folder.specs.declared.line_file.Found.{Found}
 use Rattle.mot_line_folder.specs.declared.line_file.Found.TheVariants.{Gone, Left, Lines}
 use Rattle.mot_line_folder.specs.declared.said.Stamp.{Stamp}
@@ -38,7 +38,7 @@ refusal_of NoFile = ReadFault
 refusal_of (Refused fault) = ReadFault
 
 -- what a refused call says of a path: only what is not there is gone
-abbrev pub fault_found : Option Seen → Fault → Found
+abbrev pub fault_found : Option FileStat → Fault → Found
 fault_found named (Absent error) = Gone
 fault_found named Busy = Left (Refused Busy) named
 fault_found named (System error) = Left (Refused (System error)) named
@@ -58,25 +58,25 @@ abbrev pub IsWholeFront : (count len : ℕ) → Type 0
 IsWholeFront count len = (9 ≤ count) ⊎ (len ≤ count)
 
 -- what an open file is, of which nine bytes are asked for
-pub data IsLookedInto (handle : Handle) (named : Seen) (found : Found) (old new : List Call) :
+pub data IsLookedInto (handle : Handle) (named : FileStat) (found : Found) (old new : List Call) :
     Type 0 where
   unheld : (fault : Fault) → found ≡ Left (Refused fault) (Some named)
       → new ≡ old ++ looked_at handle (Err fault) ∷ [] → IsLookedInto handle named found old new
-  other : (held : Seen) → found ≡ Gone → ¬ (IsSame held named)
+  other : (held : FileStat) → found ≡ Gone → ¬ (IsSame held named)
       → new ≡ old ++ looked_at handle (Ok held) ∷ [] → IsLookedInto handle named found old new
-  unread : (held : Seen) (room : List ℕ) (fault : Fault)
+  unread : (held : FileStat) (room : List ℕ) (fault : Fault)
       → found ≡ Left (Refused fault) (Some named)
       → IsSame held named
       → new ≡ old ++ looked_at handle (Ok held) ∷ [] ++ peeked handle 9 room (Err fault) ∷ []
       → IsLookedInto handle named found old new
-  cut : (held : Seen) (room : List ℕ) (count : ℕ) → found ≡ Gone → IsSame held named
+  cut : (held : FileStat) (room : List ℕ) (count : ℕ) → found ≡ Gone → IsSame held named
       → new ≡ old ++ looked_at handle (Ok held) ∷ [] ++ peeked handle 9 room (Ok count) ∷ []
       → ¬ (IsWholeFront count held.len) → IsLookedInto handle named found old new
-  lines : (held : Seen) (room : List ℕ) (count : ℕ) → found ≡ Lines handle → IsSame held named
+  lines : (held : FileStat) (room : List ℕ) (count : ℕ) → found ≡ Lines handle → IsSame held named
       → new ≡ old ++ looked_at handle (Ok held) ∷ [] ++ peeked handle 9 room (Ok count) ∷ []
       → IsWholeFront count held.len → Begins (take count room)
       → IsLookedInto handle named found old new
-  no_lines : (held : Seen) (room : List ℕ) (count : ℕ) → found ≡ Left NoLine (Some named)
+  no_lines : (held : FileStat) (room : List ℕ) (count : ℕ) → found ≡ Left NoLine (Some named)
       → IsSame held named
       → new ≡ old ++ looked_at handle (Ok held) ∷ [] ++ peeked handle 9 room (Ok count) ∷ []
       → IsWholeFront count held.len → ¬ (Begins (take count room))
@@ -86,25 +86,25 @@ pub data IsLookedInto (handle : Handle) (named : Seen) (found : Found) (old new 
 pub data IsFound (path : List ℕ) (found : Found) (old new : List Call) : Type 0 where
   unseen : (fault : Fault) → found ≡ fault_found None fault
       → new ≡ old ++ looked path (Err fault) ∷ [] → IsFound path found old new
-  none : (named : Seen) → found ≡ Left NoFile (Some named) → named.kind ≢ File
+  none : (named : FileStat) → found ≡ Left NoFile (Some named) → named.kind ≢ File
       → new ≡ old ++ looked path (Ok named) ∷ [] → IsFound path found old new
-  unopened : (named : Seen) (fault : Fault) → found ≡ fault_found (Some named) fault
+  unopened : (named : FileStat) (fault : Fault) → found ≡ fault_found (Some named) fault
       → named.kind ≡ File
       → new ≡ old ++ looked path (Ok named) ∷ [] ++ opened path How.Read (Err fault) ∷ []
       → IsFound path found old new
   -- only a file of lines stays open
-  kept : (named : Seen) (handle of : Handle) → found ≡ Lines of → named.kind ≡ File
+  kept : (named : FileStat) (handle of : Handle) → found ≡ Lines of → named.kind ≡ File
       → IsLookedInto handle named found
       (old ++ looked path (Ok named) ∷ [] ++ opened path How.Read (Ok handle) ∷ []) new
       → IsFound path found old new
-  left : (named : Seen) (handle : Handle) (inner : List Call)
+  left : (named : FileStat) (handle : Handle) (inner : List Call)
       → ((of : Handle) → found ≢ Lines of) → named.kind ≡ File
       → IsLookedInto handle named found
       (old ++ looked path (Ok named) ∷ [] ++ opened path How.Read (Ok handle) ∷ []) inner
       → new ≡ inner ++ closed handle ∷ [] → IsFound path found old new
 
 -- what distinguishes a file, by what the system says of it
-abbrev pub IsStampOf : Seen → Stamp → Type 0
+abbrev pub IsStampOf : FileStat → Stamp → Type 0
 IsStampOf seen stamp = (stamp.device ≡ seen.device) × (stamp.number ≡ seen.number)
     × (stamp.changed ≡ seen.changed)
 
@@ -112,7 +112,7 @@ IsStampOf seen stamp = (stamp.device ≡ seen.device) × (stamp.number ≡ seen.
 pub data Stamps (handle : Handle) (stamp : Option Stamp) (old new : List Call) : Type 0 where
   unheld : (fault : Fault) → stamp ≡ None → new ≡ old ++ looked_at handle (Err fault) ∷ []
       → Stamps handle stamp old new
-  held : (held : Seen) (of : Stamp) → stamp ≡ Some of → IsStampOf held of
+  held : (held : FileStat) (of : Stamp) → stamp ≡ Some of → IsStampOf held of
       → new ≡ old ++ looked_at handle (Ok held) ∷ [] → Stamps handle stamp old new
 
 -- an open file is left: what distinguishes it is asked for, and then it is closed
@@ -132,10 +132,10 @@ pub data IsNamed (handle : Handle) (path : List ℕ) (result : Result Bool Fault
     (old new : List Call) : Type 0 where
   unheld : (fault : Fault) → result ≡ Err fault → new ≡ old ++ looked_at handle (Err fault) ∷ []
       → IsNamed handle path result old new
-  unseen : (held : Seen) (fault : Fault) → result ≡ fault_named fault
+  unseen : (held : FileStat) (fault : Fault) → result ≡ fault_named fault
       → new ≡ old ++ looked_at handle (Ok held) ∷ [] ++ looked path (Err fault) ∷ []
       → IsNamed handle path result old new
-  seen : (held named : Seen) (is : Bool) → result ≡ Ok is → (IsTrue is ↔ IsSame held named)
+  seen : (held named : FileStat) (is : Bool) → result ≡ Ok is → (IsTrue is ↔ IsSame held named)
       → new ≡ old ++ looked_at handle (Ok held) ∷ [] ++ looked path (Ok named) ∷ []
       → IsNamed handle path result old new
 

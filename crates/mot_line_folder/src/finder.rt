@@ -14,7 +14,7 @@ use crate::names::{Names, is_of_lines, plain_text};
 use crate::notices::{Notices, words_of};
 use crate::said::{Said, Stamp};
 use mot_events::Why;
-use mot_files::{Fault, Handle, How, Seen, System, path_in};
+use mot_files::{Fault, FileStat, Handle, How, System, path_in};
 use mot_numbers::Refusal;
 use std::alloc::Global;
 use std::io::{self, ErrorKind};
@@ -374,7 +374,7 @@ fn why_of_name(name: &[u8]) -> Why {
 }
 
 /// What distinguishes a file, if one was seen.
-fn stamp_of(named: Option<Seen>) -> Option<Stamp>
+fn stamp_of(named: Option<FileStat>) -> Option<Stamp>
     ensures { MatchOption named (result ≡ None) (λ seen. IfSome result (IsStampOf seen)) }
 {
     match named {

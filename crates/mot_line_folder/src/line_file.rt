@@ -6,7 +6,7 @@ ghost use Rattle.mot_line_folder.specs.LineFiles.{fault_named, unless_gone, word
 ghost use Rattle.mot_line_folder.specs.LineReads.{ReadsLines};
 
 use crate::said::Stamp;
-use mot_files::{Fault, Handle, How, Seen, System, is_regular, is_same};
+use mot_files::{Fault, FileStat, Handle, How, System, is_regular, is_same};
 use mot_lines::Verb;
 
 /// A byte more than the longest first word of lines has.
@@ -134,7 +134,7 @@ pub(crate) enum Found {
     /// A file of lines, which is open, or an empty one.
     Lines(Handle),
     /// It is left there, for this reason; what was seen there, if something was.
-    Left(Reason, Option<Seen>),
+    Left(Reason, Option<FileStat>),
     /// Nothing, or something else than a moment before.
     Gone,
 }
@@ -163,7 +163,7 @@ pub(crate) fn find<S: System>(system: &mut S, path: &str) -> Found
 }
 
 /// What a refused call says of the path.
-fn refused(fault: Fault, named: Option<Seen>) -> Found
+fn refused(fault: Fault, named: Option<FileStat>) -> Found
     ensures { result ≡ fault_found named fault }
 {
     match fault {
@@ -193,7 +193,7 @@ fn unless_gone(answer: Result<(), Fault>) -> Result<(), Fault>
 }
 
 /// What the open file is, if it is the one that was seen at its path.
-fn look_into<S: System>(system: &mut S, handle: Handle, named: &Seen) -> Found
+fn look_into<S: System>(system: &mut S, handle: Handle, named: &FileStat) -> Found
     ensures { IsLookedInto handle named.now result (S.calls system.old) (S.calls system.new) }
 {
     let held = match system.look_at(handle) {

@@ -4,7 +4,7 @@ ghost use Rattle.std.specs.Prelude.{IsSome, false, length, true};
 ghost use Rattle.mot_line_folder.specs.LineFiles.{IsStampOf};
 ghost use Rattle.mot_line_folder.specs.Inner.Said.{HasMet, IsDue, IsNew, IsUnread, IsUntold, Remembers};
 
-use mot_files::{Seen, Time};
+use mot_files::{FileStat, Time};
 use std::alloc::{AllocError, Global};
 
 /// The most names that are remembered. Further ones are not logged.
@@ -20,7 +20,7 @@ pub(crate) struct Stamp {
 
 impl Stamp {
     /// That of the file of which the system says this.
-    pub(crate) fn of(seen: &Seen) -> Stamp
+    pub(crate) fn of(seen: &FileStat) -> Stamp
         ensures { IsStampOf seen.now result }
     {
         Stamp {

@@ -1,5 +1,5 @@
 -- The lengths of the packets of a turn.
-use Rattle.std.specs.Prelude.{ℕ, ◌+◌, ◌*◌, List, length, map, flat_map, replicate}
+use Rattle.std.specs.Prelude.{ℕ, ◌+◌, ◌*◌, ◌/◌, List, length, map, flat_map, max, replicate}
 use Rattle.mot_groups.specs.Group.{Segment}
 use Rattle.mot_packets.specs.Cut.{pieces_of}
 use Rattle.mot_packets.specs.Packet.{PacketFields}
@@ -8,6 +8,10 @@ use Rattle.mot_player.specs.Turn.{Turn, segments_of_turn}
 -- the bytes of a logical frame of 24 ms, at so many kbit/s
 abbrev pub frame_size : ℕ → ℕ
 frame_size rate = 3 * rate
+
+-- how many packets of this length it holds, and one at least
+abbrev pub frame_packets : (rate length : ℕ) → ℕ
+frame_packets rate length = max 1 (frame_size rate / length)
 
 -- the lengths of the packets that a group of so many bytes is cut into: each has 5 bytes more than
 -- its data field

@@ -7,5 +7,5 @@ mod lengths;
 mod turn;
 
 pub use law::listening_laws;
-pub use lengths::{GROUP_FRAME, packet_for};
+pub use lengths::{GROUP_FRAME, frame_packets, packet_for};
 pub use turn::{TurnSize, turn_size};

@@ -2,9 +2,9 @@
 use Rattle.std.specs.Prelude.{ℕ, ◌+◌, min, Bool, if◌then◌else◌, List, replicate}
 use Rattle.std.specs.List.{slice_index, slice_set}
 use Rattle.mot_log.specs.declared.counters.Counters.{Counters}
-use Rattle.mot_log.specs.declared.tally.Tally.{Tally}
-use Rattle.mot_log.specs.declared.tally.Tally.TheVariants.{Change, Doubt, Going, Kept, Look}
-use Rattle.mot_log.specs.declared.tally.Tally.TheVariants.{LineRefusal, News, Refusal, Stop}
+use Rattle.mot_log.specs.declared.tally.EventClass.{EventClass}
+use Rattle.mot_log.specs.declared.tally.EventClass.TheVariants.{Change, Doubt, Going, Kept, Look}
+use Rattle.mot_log.specs.declared.tally.EventClass.TheVariants.{LineRefusal, News, Refusal, Stop}
 use Rattle.mot_numbers.specs.Refusal.{number_of}
 use Rattle.mot_numbers.specs.declared.refusal.Refusal as refusal
 
@@ -36,7 +36,7 @@ refusal_counted c refusal = record c {
 }
 
 -- a refusal of a line is one among the others, and counts as one of lines
-abbrev pub counted : Counters → Tally → Counters
+abbrev pub counted : Counters → EventClass → Counters
 counted c Change = record c { changes = one_more c.changes }
 counted c (Refusal refusal) = refusal_counted c refusal
 counted c (LineRefusal refusal) =

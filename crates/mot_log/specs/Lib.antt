@@ -3,5 +3,5 @@ pub mod Log
 pub mod Look
 pub mod Shown
 pub mod Status
-pub mod Tally
+pub mod EventClass
 pub mod Text

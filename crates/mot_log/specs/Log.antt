@@ -2,7 +2,7 @@
 use Rattle.std.specs.Prelude.{◌≡◌, ℕ, Bool, true, false, List, Option}
 use Rattle.std.specs.Io.KnownBytes.{Appends}
 use Rattle.mot_log.specs.Counters.{counted}
-use Rattle.mot_log.specs.Tally.{tally_of}
+use Rattle.mot_log.specs.EventClass.{class_of}
 use Rattle.mot_log.specs.Text.{logged}
 use Rattle.mot_log.specs.declared.counters.Counters.{Counters}
 use Rattle.mot_events.specs.declared.event.Event.{Event}
@@ -27,7 +27,7 @@ log_view bytes is_whole levels counters = record {
 -- nothing else.
 abbrev pub Logs : (old : LogView) → Event → (new : LogView) → Type 0
 Logs old e new =
-    (new.counters ≡ counted old.counters (tally_of e)) × (new.levels ≡ old.levels)
+    (new.counters ≡ counted old.counters (class_of e)) × (new.levels ≡ old.levels)
     × (new.is_whole ≡ true → old.is_whole ≡ true)
     × (new.is_whole ≡ true → Appends old.bytes new.bytes (logged old.levels e))
 

@@ -2,11 +2,11 @@
 use Rattle.std.specs.Prelude.{Bool, List, fold, not, ℕ}
 use Rattle.std.specs.List.{filter, list_any}
 use Rattle.mot_log.specs.Counters.{counted}
-use Rattle.mot_log.specs.Tally.{tally_of_met}
-use Rattle.mot_log.specs.Text.{logged_as, met_text}
+use Rattle.mot_log.specs.EventClass.{class_of_result}
+use Rattle.mot_log.specs.Text.{logged_as, result_text}
 use Rattle.mot_log.specs.declared.counters.Counters.{Counters}
 use Rattle.mot_events.specs.declared.event.LookEvent.{LookEvent}
-use Rattle.mot_log.specs.declared.tally.Tally.TheVariants.{Look}
+use Rattle.mot_log.specs.declared.tally.EventClass.TheVariants.{Look}
 
 -- the events of a look that the one before it had not, by a test whether two are the same
 abbrev pub new_events : (same : LookEvent → LookEvent → Bool) → (before events : List LookEvent)
@@ -16,11 +16,11 @@ new_events same before events =
 
 -- what a log has of what a look met
 abbrev pub logged_met : (levels : Bool) → LookEvent → List ℕ
-logged_met levels e = logged_as levels (tally_of_met e.met) (met_text e.name e.met)
+logged_met levels e = logged_as levels (class_of_result e.met) (result_text e.name e.met)
 
 -- what is counted of it
 abbrev pub counted_met : Counters → LookEvent → Counters
-counted_met c e = counted c (tally_of_met e.met)
+counted_met c e = counted c (class_of_result e.met)
 
 -- and of a whole look
 abbrev pub counted_look : Counters → List LookEvent → Counters

@@ -6,7 +6,7 @@ use Rattle.std.specs.Prelude.{length}
 use Rattle.std.specs.Fmt.{decimal}
 use Rattle.std.specs.List.{list_any, slice_index}
 use Rattle.mot_log.specs.Shown.{shown_name}
-use Rattle.mot_events.specs.Events.{deed_word, is_listed, is_look}
+use Rattle.mot_events.specs.Events.{step_word, is_listed, is_look}
 use Rattle.mot_log.specs.Text.{reason_words, refusal_words}
 use Rattle.mot_log.specs.declared.counters.Counters.{Counters}
 use Rattle.mot_log.specs.declared.status.TheConstants.{CHANGES, CHECKSUM, COUNTED, DATA}
@@ -15,10 +15,10 @@ use Rattle.mot_log.specs.declared.status.TheConstants.{LAST_CHANGE, LINE_REFUSAL
 use Rattle.mot_log.specs.declared.status.TheConstants.{OBJECTS, OBJECTS_LIMIT, ON_AIR, PACKETS}
 use Rattle.mot_log.specs.declared.status.TheConstants.{REFUSALS, REFUSED, TURNS, TURN_BYTES}
 use Rattle.mot_log.specs.declared.status.TheConstants.{TURN_PACKETS, VERSION, WRITTEN}
-use Rattle.mot_events.specs.declared.event.Deed.{Deed}
+use Rattle.mot_events.specs.declared.event.LookStep.{LookStep}
 use Rattle.mot_events.specs.declared.event.LookEvent.{LookEvent}
-use Rattle.mot_events.specs.declared.event.Met.{Met}
-use Rattle.mot_events.specs.declared.event.Met.TheVariants as met
+use Rattle.mot_events.specs.declared.event.LookResult.{LookResult}
+use Rattle.mot_events.specs.declared.event.LookResult.TheVariants as met
 use Rattle.mot_events.specs.declared.event.Why.{Why}
 use Rattle.mot_log.specs.declared.status.Figures.{Figures}
 use Rattle.mot_numbers.specs.Refusal.{number_of}
@@ -84,30 +84,30 @@ abbrev pub with_refusals : (disk : List ℕ) → Counters → (text : List ℕ) 
 with_refusals disk c text = fold (refusal_sample disk c) (text ++ REFUSED.now) COUNTED
 
 -- it is a refusal of this deed
-abbrev pub is_deed : Deed → Met → Bool
-is_deed deed (met.Refused other refusal why) = bytes_eq (deed_word deed) (deed_word other)
-is_deed deed other = false
+abbrev pub is_of_step : LookStep → LookResult → Bool
+is_of_step deed (met.Refused other refusal why) = bytes_eq (step_word deed) (step_word other)
+is_of_step deed other = false
 
 -- the other is a refusal of the same deed, of a name that is shown alike
-abbrev pub is_alike : Deed → (shown : List ℕ) → LookEvent → Bool
+abbrev pub is_alike : LookStep → (shown : List ℕ) → LookEvent → Bool
 is_alike deed shown other =
-    is_deed deed other.met && bytes_eq shown (shown_name other.name)
+    is_of_step deed other.met && bytes_eq shown (shown_name other.name)
 
 -- the sample of a file that was refused; of files whose samples would not differ but by the reason
 -- the first has one
-abbrev pub file_sample : (disk text : List ℕ) → Deed → (name reason : List ℕ) → List ℕ
+abbrev pub file_sample : (disk text : List ℕ) → LookStep → (name reason : List ℕ) → List ℕ
 file_sample disk text deed name reason =
     value_text (text ++ codes "motcar_file_refused" ++ disk ++ codes ",command=\""
-    ++ deed_word deed ++ codes "\",name=\"" ++ flat_map label_byte name ++ codes "\""
+    ++ step_word deed ++ codes "\",name=\"" ++ flat_map label_byte name ++ codes "\""
     ++ codes ",reason=\"" ++ flat_map label_byte reason ++ codes "\"") 1
 
 abbrev pub sample_once : (disk text : List ℕ) → (before : List LookEvent) → (name : List ℕ)
-    → Deed → Refusal → Why → List ℕ
+    → LookStep → Refusal → Why → List ℕ
 sample_once disk text before name deed refusal why =
     if list_any (is_alike deed (shown_name name)) before then text
     else file_sample disk text deed (shown_name name) (reason_words refusal why)
 
-abbrev pub sample_of : (disk text : List ℕ) → (before : List LookEvent) → (name : List ℕ) → Met
+abbrev pub sample_of : (disk text : List ℕ) → (before : List LookEvent) → (name : List ℕ) → LookResult
     → List ℕ
 sample_of disk text before name (met.Refused deed refusal why) =
     if is_look deed then text else sample_once disk text before name deed refusal why

@@ -2,20 +2,20 @@
 use Rattle.std.specs.Prelude.{ℕ, Bool, if◌then◌else◌, nat_eq, List, [], ◌∷◌, ◌++◌}
 use Rattle.std.specs.Prelude.{None, Option, Some, codes, length, take}
 use Rattle.std.specs.Fmt.{decimal}
-use Rattle.mot_events.specs.Events.{deed_word, skip_word}
+use Rattle.mot_events.specs.Events.{step_word, skip_word}
 use Rattle.mot_log.specs.Shown.{shown_name}
-use Rattle.mot_log.specs.Tally.{has_line, level_of, level_text, tally_of}
-use Rattle.mot_events.specs.declared.event.Deed.{Deed}
+use Rattle.mot_log.specs.EventClass.{has_line, level_of, level_text, class_of}
+use Rattle.mot_events.specs.declared.event.LookStep.{LookStep}
 use Rattle.mot_events.specs.declared.event.Event.{Event}
 use Rattle.mot_events.specs.declared.event.Event.TheVariants as event
 use Rattle.mot_events.specs.declared.event.LookEvent.{LookEvent}
-use Rattle.mot_events.specs.declared.event.Met.{Met}
-use Rattle.mot_events.specs.declared.event.Met.TheVariants as met
+use Rattle.mot_events.specs.declared.event.LookResult.{LookResult}
+use Rattle.mot_events.specs.declared.event.LookResult.TheVariants as met
 use Rattle.mot_events.specs.declared.event.Reply.{Reply}
 use Rattle.mot_events.specs.declared.event.Reply.TheVariants as reply
 use Rattle.mot_events.specs.declared.event.Why.{Why}
 use Rattle.mot_events.specs.declared.event.Why.TheVariants as why
-use Rattle.mot_log.specs.declared.tally.Tally.{Tally}
+use Rattle.mot_log.specs.declared.tally.EventClass.{EventClass}
 use Rattle.mot_lines.specs.Text.{taken_words}
 use Rattle.mot_lines.specs.Verb.{verb_word}
 use Rattle.mot_lines.specs.declared.line.verb.Verb.{Verb}
@@ -72,8 +72,8 @@ abbrev pub refused_words : Refusal → Why → List ℕ
 refused_words refusal why = codes "refused " ++ reason_words refusal why
 
 -- what was done to a name
-abbrev pub deed_words : Deed → List ℕ → List ℕ
-deed_words deed name = deed_word deed ++ codes " " ++ shown_name name ++ codes " "
+abbrev pub step_words : LookStep → List ℕ → List ℕ
+step_words deed name = step_word deed ++ codes " " ++ shown_name name ++ codes " "
 
 abbrev pub note_words : List ℕ → List ℕ
 note_words name = codes "note " ++ shown_name name ++ codes " "
@@ -96,29 +96,29 @@ image_words other =
     ++ some_image_word other.by_bytes ++ codes " by its bytes"
 
 -- what a look met of a name
-abbrev pub met_text : List ℕ → Met → List ℕ
-met_text name (met.Done deed done) = deed_words deed name ++ done_words done
-met_text name (met.Refused deed refusal why) = deed_words deed name ++ refused_words refusal why
-met_text name met.Young = codes "read " ++ shown_name name ++ codes " too young, next look"
-met_text name met.Changed = codes "read " ++ shown_name name ++ codes " changed, next look"
-met_text name (met.Skipped skip) =
+abbrev pub result_text : List ℕ → LookResult → List ℕ
+result_text name (met.Done deed done) = step_words deed name ++ done_words done
+result_text name (met.Refused deed refusal why) = step_words deed name ++ refused_words refusal why
+result_text name met.Young = codes "read " ++ shown_name name ++ codes " too young, next look"
+result_text name met.Changed = codes "read " ++ shown_name name ++ codes " changed, next look"
+result_text name (met.Skipped skip) =
     codes "skip " ++ shown_name name ++ codes " " ++ skip_word skip
-met_text name (met.Going unknown all) =
+result_text name (met.Going unknown all) =
     note_words name ++ decimal unknown ++ codes " of " ++ decimal all ++ codes " objects go"
-met_text name (met.Gap gap) = note_words name ++ decimal gap ++ codes " bytes in the longest gap"
-met_text name (met.Waiting most files) =
+result_text name (met.Gap gap) = note_words name ++ decimal gap ++ codes " bytes in the longest gap"
+result_text name (met.Waiting most files) =
     note_words name ++ decimal most ++ codes " objects at most, " ++ decimal files
     ++ codes " files wait"
-met_text name met.Kept = codes "look " ++ shown_name name ++ codes " empty, kept"
-met_text name (met.KeptMost going all) =
+result_text name met.Kept = codes "look " ++ shown_name name ++ codes " empty, kept"
+result_text name (met.KeptMost going all) =
     codes "look " ++ shown_name name ++ codes " " ++ decimal going ++ codes " of " ++ decimal all
     ++ codes " objects would go, kept"
-met_text name met.Listed = codes "look " ++ shown_name name ++ codes " listed"
-met_text name (met.OtherImage other) = note_words name ++ image_words other
+result_text name met.Listed = codes "look " ++ shown_name name ++ codes " listed"
+result_text name (met.OtherImage other) = note_words name ++ image_words other
 
 -- the line of what a look met, with its end
 abbrev pub met_line : LookEvent → List ℕ
-met_line e = met_text e.name e.met ++ 10 ∷ []
+met_line e = result_text e.name e.met ++ 10 ∷ []
 
 abbrev pub reply_text : Reply → List ℕ
 reply_text (reply.Done done) = done_words done
@@ -157,7 +157,7 @@ status_written_text path = codes "status " ++ shown_name path ++ codes " written
 
 -- the text of an event
 abbrev pub text_of : Event → List ℕ
-text_of (event.Look look) = met_text look.now.name look.now.met
+text_of (event.Look look) = result_text look.now.name look.now.met
 text_of event.Looked = []
 text_of (event.LinesRefused name refusal why) =
     codes "lines " ++ shown_name name.now ++ codes " " ++ refused_words refusal why.now
@@ -178,20 +178,20 @@ abbrev pub longest_line : ℕ
 longest_line = 8192
 
 -- the level that a line begins with, if levels are asked for
-abbrev pub level_words : (levels : Bool) → Tally → List ℕ
+abbrev pub level_words : (levels : Bool) → EventClass → List ℕ
 level_words levels tally = if levels then level_text (level_of tally) else []
 
 -- what a log has of a text that counts so: if it has a line, that with its level and its end
-abbrev pub line_as : (levels : Bool) → Tally → List ℕ → List ℕ
+abbrev pub line_as : (levels : Bool) → EventClass → List ℕ → List ℕ
 line_as levels tally text = level_words levels tally ++ take longest_line text ++ 10 ∷ []
 
-abbrev pub logged_as : (levels : Bool) → Tally → List ℕ → List ℕ
+abbrev pub logged_as : (levels : Bool) → EventClass → List ℕ → List ℕ
 logged_as levels tally text = if has_line tally then line_as levels tally text else []
 
 -- the line of an event
 abbrev pub line_of : (levels : Bool) → Event → List ℕ
-line_of levels e = line_as levels (tally_of e) (text_of e)
+line_of levels e = line_as levels (class_of e) (text_of e)
 
 -- what a log has of it
 abbrev pub logged : (levels : Bool) → Event → List ℕ
-logged levels e = logged_as levels (tally_of e) (text_of e)
+logged levels e = logged_as levels (class_of e) (text_of e)

@@ -5,7 +5,7 @@ ghost use Rattle.mot_log.specs.Counters.{counted, none_counted, packet_counted};
 ghost use Rattle.mot_log.specs.Counters.{refusal_counted};
 ghost use Rattle.mot_numbers.specs.Refusal.{number_of};
 
-use crate::tally::Tally;
+use crate::tally::EventClass;
 use mot_numbers::Refusal;
 
 /// One more than the greatest number of a refusal.
@@ -62,21 +62,21 @@ impl Counters {
 
     /// Counts what happened.
     #[inline(always)]
-    pub fn count(&mut self, tally: Tally)
+    pub fn count(&mut self, tally: EventClass)
         ensures { self.new ≡ counted self.old tally }
     {
         match tally {
-            Tally::Change => self.changes = self.changes.saturating_add(1),
-            Tally::Refusal(refusal) => self.count_refusal(refusal),
-            Tally::LineRefusal(refusal) => {
+            EventClass::Change => self.changes = self.changes.saturating_add(1),
+            EventClass::Refusal(refusal) => self.count_refusal(refusal),
+            EventClass::LineRefusal(refusal) => {
                 self.line_refusals = self.line_refusals.saturating_add(1);
                 self.count_refusal(refusal);
             }
-            Tally::Stop(refusal) => self.count_refusal(refusal),
-            Tally::Kept => self.refusals = self.refusals.saturating_add(1),
-            Tally::Going => self.goings = self.goings.saturating_add(1),
-            Tally::Doubt | Tally::News => {}
-            Tally::Look => self.looks = self.looks.saturating_add(1),
+            EventClass::Stop(refusal) => self.count_refusal(refusal),
+            EventClass::Kept => self.refusals = self.refusals.saturating_add(1),
+            EventClass::Going => self.goings = self.goings.saturating_add(1),
+            EventClass::Doubt | EventClass::News => {}
+            EventClass::Look => self.looks = self.looks.saturating_add(1),
         }
     }
 

@@ -15,5 +15,5 @@ mod text;
 pub use counters::Counters;
 pub use log::EventLog;
 pub use status::{Figures, write_status};
-pub use tally::{Level, Tally};
+pub use tally::{EventClass, Level};
 pub use text::{add_met_line, add_name, add_number, add_reason, add_refusal, add_text};

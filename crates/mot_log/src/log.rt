@@ -3,12 +3,12 @@ ghost use Rattle.std.specs.Prelude.{◌≡◌, OnOk, true};
 ghost use Rattle.std.specs.Io.KnownBytes.{Appends};
 ghost use Rattle.mot_log.specs.Counters.{none_counted};
 ghost use Rattle.mot_log.specs.Log.{LeavesOut, Logs, log_view};
-ghost use Rattle.mot_log.specs.Tally.{tally_of};
+ghost use Rattle.mot_log.specs.EventClass.{class_of};
 ghost use Rattle.mot_log.specs.Text.{level_words, line_of};
 ghost use Rattle.mot_events.specs.declared.event.Event.{Event};
 
 use crate::counters::Counters;
-use crate::tally::Tally;
+use crate::tally::EventClass;
 use crate::text::{add, add_text};
 use mot_events::{Event, Tells};
 use std::alloc::{AllocError, Global};
@@ -86,7 +86,7 @@ impl<W: Write + Drop> Tells for EventLog<W> {
             (log_view (W.contents self.new.writer) self.new.is_whole self.new.levels
             self.new.counters) }
     {
-        let tally = Tally::of(event);
+        let tally = EventClass::of(event);
         self.counters.count(tally);
         if tally.has_line() && !self.write_line(event) {
             self.is_whole = false;
@@ -119,11 +119,11 @@ fn set_line(line: &mut Vec<u8>, levels: bool, event: &Event<'_>) -> Result<(), A
 
 /// Makes the line what stands before the text of an event.
 fn begin_line(line: &mut Vec<u8>, levels: bool, event: &Event<'_>) -> Result<(), AllocError>
-    ensures { OnOk result (line.new.items ≡ level_words levels (tally_of event.now)) }
+    ensures { OnOk result (line.new.items ≡ level_words levels (class_of event.now)) }
 {
     line.clear();
     if !levels {
         return Ok(());
     }
-    add(line, Tally::of(event).level().prefix())
+    add(line, EventClass::of(event).level().prefix())
 }

@@ -2,7 +2,7 @@
 ghost use Rattle.std.specs.Prelude.{◌≡◌, [], IfOk, OnOk, bytes_eq, fold, if◌then◌else◌};
 ghost use Rattle.std.specs.List.{list_any};
 ghost use Rattle.mot_log.specs.Shown.{shown_name};
-ghost use Rattle.mot_log.specs.Status.{count_rows, figure_rows, file_sample, is_alike, is_deed};
+ghost use Rattle.mot_log.specs.Status.{count_rows, figure_rows, file_sample, is_alike, is_of_step};
 ghost use Rattle.mot_log.specs.Status.{listed_value, object_sample, refusal_sample, sample_of};
 ghost use Rattle.mot_log.specs.Status.{sample_once, samples_from, status_text, version_sample};
 ghost use Rattle.mot_log.specs.Status.{with_refusals, with_rows};
@@ -10,7 +10,7 @@ ghost use Rattle.mot_log.specs.Status.{with_refusals, with_rows};
 use crate::sample::{add_label, add_row, begin_disk, end_sample};
 use crate::text::add;
 use crate::{Counters, add_name, add_number, add_reason, add_refusal};
-use mot_events::{Deed, LookEvent, Met, Why, is_listed};
+use mot_events::{LookEvent, LookResult, LookStep, Why, is_listed};
 use mot_numbers::Refusal;
 use mot_objects::Object;
 use std::alloc::{AllocError, Global};
@@ -332,7 +332,7 @@ fn add_sample_of(
         ≡ sample_of disk.now text.old.items before.now event.now.name event.now.met) }
 {
     match &event.met {
-        Met::Refused(deed, refusal, why) if !deed.is_look() => {
+        LookResult::Refused(deed, refusal, why) if !deed.is_look() => {
             let name = event.name.as_bytes();
             add_file(text, alloc, disk, before, name, *deed, *refusal, why)
         }
@@ -347,7 +347,7 @@ fn add_file(
     disk: &[u8],
     before: &[LookEvent],
     name: &[u8],
-    deed: Deed,
+    deed: LookStep,
     refusal: Refusal,
     why: &Why,
 ) -> Result<(), AllocError>
@@ -368,13 +368,13 @@ fn add_file(
 fn has_alike(
     alloc: Global,
     events: &[LookEvent],
-    deed: Deed,
+    deed: LookStep,
     shown: &[u8],
 ) -> Result<bool, AllocError>
     ensures { IfOk result (λ has. has ≡ list_any (is_alike deed shown.now) events.now) }
 {
     for event in events {
-        if is_deed(deed, &event.met) && is_shown(alloc, event.name.as_bytes(), shown)? {
+        if is_of_step(deed, &event.met) && is_shown(alloc, event.name.as_bytes(), shown)? {
             return Ok(true);
         }
     }
@@ -382,11 +382,11 @@ fn has_alike(
 }
 
 /// Whether it is a refusal of this deed.
-fn is_deed(deed: Deed, met: &Met) -> bool
-    ensures { result ≡ is_deed deed met.now }
+fn is_of_step(deed: LookStep, met: &LookResult) -> bool
+    ensures { result ≡ is_of_step deed met.now }
 {
     match met {
-        Met::Refused(other, _, _) => deed.word().as_bytes() == other.word().as_bytes(),
+        LookResult::Refused(other, _, _) => deed.word().as_bytes() == other.word().as_bytes(),
         _ => false,
     }
 }
@@ -404,7 +404,7 @@ fn is_shown(alloc: Global, name: &[u8], shown: &[u8]) -> Result<bool, AllocError
 fn add_file_sample(
     text: &mut Vec<u8>,
     disk: &[u8],
-    deed: Deed,
+    deed: LookStep,
     name: &[u8],
     reason: &[u8],
 ) -> Result<(), AllocError>

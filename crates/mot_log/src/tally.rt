@@ -1,10 +1,10 @@
 //! What an event counts as, and the level of its line. Both are functions of what happened: no name
 //! and no text has a part in them.
 ghost use Rattle.std.specs.Prelude.{◌≡◌};
-ghost use Rattle.mot_log.specs.Tally.{has_line, level_of, level_text, tally_of, tally_of_met};
-ghost use Rattle.mot_log.specs.Tally.{tally_of_going, tally_of_reply};
+ghost use Rattle.mot_log.specs.EventClass.{has_line, level_of, level_text, class_of, class_of_result};
+ghost use Rattle.mot_log.specs.EventClass.{class_of_going, class_of_reply};
 
-use mot_events::{Event, Met, Reply};
+use mot_events::{Event, LookResult, Reply};
 use mot_numbers::Refusal;
 
 /// Up to how many objects may go at once, without a warning.
@@ -12,7 +12,7 @@ const FEW: u64 = 3;
 
 /// What an event counts as.
 #[derive(Clone, Copy, PartialEq, Eq)]
-pub enum Tally {
+pub enum EventClass {
     /// A command was done.
     Change,
     /// Something was refused.
@@ -44,18 +44,18 @@ pub enum Level {
     Info,
 }
 
-impl Tally {
+impl EventClass {
     /// The level of the line.
     pub fn level(self) -> Level
         ensures { result ≡ level_of self }
     {
         match self {
-            Tally::Stop(_) => Level::Error,
-            Tally::Refusal(_) => Level::Warning,
-            Tally::LineRefusal(_) => Level::Warning,
-            Tally::Kept => Level::Warning,
-            Tally::Going => Level::Warning,
-            Tally::Doubt => Level::Warning,
+            EventClass::Stop(_) => Level::Error,
+            EventClass::Refusal(_) => Level::Warning,
+            EventClass::LineRefusal(_) => Level::Warning,
+            EventClass::Kept => Level::Warning,
+            EventClass::Going => Level::Warning,
+            EventClass::Doubt => Level::Warning,
             _ => Level::Info,
         }
     }
@@ -65,7 +65,7 @@ impl Tally {
         ensures { result ≡ has_line self }
     {
         match self {
-            Tally::Look => false,
+            EventClass::Look => false,
             _ => true,
         }
     }
@@ -84,55 +84,55 @@ impl Level {
     }
 }
 
-impl Tally {
+impl EventClass {
     /// What an event counts as.
     #[inline(always)]
-    pub fn of(event: &Event<'_>) -> Tally
-        ensures { result ≡ tally_of event.now }
+    pub fn of(event: &Event<'_>) -> EventClass
+        ensures { result ≡ class_of event.now }
     {
         match event {
-            Event::Look(look) => Tally::of_met(&look.met),
-            Event::Looked => Tally::Look,
-            Event::LinesRefused(_, refusal, _) => Tally::LineRefusal(*refusal),
-            Event::Answered(_, _, _, _, reply) => Tally::of_reply(reply),
-            Event::StatusRefused(_, _) => Tally::Refusal(Refusal::WriteFault),
-            Event::Stopped(refusal) => Tally::Stop(*refusal),
-            _ => Tally::News,
+            Event::Look(look) => EventClass::of_met(&look.met),
+            Event::Looked => EventClass::Look,
+            Event::LinesRefused(_, refusal, _) => EventClass::LineRefusal(*refusal),
+            Event::Answered(_, _, _, _, reply) => EventClass::of_reply(reply),
+            Event::StatusRefused(_, _) => EventClass::Refusal(Refusal::WriteFault),
+            Event::Stopped(refusal) => EventClass::Stop(*refusal),
+            _ => EventClass::News,
         }
     }
 
     /// What it counts as that a look met this.
-    fn of_met(met: &Met) -> Tally
-        ensures { result ≡ tally_of_met met.now }
+    fn of_met(met: &LookResult) -> EventClass
+        ensures { result ≡ class_of_result met.now }
     {
         match met {
-            Met::Done(_, _) => Tally::Change,
-            Met::Refused(_, refusal, _) => Tally::Refusal(*refusal),
-            Met::Going(going, _) => tally_of_going(*going),
-            Met::Kept | Met::KeptMost(_, _) => Tally::Kept,
-            Met::OtherImage(_) => Tally::Doubt,
-            _ => Tally::News,
+            LookResult::Done(_, _) => EventClass::Change,
+            LookResult::Refused(_, refusal, _) => EventClass::Refusal(*refusal),
+            LookResult::Going(going, _) => class_of_going(*going),
+            LookResult::Kept | LookResult::KeptMost(_, _) => EventClass::Kept,
+            LookResult::OtherImage(_) => EventClass::Doubt,
+            _ => EventClass::News,
         }
     }
 
     /// What this line of a reply counts as.
-    fn of_reply(reply: &Reply<'_>) -> Tally
-        ensures { result ≡ tally_of_reply reply.now }
+    fn of_reply(reply: &Reply<'_>) -> EventClass
+        ensures { result ≡ class_of_reply reply.now }
     {
         match reply {
-            Reply::Done(_) => Tally::Change,
-            Reply::Refused(refusal, _) => Tally::LineRefusal(*refusal),
-            Reply::Shown(_) => Tally::News,
+            Reply::Done(_) => EventClass::Change,
+            Reply::Refused(refusal, _) => EventClass::LineRefusal(*refusal),
+            Reply::Shown(_) => EventClass::News,
         }
     }
 }
 
 /// What it counts as that more than half of the objects go, which are so many.
-fn tally_of_going(going: u64) -> Tally
-    ensures { result ≡ tally_of_going going }
+fn class_of_going(going: u64) -> EventClass
+    ensures { result ≡ class_of_going going }
 {
     if going > FEW {
-        return Tally::Going;
+        return EventClass::Going;
     }
-    Tally::News
+    EventClass::News
 }

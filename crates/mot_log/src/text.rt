@@ -2,7 +2,7 @@
 ghost use Rattle.std.specs.Prelude.{◌≡◌, ◌++◌, OnOk, map, codes};
 ghost use Rattle.std.specs.Fmt.{decimal};
 ghost use Rattle.mot_log.specs.Shown.{ascii_byte, shown_name};
-ghost use Rattle.mot_log.specs.Text.{deed_words, done_words, met_line, met_text, note_words};
+ghost use Rattle.mot_log.specs.Text.{step_words, done_words, met_line, result_text, note_words};
 ghost use Rattle.mot_log.specs.Text.{image_word, image_words, program_words, some_image_word};
 ghost use Rattle.mot_log.specs.Text.{reason_words, sizes_words, turn_words};
 ghost use Rattle.mot_log.specs.Text.{refusal_words, refused_words, reply_text};
@@ -12,7 +12,7 @@ ghost use Rattle.mot_numbers.specs.declared.refusal.Refusal.TheVariants.{WriteFa
 ghost use Rattle.mot_suffixes.specs.Shown.{shown};
 
 use itoa::Buffer;
-use mot_events::{Deed, Event, LookEvent, Met, Reply, Why};
+use mot_events::{Event, LookEvent, LookResult, LookStep, Reply, Why};
 use mot_lines::Verb;
 use mot_numbers::{Refusal, TransportId};
 use mot_objects::{Done, MAX_BODY};
@@ -56,32 +56,39 @@ pub fn add_met_line(text: &mut Vec<u8>, look: &LookEvent) -> Result<(), AllocErr
 /// Adds what a look met of a name.
 fn add_met(text: &mut Vec<u8>, look: &LookEvent) -> Result<(), AllocError>
     ensures { OnOk result (text.new.items
-        ≡ text.old.items ++ met_text look.now.name look.now.met) }
+        ≡ text.old.items ++ result_text look.now.name look.now.met) }
 {
     let name = look.name.as_bytes();
     match &look.met {
-        Met::Done(deed, done) => add_deed_done(text, *deed, name, *done),
-        Met::Refused(deed, refusal, why) => add_deed_refused(text, *deed, name, *refusal, why),
-        Met::Young => add_around(text, "read ", name, " too young, next look"),
-        Met::Changed => add_around(text, "read ", name, " changed, next look"),
-        Met::Skipped(skip) => {
+        LookResult::Done(deed, done) => add_deed_done(text, *deed, name, *done),
+        LookResult::Refused(deed, refusal, why) => add_deed_refused(
+            text, *deed, name, *refusal, why,
+        ),
+        LookResult::Young => add_around(text, "read ", name, " too young, next look"),
+        LookResult::Changed => add_around(text, "read ", name, " changed, next look"),
+        LookResult::Skipped(skip) => {
             add_around(text, "skip ", name, " ")?;
             add(text, skip.word())
         }
-        Met::Going(unknown, all) => add_going(text, name, *unknown, *all),
-        Met::Gap(gap) => add_gap(text, name, *gap),
-        Met::Waiting(most, files) => add_waiting(text, name, *most, *files),
-        Met::Kept => add_around(text, "look ", name, " empty, kept"),
-        Met::KeptMost(going, all) => add_kept_most(text, name, *going, *all),
-        Met::Listed => add_around(text, "look ", name, " listed"),
-        Met::OtherImage(other) => add_other_image(text, name, *other),
+        LookResult::Going(unknown, all) => add_going(text, name, *unknown, *all),
+        LookResult::Gap(gap) => add_gap(text, name, *gap),
+        LookResult::Waiting(most, files) => add_waiting(text, name, *most, *files),
+        LookResult::Kept => add_around(text, "look ", name, " empty, kept"),
+        LookResult::KeptMost(going, all) => add_kept_most(text, name, *going, *all),
+        LookResult::Listed => add_around(text, "look ", name, " listed"),
+        LookResult::OtherImage(other) => add_other_image(text, name, *other),
     }
 }
 
 /// Adds that a command on a name was done.
-fn add_deed_done(text: &mut Vec<u8>, deed: Deed, name: &[u8], done: Done) -> Result<(), AllocError>
+fn add_deed_done(
+    text: &mut Vec<u8>,
+    deed: LookStep,
+    name: &[u8],
+    done: Done,
+) -> Result<(), AllocError>
     ensures { OnOk result (text.new.items
-        ≡ text.old.items ++ (deed_words deed name.now ++ done_words done)) }
+        ≡ text.old.items ++ (step_words deed name.now ++ done_words done)) }
 {
     add_deed(text, deed, name)?;
     add_done(text, done)
@@ -90,13 +97,13 @@ fn add_deed_done(text: &mut Vec<u8>, deed: Deed, name: &[u8], done: Done) -> Res
 /// Adds that a command on a name was refused.
 fn add_deed_refused(
     text: &mut Vec<u8>,
-    deed: Deed,
+    deed: LookStep,
     name: &[u8],
     refusal: Refusal,
     why: &Why,
 ) -> Result<(), AllocError>
     ensures { OnOk result (text.new.items
-        ≡ text.old.items ++ (deed_words deed name.now ++ refused_words refusal why.now)) }
+        ≡ text.old.items ++ (step_words deed name.now ++ refused_words refusal why.now)) }
 {
     add_deed(text, deed, name)?;
     add_refused(text, refusal, why)
@@ -338,8 +345,8 @@ fn add_status_refused(text: &mut Vec<u8>, path: &[u8], reason: &[u8]) -> Result<
 }
 
 /// Adds what was done to a name.
-fn add_deed(text: &mut Vec<u8>, deed: Deed, name: &[u8]) -> Result<(), AllocError>
-    ensures { OnOk result (text.new.items ≡ text.old.items ++ deed_words deed name.now) }
+fn add_deed(text: &mut Vec<u8>, deed: LookStep, name: &[u8]) -> Result<(), AllocError>
+    ensures { OnOk result (text.new.items ≡ text.old.items ++ step_words deed name.now) }
 {
     add(text, deed.word())?;
     add_around(text, " ", name, " ")

@@ -7,7 +7,7 @@ use crate::faults::{absent, by_number, no_memory, refused};
 use crate::node::{Held, Node, Open};
 use crate::reached::Reach;
 use crate::world::World;
-use mot_files::{Fault, Handle, How, Kind, Seen, Time};
+use mot_files::{Fault, FileStat, Handle, How, Kind, Time};
 use std::alloc::AllocError;
 use std::io::ErrorKind;
 
@@ -21,7 +21,12 @@ impl World {
     }
 
     /// What the path names, or the end of a link there if it `follows`.
-    pub(crate) fn look(&mut self, call: Call, path: &str, follows: bool) -> Result<Seen, Fault> {
+    pub(crate) fn look(
+        &mut self,
+        call: Call,
+        path: &str,
+        follows: bool,
+    ) -> Result<FileStat, Fault> {
         self.begin(call, path)?;
         let mut place = self.place(path)?;
         if follows {
@@ -148,7 +153,7 @@ impl World {
     }
 
     /// What the handle stands for.
-    pub(crate) fn look_at(&mut self, handle: Handle) -> Result<Seen, Fault> {
+    pub(crate) fn look_at(&mut self, handle: Handle) -> Result<FileStat, Fault> {
         self.begin(Call::LookAt, "")?;
         let held = self.held(handle.slot as usize)?;
         self.seen(held.place).ok_or(absent())

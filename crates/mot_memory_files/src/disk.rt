@@ -4,7 +4,7 @@ use crate::call::Call;
 use crate::faults::{absent, refused};
 use crate::node::{Held, Open};
 use crate::world::World;
-use disk_store::Facts;
+use disk_store::DiskFileStat;
 use mot_files::{Fault, Kind};
 use std::alloc::AllocError;
 use std::fs::TryLockError;
@@ -43,7 +43,7 @@ impl World {
     }
 
     /// What it is.
-    pub(crate) fn disk_facts(&mut self, slot: usize) -> io::Result<Facts> {
+    pub(crate) fn disk_facts(&mut self, slot: usize) -> io::Result<DiskFileStat> {
         let place = self.disk_place(Call::DiskFacts, slot)?;
         match self.facts_of(place) {
             Some(facts) => Ok(facts),
@@ -51,9 +51,9 @@ impl World {
         }
     }
 
-    fn facts_of(&self, place: usize) -> Option<Facts> {
+    fn facts_of(&self, place: usize) -> Option<DiskFileStat> {
         match self.nodes.get(place) {
-            Some(node) => Some(Facts {
+            Some(node) => Some(DiskFileStat {
                 is_file: node.kind == Kind::File,
                 is_block_device: false,
                 names: self.count_names(place),
@@ -223,7 +223,7 @@ impl World {
     }
 
     /// What the path names; a link is not followed.
-    pub(crate) fn facts_at(&mut self, path: &str) -> Result<Facts, Fault> {
+    pub(crate) fn facts_at(&mut self, path: &str) -> Result<DiskFileStat, Fault> {
         self.begin(Call::FactsAt, path)?;
         let place = self.place(path)?;
         self.facts_of(place).ok_or(absent())

@@ -25,6 +25,6 @@ pub use call::{CALLS, Call};
 pub use machine::{MachineFile, MachineStart, MemoryMachine};
 pub use node::{Node, Removed, Version};
 pub use plan::Plan;
-pub use reached::{Reach, Reached, add_reached, times_failed};
+pub use reached::{Reach, ReachCount, add_reached, times_failed};
 pub use system::MachineSystem;
 pub use world::World;

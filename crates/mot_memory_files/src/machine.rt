@@ -5,7 +5,7 @@ ghost use Rattle.std.proofs.lemmas.List.Elements.{All-nil};
 use crate::call::Call;
 use crate::disk::gone;
 use crate::world::World;
-use disk_store::{DiskFile, DiskFiles, Facts, Start};
+use disk_store::{DiskFile, DiskFileStat, DiskFiles, Start};
 use mot_files::Fault;
 use std::alloc::Global;
 use std::cell::RefCell;
@@ -91,7 +91,7 @@ impl<'a> DiskFile for MachineFile<'a> {
         }
     }
 
-    fn facts(&self) -> io::Result<Facts> {
+    fn facts(&self) -> io::Result<DiskFileStat> {
         match self.world.try_borrow_mut() {
             Ok(mut w) => w.disk_facts(self.slot),
             Err(_) => Err(gone()),
@@ -173,7 +173,7 @@ impl<'a> DiskFiles for MemoryMachine<'a> {
         Ok(String::from_str(self.alloc, path)?)
     }
 
-    fn facts_at(&self, path: &str) -> io::Result<Facts> {
+    fn facts_at(&self, path: &str) -> io::Result<DiskFileStat> {
         match self.world.try_borrow_mut() {
             Ok(mut w) => in_io(w.facts_at(path)),
             Err(_) => Err(gone()),

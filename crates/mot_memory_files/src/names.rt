@@ -1,7 +1,7 @@
 //! What the paths of the machine name.
 use crate::node::{Entry, Node, Open, Version};
 use crate::world::World;
-use mot_files::{Kind, Seen, Time};
+use mot_files::{FileStat, Kind, Time};
 use std::alloc::AllocError;
 
 impl World {
@@ -82,7 +82,7 @@ impl World {
     }
 
     /// What the system says of the node at this place.
-    pub(crate) fn seen(&self, place: usize) -> Option<Seen> {
+    pub(crate) fn seen(&self, place: usize) -> Option<FileStat> {
         match self.nodes.get(place) {
             Some(node) => Some(seen_of(node)),
             None => None,
@@ -209,8 +209,8 @@ impl World {
 }
 
 /// What the system says of it.
-fn seen_of(node: &Node) -> Seen {
-    Seen {
+fn seen_of(node: &Node) -> FileStat {
+    FileStat {
         kind: node.kind,
         device: 1,
         number: node.number,

@@ -32,14 +32,14 @@ pub enum Reach {
 
 /// How often it was.
 #[derive(Clone, Copy)]
-pub struct Reached {
+pub struct ReachCount {
     /// What.
     pub what: Reach,
     /// How often.
     pub times: u64,
 }
 
-impl Display for Reached {
+impl Display for ReachCount {
     fn fmt<W: fmt::Write>(&self, f: &mut Formatter<W>) -> fmt::Result {
         let times = self.times;
         match self.what {
@@ -59,7 +59,7 @@ impl Display for Reached {
 }
 
 /// Adds these to the sum over several machines.
-pub fn add_reached(sum: &mut Vec<Reached>, more: &[Reached]) -> Result<(), AllocError> {
+pub fn add_reached(sum: &mut Vec<ReachCount>, more: &[ReachCount]) -> Result<(), AllocError> {
     for reached in more {
         add_times(sum, reached.what, reached.times)?;
     }
@@ -67,7 +67,7 @@ pub fn add_reached(sum: &mut Vec<Reached>, more: &[Reached]) -> Result<(), Alloc
 }
 
 /// How often this call failed by the plan.
-pub fn times_failed(sum: &[Reached], call: Call) -> u64 {
+pub fn times_failed(sum: &[ReachCount], call: Call) -> u64 {
     let mut times = 0u64;
     for reached in sum {
         if is_failed(reached.what, call) {
@@ -86,18 +86,22 @@ fn is_failed(what: Reach, call: Call) -> bool {
 }
 
 /// Adds so many times.
-pub(crate) fn add_times(sum: &mut Vec<Reached>, what: Reach, times: u64) -> Result<(), AllocError> {
+pub(crate) fn add_times(
+    sum: &mut Vec<ReachCount>,
+    what: Reach,
+    times: u64,
+) -> Result<(), AllocError> {
     if let Some(at) = place_of(sum.as_slice(), what) {
         if let Some(reached) = sum.get_mut(at) {
             reached.times = reached.times.wrapping_add(times);
         }
         return Ok(());
     }
-    sum.push(Reached { what, times })?;
+    sum.push(ReachCount { what, times })?;
     Ok(())
 }
 
-fn place_of(sum: &[Reached], what: Reach) -> Option<usize> {
+fn place_of(sum: &[ReachCount], what: Reach) -> Option<usize> {
     for (at, reached) in sum.iter().enumerate() {
         if reached.what == what {
             return Some(at);

@@ -5,7 +5,7 @@ ghost use Rattle.mot_memory_files.specs.System.{calls_of};
 use crate::call::Call;
 use crate::faults::no_memory;
 use crate::world::World;
-use mot_files::{CallLog, Event, Fault, Handle, How, Seen, System, Time};
+use mot_files::{CallLog, Event, Fault, FileStat, Handle, How, System, Time};
 use std::cell::RefCell;
 
 /// The files of the machine, of which every part of the program may have its own.
@@ -29,7 +29,12 @@ impl<'a> MachineSystem<'a> {
 
 // What the world answers; one that is in use is not there.
 
-fn look_in(world: &RefCell<World>, call: Call, path: &str, follows: bool) -> Result<Seen, Fault> {
+fn look_in(
+    world: &RefCell<World>,
+    call: Call,
+    path: &str,
+    follows: bool,
+) -> Result<FileStat, Fault> {
     match world.try_borrow_mut() {
         Ok(mut w) => w.look(call, path, follows),
         Err(_) => Err(no_memory()),
@@ -52,7 +57,7 @@ fn open_in(world: &RefCell<World>, path: &str, how: How) -> Result<Handle, Fault
     }
 }
 
-fn look_at_in(world: &RefCell<World>, handle: Handle) -> Result<Seen, Fault> {
+fn look_at_in(world: &RefCell<World>, handle: Handle) -> Result<FileStat, Fault> {
     match world.try_borrow_mut() {
         Ok(mut w) => w.look_at(handle),
         Err(_) => Err(no_memory()),
@@ -137,14 +142,14 @@ fn close_in(world: &RefCell<World>, handle: Handle) {
 impl<'a> System for MachineSystem<'a> {
     ghost calls = { calls_of };
 
-    fn look(&mut self, path: &str) -> Result<Seen, Fault> {
+    fn look(&mut self, path: &str) -> Result<FileStat, Fault> {
         let answer = look_in(self.world, Call::Look, path, false);
         self.calls
             .note(&Event::Looked(answer), path.as_bytes(), &[]);
         answer
     }
 
-    fn follow(&mut self, path: &str) -> Result<Seen, Fault> {
+    fn follow(&mut self, path: &str) -> Result<FileStat, Fault> {
         let answer = look_in(self.world, Call::Follow, path, true);
         self.calls
             .note(&Event::Followed(answer), path.as_bytes(), &[]);
@@ -165,7 +170,7 @@ impl<'a> System for MachineSystem<'a> {
         answer
     }
 
-    fn look_at(&mut self, handle: Handle) -> Result<Seen, Fault> {
+    fn look_at(&mut self, handle: Handle) -> Result<FileStat, Fault> {
         let answer = look_at_in(self.world, handle);
         self.calls.note(&Event::LookedAt(handle, answer), &[], &[]);
         answer

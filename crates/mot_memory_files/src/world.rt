@@ -3,7 +3,7 @@ use crate::call::Call;
 use crate::chance::Chance;
 use crate::node::{Entry, Node, Open, Removed, Version};
 use crate::plan::Plan;
-use crate::reached::{Reach, Reached, add_times, times_failed};
+use crate::reached::{Reach, ReachCount, add_times, times_failed};
 use std::alloc::{AllocError, Global};
 
 /// The time of day at first, in nanoseconds.
@@ -28,7 +28,7 @@ pub struct World {
     /// How many failed by the plan.
     pub failed: u64,
     /// How often what was reached.
-    pub reached: Vec<Reached>,
+    pub reached: Vec<ReachCount>,
     pub(crate) nodes: Vec<Node>,
     pub(crate) entries: Vec<Entry>,
     /// The names that were synced last.

@@ -1,16 +1,18 @@
 -- What a run of the program comes to, whatever its tasks are.
 use Rattle.std.specs.declared.io.Error.{Error}
 use Rattle.std.specs.Prelude.{ℕ, ◌≡◌, ◌++◌, ◌∷◌, [], Bool, true, List, Option, Some, None}
-use Rattle.std.specs.Prelude.{◌⊎◌, Err, IsErrAnd, IsSomeAnd, Ok, Result, false, option_map}
+use Rattle.std.specs.Prelude.{◌⊎◌, Err, IsErrAnd, IsSomeAnd, IsTrue, Ok, Result, false, option_map}
 use Rattle.std.specs.Fmt.{decimal}
 use Rattle.std.specs.Io.KnownBytes.{Appends, Keeps}
 use Rattle.std.specs.Result.{result_unwrap_or}
 use Rattle.clap.specs.Words.{Row, Text}
 use Rattle.disk_store.specs.declared.file.start.Start.{Ghosts}
 use Rattle.disk_store.specs.declared.file.FileDiskFrom.{FileDiskFrom}
+use Rattle.mot_endpoints.specs.Copies.{IsReadAlike, TriesReads}
 use Rattle.mot_endpoints.specs.Opened.{AreMet, BeginsTo, Need, is_fault}
 use Rattle.mot_files.specs.Call.{Call, opened_disk}
 use Rattle.disk_store.specs.File.{fault_on}
+use Rattle.disk_store.specs.Ram.{ram_state}
 use Rattle.disk_store.specs.Second.{second_fault}
 use Rattle.disk_store.specs.declared.file.fault.OpenFault.TheVariants.{System}
 use Rattle.mot_endpoints.specs.declared.fault.Cause.{Cause}
@@ -20,8 +22,8 @@ use Rattle.mot_numbers.specs.declared.refusal.Refusal.{Refusal}
 use Rattle.mot_numbers.specs.declared.refusal.Refusal.TheVariants.{DeviceFault, OutOfMemory}
 use Rattle.mot_numbers.specs.declared.refusal.Refusal.TheVariants.{WriteFault}
 use Rattle.mot_outcome.specs.declared.exit.Exit.{Exit}
-use Rattle.mot_outcome.specs.declared.used.Beside.{Beside}
-use Rattle.mot_outcome.specs.declared.used.Finished.{Finished}
+use Rattle.mot_outcome.specs.declared.used.TaskCalls.{TaskCalls}
+use Rattle.mot_outcome.specs.declared.used.TaskEnd.{TaskEnd}
 use Rattle.mot_outcome.specs.declared.used.UsedDisk.{UsedDisk}
 use Rattle.mot_outcome.specs.declared.used.UsedDisk.TheVariants.{InMemory, OfCopy, OfFile, Untouched}
 use Rattle.mot_playout.specs.Attempts.{fault_of}
@@ -60,7 +62,7 @@ module _ {S F : Type 0} {start : Ghosts S F} where
   fault_in used = None
 
   -- a file was opened or made: its disk, and what was done beside it, have this fact
-  abbrev pub OnFile : (FileDiskFrom S F start → Beside → Type 0) → UsedDisk S F start → Type 0
+  abbrev pub OnFile : (FileDiskFrom S F start → TaskCalls → Type 0) → UsedDisk S F start → Type 0
   OnFile P (OfFile disk beside) = P disk beside
   OnFile P used = ⊥
 
@@ -71,7 +73,7 @@ module _ {S F : Type 0} {start : Ghosts S F} where
 
   -- A command was not begun, for such a refusal, and nothing was printed; or it was, and ended so.
   abbrev pub Finishes : (IsEarly : Refusal → Type 0)
-      → (IsEnded : Option Refusal → UsedDisk S F start → Type 0) → Finished S Unit F start
+      → (IsEnded : Option Refusal → UsedDisk S F start → Type 0) → TaskEnd S Unit F start
       → (old new : Option (List ℕ)) → Type 0
   Finishes IsEarly IsEnded finished old new =
       IsErrAnd finished.result (λ refusal. IsEarly refusal × IsUntold finished.disk old new)
@@ -101,6 +103,18 @@ module _ {S F : Type 0} {start : Ghosts S F} where
   abbrev pub Opens : List Need → Text → (ending : Option Refusal) → UsedDisk S F start
       → (old new : List Call) → Type 0
   Opens needs path = OpensAnd needs path (λ opened now. now ≡ opened)
+
+  -- The same. But where the disk could not be opened, a command that looks tried to read its file; and
+  -- if a disk in memory is handed out, two reads gave the bytes that this has.
+  abbrev pub OpensOrReads : (looks : Bool) → List Need → Text → (ending : Option Refusal)
+      → UsedDisk S F start → (old new : List Call) → Type 0
+  OpensOrReads looks needs path ending (Untouched value) old new = IsSomeAnd ending (λ refusal.
+      BeginsTo needs refusal old new ⊎ ((refusal ≡ DeviceFault) × ((then : List Call)
+      × AreMet needs old then × TriesReads looks path (then ++ opened_disk path false ∷ []) new)))
+  OpensOrReads looks needs path ending (InMemory copy value) old new =
+      IsTrue looks × ((then : List Call) × AreMet needs old then
+      × IsReadAlike path (ram_state copy).bytes (then ++ opened_disk path false ∷ []) new)
+  OpensOrReads looks needs path ending used old new = Opens needs path ending used old new
 
 -- Which calls a host made in a run that ended so: none, or those of the task that the words ask for, as
 -- OfTask says of it. Where none was, the refusal is that of no file, or help was asked for. Which

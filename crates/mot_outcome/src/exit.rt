@@ -12,7 +12,7 @@ use crate::used::UsedDisk;
 use clap::Error;
 use clap::error::ErrorKind;
 use disk_store::Start;
-use mot_log::Tally;
+use mot_log::EventClass;
 use mot_numbers::Refusal;
 use std::alloc::Global;
 use std::io::Write;
@@ -105,7 +105,7 @@ fn level_of(levels: bool, refusal: Refusal) -> &'static str
     ensures { result.now ≡ (if levels then codes "<3>" else []) }
 {
     if levels {
-        Tally::Stop(refusal).level().prefix()
+        EventClass::Stop(refusal).level().prefix()
     } else {
         ""
     }

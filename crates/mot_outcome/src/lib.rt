@@ -13,4 +13,4 @@ pub use exit::{Exit, explain, refuse};
 pub use printing::{write_bytes, write_last, write_number};
 pub use subject::{Subject, subject_of, tell};
 pub use unfit::{clear_after, clear_unfit};
-pub use used::{Beside, Finished, UsedDisk};
+pub use used::{TaskCalls, TaskEnd, UsedDisk};

@@ -188,6 +188,9 @@ fn hint_of(cause: Cause) -> &'static str {
 /// What to do about a copy that was not made.
 fn hint_of_new(fault: NewDiskFault) -> &'static str {
     match fault {
+        NewDiskFault::Disk(OpenFault::InUse) => {
+            "; choose another name than the old disk's, or end that program first"
+        }
         NewDiskFault::Disk(fault) => hint_of_fault(fault),
         NewDiskFault::Device(found) => hint_of_use(found),
         NewDiskFault::Objects { .. } => "; give more as --objects",
@@ -200,7 +203,9 @@ fn hint_of_fault(fault: OpenFault) -> &'static str {
     match fault {
         OpenFault::Beside(error) if error.raw_os_error().is_none() => "; move it away",
         OpenFault::System(error) | OpenFault::Beside(error) => hint_of_kind(error.kind()),
-        OpenFault::InUse => "; end that program first",
+        OpenFault::InUse => {
+            "; if that plays it, its folder or its lines change it; else end it first"
+        }
         OpenFault::NoDisk => "; check the path",
         OpenFault::SecondName => "; remove the other name",
     }

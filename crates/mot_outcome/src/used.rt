@@ -2,9 +2,9 @@
 ghost use Rattle.std.specs.Prelude.{◌≡◌, Err, None, Some};
 ghost use Rattle.mot_endpoints.specs.declared.fault.Cause.TheVariants.{Disk};
 ghost use Rattle.mot_numbers.specs.declared.refusal.Refusal.TheVariants.{DeviceFault};
-ghost use Rattle.mot_outcome.specs.declared.used.UsedDisk.TheVariants.{OfFile, Untouched};
+ghost use Rattle.mot_outcome.specs.declared.used.UsedDisk.TheVariants.{InMemory, OfFile, Untouched};
 
-use disk_store::{Beginning, BegunFile, FileDiskFrom, RamDisk, SecondDisk, Start, Unopened};
+use disk_store::{Beginning, BegunFile, FailedOpening, FileDiskFrom, RamDisk, SecondDisk, Start};
 use mot_endpoints::{Cause, NewDiskFault};
 use mot_files::CallLog;
 use mot_journal::Reason;
@@ -17,10 +17,10 @@ use mot_update::Ended;
 pub enum UsedDisk<S: Start> {
     /// No file was opened or made.
     Untouched(S),
-    /// A disk in memory was served, and no file opened or made.
+    /// This disk in memory, and no file was opened or made as a disk.
     InMemory(RamDisk, S),
     /// The disk of the file that was opened or made, and what was done beside it.
-    OfFile(FileDiskFrom<S>, Beside),
+    OfFile(FileDiskFrom<S>, TaskCalls),
     /// The disk of the file that was opened to be copied, and that of the file that was opened or
     /// made to be its copy, if one was.
     OfCopy(FileDiskFrom<S>, Option<SecondDisk<S>>),
@@ -59,7 +59,7 @@ impl<S: Start> UsedDisk<S> {
 
 /// The calls on files that a task made beside its disk, by what they were for. Only clauses read them.
 #[derive(Drop)]
-pub struct Beside {
+pub struct TaskCalls {
     /// Those on the folder of objects.
     pub folder: CallLog,
     /// Those on what takes the packets.
@@ -68,17 +68,17 @@ pub struct Beside {
     pub lines: CallLog,
 }
 
-impl Beside {
+impl TaskCalls {
     /// None.
-    pub fn nothing() -> Beside {
-        Beside::folder(CallLog::new())
+    pub fn nothing() -> TaskCalls {
+        TaskCalls::folder(CallLog::new())
     }
 
     /// These on the folder of objects, and no others.
-    pub fn folder(folder: CallLog) -> Beside
+    pub fn folder(folder: CallLog) -> TaskCalls
         ensures { result.folder ≡ folder }
     {
-        Beside {
+        TaskCalls {
             folder,
             packets: CallLog::new(),
             lines: CallLog::new(),
@@ -88,7 +88,7 @@ impl Beside {
 
 /// What a task came to, and the disk after it.
 #[derive(Drop)]
-pub struct Finished<S: Start, T> {
+pub struct TaskEnd<S: Start, T> {
     /// What it came to.
     pub result: Result<T, Refusal>,
     /// The disk that it worked on.
@@ -99,7 +99,7 @@ pub struct Finished<S: Start, T> {
     pub reason: Option<Reason>,
 }
 
-impl<S: Start, T> Finished<S, T> {
+impl<S: Start, T> TaskEnd<S, T> {
     /// Refused before a disk's file was opened or made.
     pub fn unbegun(refusal: Refusal, cause: Option<Cause>, start: S) -> Self
         ensures { result ≡ record {
@@ -109,7 +109,7 @@ impl<S: Start, T> Finished<S, T> {
           reason = None;
         } }
     {
-        Finished {
+        TaskEnd {
             result: Err(refusal),
             disk: UsedDisk::Untouched(start),
             cause,
@@ -118,7 +118,7 @@ impl<S: Start, T> Finished<S, T> {
     }
 
     /// The disk's file was not opened or made.
-    pub fn unopened(unopened: Unopened<S>) -> Self
+    pub fn unopened(unopened: FailedOpening<S>) -> Self
         ensures { result ≡ record {
           result = Err DeviceFault;
           disk = Untouched unopened.start;
@@ -127,13 +127,30 @@ impl<S: Start, T> Finished<S, T> {
         } }
     {
         let cause = Cause::Disk(unopened.fault);
-        Finished::unbegun(Refusal::DeviceFault, Some(cause), unopened.start)
+        TaskEnd::unbegun(Refusal::DeviceFault, Some(cause), unopened.start)
+    }
+
+    /// On a disk in memory.
+    pub fn in_memory(ended: Ended<RamDisk, T>, cause: Option<Cause>, start: S) -> Self
+        ensures { result ≡ record {
+          result = ended.result;
+          disk = InMemory ended.disk start;
+          cause = cause;
+          reason = ended.reason;
+        } }
+    {
+        TaskEnd {
+            result: ended.result,
+            disk: UsedDisk::InMemory(ended.disk, start),
+            cause,
+            reason: ended.reason,
+        }
     }
 
     /// On the disk of a file that was opened or made.
     pub fn of_file<K: Beginning>(
         ended: Ended<BegunFile<S, K>, T>,
-        beside: Beside,
+        beside: TaskCalls,
         cause: Option<Cause>,
     ) -> Self
         ensures { result ≡ record {
@@ -143,7 +160,7 @@ impl<S: Start, T> Finished<S, T> {
           reason = ended.reason;
         } }
     {
-        Finished {
+        TaskEnd {
             result: ended.result,
             disk: UsedDisk::OfFile(ended.disk.disk, beside),
             cause,

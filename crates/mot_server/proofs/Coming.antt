@@ -13,7 +13,7 @@ use Rattle.mot_cli.specs.Task.{IsTask}
 use Rattle.mot_cli.specs.declared.task.Task.{Task}
 use Rattle.mot_files.specs.Call.{Call}
 use Rattle.mot_numbers.specs.declared.refusal.Refusal.{Refusal}
-use Rattle.mot_outcome.specs.Outcome.{IsUntold, Opens, status_of}
+use Rattle.mot_outcome.specs.Outcome.{IsUntold, OpensOrReads, status_of}
 use Rattle.mot_outcome.specs.Outcome.ComesTo.{begun, unbegun}
 use Rattle.mot_outcome.specs.declared.exit.Exit.{Exit}
 use Rattle.mot_outcome.specs.declared.used.UsedDisk.{UsedDisk}
@@ -27,12 +27,12 @@ fault_whole (Ok done) = refl
 fault_whole (Err refusal) = refl
 
 -- and so it opened the same
-pub opens_whole : {S F : Type 0} {start : Ghosts S F} (result : Result Unit Refusal) (path : Text)
-    (used : UsedDisk S F start) (before after : List Call)
-    → Opens [] path (fault_of result) used before after
-    → Opens [] path (fault_of (whole_result result)) used before after
-opens_whole (Ok done) path used before after opens = opens
-opens_whole (Err refusal) path used before after opens = opens
+pub opens_whole : {S F : Type 0} {start : Ghosts S F} (result : Result Unit Refusal) (looks : Bool)
+    (path : Text) (used : UsedDisk S F start) (before after : List Call)
+    → OpensOrReads looks [] path (fault_of result) used before after
+    → OpensOrReads looks [] path (fault_of (whole_result result)) used before after
+opens_whole (Ok done) looks path used before after opens = opens
+opens_whole (Err refusal) looks path used before after opens = opens
 
 module _ {S F : Type 0} {start : Ghosts S F} (task : Task) (unread left old new : Option (List ℕ)) where
   -- a command that is done whole if no refusal ends it

@@ -13,7 +13,7 @@ use Rattle.mot_cli.specs.declared.task.Task.TheVariants.{Memory, Format, Copy, P
 use Rattle.mot_cli.specs.declared.task.Task.TheVariants.{Health}
 use Rattle.mot_cli.specs.declared.task.Task.TheVariants.{PutFiles, WithdrawNames, OnDisk}
 use Rattle.mot_commands.specs.Commands.{DoesOnFile, FormatsFile, FormatsFree, IsUnformatted}
-use Rattle.mot_commands.specs.Commands.{IsUnmade, ServesMemory}
+use Rattle.mot_commands.specs.Commands.{IsUnmade, ServesMemory, only_looks}
 use Rattle.mot_commands.specs.Changing.{PutReads, PutsFiles, WithdrawsFile, texts}
 use Rattle.mot_commands.specs.Health.{AsksHealth, TellsHealth}
 use Rattle.mot_copy_command.specs.Command.{CopiesFile, OpensTwo}
@@ -23,7 +23,7 @@ use Rattle.mot_files.specs.Call.{Call}
 use Rattle.mot_numbers.specs.declared.refusal.Refusal.{Refusal}
 use Rattle.mot_numbers.specs.declared.refusal.Refusal.TheVariants.{BadNumber, DeviceFault}
 use Rattle.mot_numbers.specs.declared.refusal.Refusal.TheVariants.{OutOfMemory}
-use Rattle.mot_outcome.specs.Outcome.{ComesTo, Opens, OpensAnd, UsesFiles}
+use Rattle.mot_outcome.specs.Outcome.{ComesTo, Opens, OpensAnd, OpensOrReads, UsesFiles}
 use Rattle.mot_outcome.specs.declared.exit.Exit.{Exit}
 use Rattle.mot_outcome.specs.declared.used.UsedDisk.{UsedDisk}
 
@@ -82,14 +82,15 @@ module _ {S F : Type 0} {start : Ghosts S F} where
       OpensTwo ending copy.disk.now copy.new.now used old new
   UsesFor status ending (Play p) used old new = Opens (needs_of p) p.disk.now ending used old new
   UsesFor status ending (Sync sync) used old new =
-      Opens (synced_with sync) sync.disk.now ending used old new
+      OpensOrReads sync.dry_run (synced_with sync) sync.disk.now ending used old new
   UsesFor status ending (Health h) used old new = AsksHealth h status ending old new
   UsesFor status ending (PutFiles path files types) used old new =
       OpensAnd (if_given Need.types types) path.now (PutReads types (texts files.now) used) ending
       used old new
   UsesFor status ending (WithdrawNames path names) used old new =
       Opens [] path.now ending used old new
-  UsesFor status ending (OnDisk disk work) used old new = Opens [] disk.now ending used old new
+  UsesFor status ending (OnDisk disk work) used old new =
+      OpensOrReads (only_looks work) [] disk.now ending used old new
 
   -- What a run of these words came to, whatever they ask for: the task was done, or ended by a
   -- refusal, or not begun; or they ask for help, or for nothing.

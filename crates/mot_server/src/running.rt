@@ -11,7 +11,7 @@ use mot_cli::Task;
 use mot_commands::{format_file, put, serve_memory, tell_health, withdraw_file, work_on_file};
 use mot_copy_command::copy_file;
 use mot_endpoints::{Host, Machine};
-use mot_outcome::Finished;
+use mot_outcome::TaskEnd;
 use mot_sync_command::sync;
 use std::alloc::Global;
 use std::io::{Read, Write};
@@ -25,7 +25,7 @@ pub(crate) fn execute<'a, B: Start, R: Read, W: Write, E: Write, M: Machine<File
     reader: &mut R,
     writer: &mut W,
     errors: &mut E,
-) -> Finished<B, bool>
+) -> TaskEnd<B, bool>
     ensures ended { ComesOut task.now result.result result.disk
         (R.remaining reader.old) (R.remaining reader.new)
         (W.contents writer.old) (W.contents writer.new) }
@@ -56,7 +56,7 @@ pub(crate) fn execute<'a, B: Start, R: Read, W: Write, E: Write, M: Machine<File
 }
 
 /// What a task came to that, if no refusal ended it, is done whole.
-fn whole<B: Start>(finished: Finished<B, ()>) -> Finished<B, bool>
+fn whole<B: Start>(finished: TaskEnd<B, ()>) -> TaskEnd<B, bool>
     ensures { result ≡ record {
       result = whole_result finished.result;
       disk = finished.disk;
@@ -64,7 +64,7 @@ fn whole<B: Start>(finished: Finished<B, ()>) -> Finished<B, bool>
       reason = finished.reason;
     } }
 {
-    Finished {
+    TaskEnd {
         result: match finished.result {
             Ok(()) => Ok(true),
             Err(refusal) => Err(refusal),

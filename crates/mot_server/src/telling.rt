@@ -12,7 +12,7 @@ use disk_store::{OpenFault, Start};
 use mot_cli::{NoTask, has_levels};
 use mot_endpoints::Cause;
 use mot_numbers::Refusal;
-use mot_outcome::{Exit, Finished, UsedDisk, refuse, subject_of, tell};
+use mot_outcome::{Exit, TaskEnd, UsedDisk, refuse, subject_of, tell};
 use std::io::Write;
 
 /// Prints why words ask for no task: the option is missing of which another one says more, or a
@@ -52,7 +52,7 @@ fn tell_missing<E: Write>(errors: &mut E, option: &str) {
 pub(crate) fn conclude<B: Start, E: Write>(
     errors: &mut E,
     words: &ArgMatches<'_>,
-    finished: Finished<B, bool>,
+    finished: TaskEnd<B, bool>,
 ) -> Exit<B>
     ensures { result ≡ record {
       status = status_of (result_unwrap_or finished.result false) (fault_of finished.result);

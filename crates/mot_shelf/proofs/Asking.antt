@@ -6,7 +6,7 @@ use Rattle.std.specs.Str.{is_utf8}
 use Rattle.std.proofs.lemmas.Str.{IsUtf8-from_is_utf8}
 use Rattle.mot_files.specs.Call.{Call, looked}
 use Rattle.mot_files.specs.declared.system.Fault.{Fault}
-use Rattle.mot_files.specs.declared.system.Seen.{Seen}
+use Rattle.mot_files.specs.declared.system.FileStat.{FileStat}
 use Rattle.mot_shelf.specs.Calls.{HasNoPath}
 use Rattle.mot_shelf.specs.Inner.Paths.{IsWithoutPath}
 use Rattle.mot_shelf.specs.declared.path.NoPath.{NoPath}
@@ -35,7 +35,7 @@ no_path path name NoText is = inl is
 no_path path name TooLong is = inr is.1
 
 -- a call by one path is one by the same path
-pub looked_by : (place path : List ℕ) (answer : Result Seen Fault) (old new : List Call)
+pub looked_by : (place path : List ℕ) (answer : Result FileStat Fault) (old new : List Call)
     → place ≡ path → new ≡ old ++ looked place answer ∷ [] → new ≡ old ++ looked path answer ∷ []
 looked_by place path answer old new same calls =
     calls ∙ ap (λ p. old ++ looked p answer ∷ []) same

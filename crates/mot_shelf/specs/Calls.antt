@@ -7,11 +7,11 @@ use Rattle.mot_files.specs.Call.{Call, closed, failed_read, looked, opened, read
 use Rattle.mot_files.specs.Lasting.{MakesLast, SyncsPath}
 use Rattle.mot_files.specs.Listing.{file_of, path_in}
 use Rattle.mot_files.specs.Stamping.{HasStamp, IsReadStamped, IsUnreadStamped}
-use Rattle.mot_files.specs.declared.reading.Unread.{Unread}
+use Rattle.mot_files.specs.declared.reading.ReadFailure.{ReadFailure}
 use Rattle.mot_files.specs.declared.system.Fault.{Fault}
 use Rattle.mot_files.specs.declared.system.Handle.{Handle}
 use Rattle.mot_files.specs.declared.system.How.TheVariants as How
-use Rattle.mot_files.specs.declared.system.Seen.{Seen}
+use Rattle.mot_files.specs.declared.system.FileStat.{FileStat}
 use Rattle.mot_files.specs.declared.system.Stamp.{Stamp}
 use Rattle.mot_shelf.specs.declared.path.TheConstants.{LONGEST_PATH}
 
@@ -57,7 +57,7 @@ pub data NamesAreUnread (before after : Option Handle) (old new : List Call) : T
 abbrev pub IsAsked : (path name : List ℕ) → Bool → (old new : List Call) → Type 0
 IsAsked path name is_file old new =
     ((is_file ≡ false) × (is_utf8 name ≡ false) × (new ≡ old))
-    ⊎ ((answer : Result Seen Fault) × (file_of answer ≡ Ok is_file)
+    ⊎ ((answer : Result FileStat Fault) × (file_of answer ≡ Ok is_file)
     × (new ≡ old ++ looked (path_in path name) answer ∷ []))
 
 -- why that is not told, which is so of a text alone: its path is too long, or the system refused to
@@ -70,7 +70,7 @@ pub record IsUnasked (path name : List ℕ) (old new : List Call) : Type 0 where
 -- a name in the folder was looked at, or has no path
 abbrev pub IsLookedAt : (path name : List ℕ) → (old new : List Call) → Type 0
 IsLookedAt path name old new = ((new ≡ old) × HasNoPath path name)
-    ⊎ ((answer : Result Seen Fault) × (new ≡ old ++ looked (path_in path name) answer ∷ []))
+    ⊎ ((answer : Result FileStat Fault) × (new ≡ old ++ looked (path_in path name) answer ∷ []))
 
 -- a file of the folder has this stamp
 abbrev pub FileIsUnchanged : (path name : List ℕ) → Stamp → (old new : List Call) → Type 0
@@ -82,7 +82,7 @@ abbrev pub FileIsRead : (path name : List ℕ) → (most : ℕ) → (at_once : B
 FileIsRead path name most at_once bytes stamp old new =
     IsReadStamped (path_in path name) most at_once bytes stamp old new
 
-abbrev pub FileIsUnread : (path name : List ℕ) → (most : ℕ) → (at_once : Bool) → Unread
+abbrev pub FileIsUnread : (path name : List ℕ) → (most : ℕ) → (at_once : Bool) → ReadFailure
     → (old new : List Call) → Type 0
 FileIsUnread path name most at_once unread old new = ((new ≡ old) × HasNoPath path name)
     ⊎ IsUnreadStamped (path_in path name) most at_once unread old new
@@ -91,7 +91,7 @@ FileIsUnread path name most at_once unread old new = ((new ≡ old) × HasNoPath
 abbrev pub FileIsKept : (path name : List ℕ) → (old new : List Call) → Type 0
 FileIsKept path name old new = MakesLast (path_in path name) path (Ok tt) old new
 
-abbrev pub FileIsUnkept : (path name : List ℕ) → Unread → (old new : List Call) → Type 0
+abbrev pub FileIsUnkept : (path name : List ℕ) → ReadFailure → (old new : List Call) → Type 0
 FileIsUnkept path name unread old new = ((new ≡ old) × HasNoPath path name)
     ⊎ MakesLast (path_in path name) path (Err unread) old new
 

@@ -1,7 +1,7 @@
 -- What a folder gave between two moments, by the calls that were made between them.
 use Rattle.std.specs.Prelude.{◌≡◌, ℕ, Bool, List, Option, Some, None, Ok, Err, take}
 use Rattle.std.specs.declared.io.Error.{Error}
-use Rattle.mot_files.specs.declared.reading.Unread.{Unread}
+use Rattle.mot_files.specs.declared.reading.ReadFailure.{ReadFailure}
 use Rattle.mot_files.specs.declared.system.Handle.{Handle}
 use Rattle.mot_files.specs.declared.system.Stamp.{Stamp}
 use Rattle.mot_shelf.specs.Calls.{FileIsKept, FileIsRead, FileIsUnchanged, FileIsUnkept, FileIsUnread}
@@ -45,12 +45,12 @@ pub data Asks (old new : FolderView) (given after : Given) : Type 0 where
       → FileIsRead old.path name most old.at_once bytes stamp old.calls new.calls
       → new ≡ and_calls old new.calls → after ≡ and_read given name bytes stamp
       → Asks old new given after
-  unread : (name : List ℕ) (most : ℕ) (why : Unread)
+  unread : (name : List ℕ) (most : ℕ) (why : ReadFailure)
       → FileIsUnread old.path name most old.at_once why old.calls new.calls
       → new ≡ and_calls old new.calls → after ≡ and_missed given name → Asks old new given after
   kept : (name : List ℕ) → FileIsKept old.path name old.calls new.calls
       → new ≡ and_calls old new.calls → after ≡ and_kept given name → Asks old new given after
-  unkept : (name : List ℕ) (why : Unread) → FileIsUnkept old.path name why old.calls new.calls
+  unkept : (name : List ℕ) (why : ReadFailure) → FileIsUnkept old.path name why old.calls new.calls
       → new ≡ and_calls old new.calls → after ≡ and_missed given name → Asks old new given after
   names_kept : NamesAreKept old.path old.calls new.calls
       → new ≡ and_calls old new.calls → after ≡ and_kept_names given old.path

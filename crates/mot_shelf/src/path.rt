@@ -1,11 +1,11 @@
 //! The path of a name in a folder, in room that is taken once: so no call fails for want of memory.
 ghost use Rattle.std.specs.Prelude.{◌≡◌, ◌≢◌, ◌<◌, ℕ, IsUtf8, MatchResult, true, false, length};
 ghost use Rattle.mot_files.specs.Listing.{path_in};
-ghost use Rattle.mot_files.specs.declared.reading.Unread.TheVariants.{TooLong, Young};
+ghost use Rattle.mot_files.specs.declared.reading.ReadFailure.TheVariants.{TooLong, Young};
 ghost use Rattle.mot_shelf.specs.Inner.Paths.{IsWithoutPath};
 
 use arrayvec::ArrayString;
-use mot_files::{Fault, Unread};
+use mot_files::{Fault, ReadFailure};
 use std::io::{self, ErrorKind};
 use std::str::from_utf8;
 
@@ -31,13 +31,13 @@ impl NoPath {
     }
 
     /// Why a file of the name is not read.
-    pub(crate) fn unread(self) -> Unread
+    pub(crate) fn unread(self) -> ReadFailure
         ensures young { result ≢ Young }
         ensures long { (count : ℕ) → result ≢ TooLong count }
     {
         match self {
-            NoPath::NoText => Unread::Changed,
-            NoPath::TooLong => Unread::System(Fault::System(self.error())),
+            NoPath::NoText => ReadFailure::Changed,
+            NoPath::TooLong => ReadFailure::System(Fault::System(self.error())),
         }
     }
 }

@@ -5,10 +5,10 @@ ghost use Rattle.std.specs.Prelude.{MatchBool, MatchResult, None, Ok, Result, So
 ghost use Rattle.mot_files.specs.Call.{looked, opened};
 ghost use Rattle.mot_files.specs.declared.system.Fault.{Fault};
 ghost use Rattle.mot_files.specs.declared.system.How.TheVariants as How;
-ghost use Rattle.mot_files.specs.declared.system.Seen.{Seen};
+ghost use Rattle.mot_files.specs.declared.system.FileStat.{FileStat};
 ghost use Rattle.mot_shelf.specs.Given.{Given, and_asked, and_failed, and_kept, and_kept_names};
 ghost use Rattle.mot_shelf.specs.Given.{and_listed, and_missed, and_read, and_unchanged};
-ghost use Rattle.mot_files.specs.declared.reading.Unread.TheVariants.{TooLong, Young};
+ghost use Rattle.mot_files.specs.declared.reading.ReadFailure.TheVariants.{TooLong, Young};
 ghost use Rattle.mot_shelf.specs.Calls.{FolderIsClosed, FolderIsOpened};
 ghost use Rattle.mot_shelf.specs.Calls.{NamesAreRead, NamesAreUnread};
 ghost use Rattle.mot_shelf.specs.Gives.{Asks};
@@ -17,7 +17,7 @@ ghost use Rattle.mot_shelf.specs.View.{folder_at};
 
 use crate::path::{NoPath, PathRoom, set_path};
 use mot_files::{
-    FileRead, Handle, How, Kind, Stamp, System, Unread, has_stamp, is_file, make_last,
+    FileRead, Handle, How, Kind, ReadFailure, Stamp, System, has_stamp, is_file, make_last,
     read_stamped, sync_path,
 };
 use std::alloc::Global;
@@ -175,7 +175,7 @@ impl<'a, S: System + Drop> FolderReader<'a, S> {
 
     /// The regular file of this name, which has so many bytes at most, with the stamp that it had
     /// before it was read. The error says why it was not read.
-    pub fn read(&mut self, alloc: Global, name: &[u8], most: u64) -> Result<FileRead, Unread>
+    pub fn read(&mut self, alloc: Global, name: &[u8], most: u64) -> Result<FileRead, ReadFailure>
         ensures same { reader_path self.new ≡ reader_path self.old }
         ensures asks { (given : Given) → MatchResult result
             (λ file. Asks (view S.calls self.old) (view S.calls self.new) given
@@ -201,7 +201,7 @@ impl<'a, S: System + Drop> FolderReader<'a, S> {
 
     /// Makes the file of this name last, and then its name: so after a power cut the folder has
     /// under it what it has now, or what came to it later. The error says why not.
-    pub fn keep(&mut self, name: &[u8]) -> Result<(), Unread>
+    pub fn keep(&mut self, name: &[u8]) -> Result<(), ReadFailure>
         ensures same { reader_path self.new ≡ reader_path self.old }
         ensures asks { (given : Given) → MatchResult result
             (λ _. Asks (view S.calls self.old) (view S.calls self.new) given
@@ -306,7 +306,7 @@ fn next_names<S: System>(
 
 /// What the path names, if the system says it.
 fn kind_at<S: System>(system: &mut S, path: &str) -> Option<Kind>
-    ensures { (answer : Result Seen Fault) × (S.calls system.new
+    ensures { (answer : Result FileStat Fault) × (S.calls system.new
         ≡ S.calls system.old ++ looked path.now answer ∷ []) }
 {
     match system.look(path) {

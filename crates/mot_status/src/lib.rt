@@ -9,4 +9,4 @@ mod told;
 mod turn;
 
 pub use reporter::{Reporter, Telling};
-pub use turn::Measured;
+pub use turn::TurnMeasurement;

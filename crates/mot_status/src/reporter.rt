@@ -3,7 +3,7 @@
 use crate::clock::seconds_or;
 use crate::figures::{VERSION, figures_of};
 use crate::told::{hand, tell_written};
-use crate::turn::{Measured, measure};
+use crate::turn::{TurnMeasurement, measure};
 use disk_model::Disk;
 use mot_endpoints::StatusFile;
 use mot_events::{Event, LookEvent, Tells};
@@ -11,7 +11,7 @@ use mot_files::System;
 use mot_listening::TurnSize;
 use mot_log::EventLog;
 use mot_playout::Server;
-use mot_update::{Facts, Moment, Watch};
+use mot_update::{LookHistory, UpdatePoint, Watch};
 use std::alloc::{AllocError, Global};
 use std::io::Write;
 
@@ -50,7 +50,7 @@ pub struct Reporter<'a, S: System + Drop, W: Write + Drop> {
     /// After how many packets the status is written again.
     next: u64,
     /// What a turn takes, if that is known.
-    size: Option<Measured>,
+    size: Option<TurnMeasurement>,
     /// Of how many changes the time is known.
     changes: u64,
     /// When the last of them was made, in seconds since 1970; 0 if that is not known.
@@ -99,7 +99,7 @@ impl<'a, S: System + Drop, W: Write + Drop> Reporter<'a, S, W> {
     }
 
     /// Tells what the last look met, if there was one since the last call.
-    fn tell_looked<U: Facts>(&mut self, update: &U) {
+    fn tell_looked<U: LookHistory>(&mut self, update: &U) {
         let is_new = update.looks() != self.looks;
         self.looks = update.looks();
         if is_new {
@@ -117,7 +117,7 @@ impl<'a, S: System + Drop, W: Write + Drop> Reporter<'a, S, W> {
     /// Tells what the last look met, if there was one since the last call; notes when the last
     /// change was made; and writes the status, if that is due.
     #[inline(never)]
-    fn tell_news<D: Disk, U: Facts>(
+    fn tell_news<D: Disk, U: LookHistory>(
         &mut self,
         server: &Server<D>,
         alloc: Global,
@@ -184,7 +184,7 @@ impl<'a, S: System + Drop, W: Write + Drop> Watch for Reporter<'a, S, W> {
     /// At the first update tells that playing begins; at each other one counts the packet that was
     /// taken since the last.
     #[inline(always)]
-    fn begin<D: Disk>(&mut self, server: &Server<D>, alloc: Global, moment: Moment) {
+    fn begin<D: Disk>(&mut self, server: &Server<D>, alloc: Global, moment: UpdatePoint) {
         if self.has_begun {
             self.log.counters.count_packet(ends_turn(moment));
         } else {
@@ -195,7 +195,7 @@ impl<'a, S: System + Drop, W: Write + Drop> Watch for Reporter<'a, S, W> {
     /// Tells what is due after an update: what the last look met, if there was one since, and the
     /// status after a look and after each 1,000 packets.
     #[inline(always)]
-    fn end<D: Disk, U: Facts>(&mut self, server: &Server<D>, alloc: Global, update: &U) {
+    fn end<D: Disk, U: LookHistory>(&mut self, server: &Server<D>, alloc: Global, update: &U) {
         let counters = &self.log.counters;
         let is_due = counters.packets >= self.next || update.looks() != self.looks;
         if is_due || counters.changes != self.changes {
@@ -205,15 +205,15 @@ impl<'a, S: System + Drop, W: Write + Drop> Watch for Reporter<'a, S, W> {
 }
 
 /// Whether a turn has ended.
-fn ends_turn(moment: Moment) -> bool {
+fn ends_turn(moment: UpdatePoint) -> bool {
     match moment {
-        Moment::BetweenTurns => true,
+        UpdatePoint::BetweenTurns => true,
         _ => false,
     }
 }
 
 /// What a turn takes: nothing, if that is not known.
-fn turn_of(size: Option<Measured>) -> TurnSize {
+fn turn_of(size: Option<TurnMeasurement>) -> TurnSize {
     match size {
         Some(measured) => measured.turn,
         None => TurnSize::none(),
@@ -221,7 +221,7 @@ fn turn_of(size: Option<Measured>) -> TurnSize {
 }
 
 /// How many packets a turn has, if that is known.
-fn turn_packets(size: Option<Measured>) -> Option<u64> {
+fn turn_packets(size: Option<TurnMeasurement>) -> Option<u64> {
     match size {
         Some(measured) => Some(measured.turn.packets),
         None => None,

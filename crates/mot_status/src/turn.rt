@@ -1,6 +1,6 @@
 //! What a turn takes, as far as that is known.
 ghost use Rattle.std.specs.Prelude.{◌≡◌, IfSome, None, Some};
-ghost use Rattle.mot_status.specs.Inner.Measured.{IsMeasured};
+ghost use Rattle.mot_status.specs.Inner.TurnMeasurement.{IsMeasured};
 
 use disk_model::Disk;
 use mot_listening::{TurnSize, turn_size};
@@ -9,7 +9,7 @@ use std::alloc::Global;
 
 /// What a turn takes, and the carousel of which that is known.
 #[derive(Clone, Copy)]
-pub struct Measured {
+pub struct TurnMeasurement {
     /// The transport id of its directory.
     pub directory: u16,
     /// The id that was taken last. Each change makes another pair of the two, though on a disk whose
@@ -23,10 +23,10 @@ pub struct Measured {
 /// same. It is not known if there was no memory for the bytes of the directory.
 #[inline(never)]
 pub(crate) fn measure<D: Disk>(
-    known: Option<Measured>,
+    known: Option<TurnMeasurement>,
     server: &Server<D>,
     alloc: Global,
-) -> Option<Measured>
+) -> Option<TurnMeasurement>
     ensures { IfSome result (λ measured. IsMeasured known server.now.view measured) }
 {
     let carousel = server.carousel();
@@ -40,7 +40,7 @@ pub(crate) fn measure<D: Disk>(
     let geometry = server.geometry();
     let (size, length) = (geometry.size_of_segments(), geometry.length_of_packets());
     match turn_size(alloc, carousel, size, length) {
-        Ok(turn) => Some(Measured {
+        Ok(turn) => Some(TurnMeasurement {
             directory,
             cursor,
             turn,

@@ -8,7 +8,7 @@ ghost use Rattle.mot_feed.specs.Feeding.{IsFeedFault};
 ghost use Rattle.mot_folder.specs.Guard.{guard_of};
 ghost use Rattle.mot_journal.specs.Image.{Standing};
 ghost use Rattle.mot_numbers.specs.declared.refusal.Refusal.TheVariants.{WriteFault};
-ghost use Rattle.mot_outcome.specs.Outcome.{Concludes, Opens};
+ghost use Rattle.mot_outcome.specs.Outcome.{Concludes, OpensOrReads};
 ghost use Rattle.mot_playout.specs.Attempts.{fault_of};
 ghost use Rattle.mot_repository.specs.Repository.{Holds};
 ghost use Rattle.mot_shelf.specs.Gives.{GaveSo};
@@ -23,13 +23,13 @@ use crate::trying::sync_or_try;
 use disk_model::Disk;
 use disk_store::Start;
 use mot_cli::SyncTask;
-use mot_endpoints::{Cause, Host, Machine, file_types};
+use mot_endpoints::{Cause, Host, Machine, copy_unopened, file_types};
 use mot_events::LookEvent;
 use mot_files::{CallLog, System};
 use mot_folder::{FileTypes, Folder, Guard, KnownFiles, look_at_folder};
 use mot_log::add_met_line;
 use mot_numbers::Refusal;
-use mot_outcome::{Beside, Finished, clear_after, write_bytes, write_last};
+use mot_outcome::{TaskCalls, TaskEnd, clear_after, write_bytes, write_last};
 use mot_playout::Server;
 use mot_shelf::FolderReader;
 use mot_update::Ended;
@@ -38,32 +38,46 @@ use std::io::Write;
 
 /// Makes the carousel of the disk of a file equal to the files of a folder that have one of the known
 /// suffixes, or of those that a file adds; or does that to a copy in memory, and prints the lines of
-/// it: then the disk itself is only synced and read.
+/// it: then the disk itself is only synced and read, and another program may have it.
 pub fn sync<'a, B: Start, W: Write, M: Machine<File = B::File> + Drop>(
     host: &mut Host<M>,
     alloc: Global,
     task: &SyncTask<'a>,
     start: B,
     log: &mut W,
-) -> Finished<B, bool>
+) -> TaskEnd<B, bool>
     ensures ended { Concludes (IsUnsynced task.now.types) (λ all ending. SyncsTask task.now all ending
         result.disk (W.contents log.old) (W.contents log.new))
         result.result result.disk (W.contents log.old) (W.contents log.new) }
-    ensures opens { Opens (synced_with task.now) task.now.disk.now (fault_of result.result)
-        result.disk (M.System.calls host.old.system) (M.System.calls host.new.system) }
+    ensures opens { OpensOrReads task.now.dry_run (synced_with task.now) task.now.disk.now
+        (fault_of result.result) result.disk
+        (M.System.calls host.old.system) (M.System.calls host.new.system) }
 {
     let types = match file_types(host, alloc, task.types) {
         Ok(types) => types,
-        Err(unbegun) => return Finished::unbegun(unbegun.refusal, unbegun.cause, start),
+        Err(unbegun) => return TaskEnd::unbegun(unbegun.refusal, unbegun.cause, start),
     };
     let shelf = host.folder(task.folder, task.rules.at_once);
     match host.disk(task.disk, start) {
         Ok(disk) => {
             let (ended, cause, calls) = sync_shelf(alloc, disk, shelf, &types, task, log);
             clear_after(host, &ended.result);
-            Finished::of_file(ended, Beside::folder(calls), cause)
+            TaskEnd::of_file(ended, TaskCalls::folder(calls), cause)
         }
-        Err(unopened) => Finished::unopened(unopened),
+        Err(unopened) => {
+            let copy = copy_unopened(
+                &mut host.system,
+                alloc,
+                task.disk,
+                unopened.fault,
+                task.dry_run,
+            );
+            let Some(copy) = copy else {
+                return TaskEnd::unopened(unopened);
+            };
+            let (ended, cause, _) = sync_shelf(alloc, copy, shelf, &types, task, log);
+            TaskEnd::in_memory(ended, cause, unopened.start)
+        }
     }
 }
 

@@ -1,6 +1,6 @@
 //! The machine in memory does what a machine does.
 use crate::expecting::expect;
-use mot_files::{Fault, Handle, How, Kind, Seen, System};
+use mot_files::{Fault, FileStat, Handle, How, Kind, System};
 use mot_memory_files::{MachineSystem, Plan, World};
 use std::alloc::{AllocError, Global};
 use std::cell::RefCell;
@@ -299,7 +299,7 @@ fn a_link_leads_elsewhere(rt: HostRuntime) -> Result<(), Fail> {
 }
 
 /// Whether the call tells of this.
-fn is_kind(answer: Result<Seen, Fault>, kind: Kind) -> bool {
+fn is_kind(answer: Result<FileStat, Fault>, kind: Kind) -> bool {
     match answer {
         Ok(seen) => seen.kind == kind,
         Err(_) => false,
@@ -319,7 +319,7 @@ fn a_number_is_used_again(rt: HostRuntime) -> Result<(), Fail> {
 }
 
 /// The number that the call tells.
-fn number_of(answer: Result<Seen, Fault>) -> u64 {
+fn number_of(answer: Result<FileStat, Fault>) -> u64 {
     match answer {
         Ok(seen) => seen.number,
         Err(_) => 0,

@@ -10,8 +10,8 @@ use Rattle.mot_playout.specs.declared.running.Attempt.TheVariants.{Accepted, Ref
 use Rattle.mot_update.specs.HasRun.{marks_of_settling}
 use Rattle.mot_update.specs.Told.{Answer, AreAnswers, TellsMore, TellsSince, Withdrew}
 use Rattle.mot_update.specs.Told.{answers_of, commands_of}
-use Rattle.mot_update.specs.declared.settling.Settled.{Settled}
-use Rattle.mot_update.specs.declared.settling.Settled.TheVariants as settled
+use Rattle.mot_update.specs.declared.settling.SettleOutcome.{SettleOutcome}
+use Rattle.mot_update.specs.declared.settling.SettleOutcome.TheVariants as settled
 use Rattle.mot_update.specs.declared.wanted.Wanted.{Wanted}
 
 -- what was told, and then more
@@ -112,7 +112,7 @@ answer-withdrew name (Accepted done) = (refl, refl, refl)
 answer-withdrew name (Refused refusal) = (refl, refl, refl)
 
 -- one wanted object
-pub answers-settled : (settled : Settled) (w : Wanted)
+pub answers-settled : (settled : SettleOutcome) (w : Wanted)
     → AreAnswers (answers_of w.name settled) (commands_of settled w)
     (marks_of_settling (Ok settled))
 answers-settled settled.Right w = refl

@@ -37,8 +37,8 @@ use Rattle.mot_update.specs.Looking.{unknown_names, was_settled, withdraw_all}
 use Rattle.mot_update.specs.Told.{Answer, AreAnswers, AreAttemptsOf, Withdrew, was_accepted}
 use Rattle.mot_update.proofs.Right.{ComesOf, right-cut, right-join, right-one}
 use Rattle.mot_update.proofs.Answers.{answer-withdrew, answers-cut, answers-join}
-use Rattle.mot_update.specs.declared.settling.Settled.{Settled}
-use Rattle.mot_update.specs.declared.settling.Settled.TheVariants.{Right, Put, Replaced}
+use Rattle.mot_update.specs.declared.settling.SettleOutcome.{SettleOutcome}
+use Rattle.mot_update.specs.declared.settling.SettleOutcome.TheVariants.{Right, Put, Replaced}
 use Rattle.mot_update.specs.Updating.{is_known, settling, settling_of, withdrawal}
 use Rattle.mot_update.specs.Updating.{withdrawals}
 use Rattle.mot_update.proofs.Found.{false_if_not_true, not_both, own_name, same_name, same_some}
@@ -134,7 +134,7 @@ accepted_one (Accepted done) is = (refl, tt)
 accepted_one (Refused refusal) is = (is, tt)
 
 -- an object that was settled has its command, if there was one, accepted
-pub accepted_settled : (settled : Settled) → was_settled settled ≡ true
+pub accepted_settled : (settled : SettleOutcome) → was_settled settled ≡ true
     → AreAccepted (marks_of_settling (Ok settled))
 accepted_settled Right is = tt
 accepted_settled (Put attempt) is = accepted_one attempt is

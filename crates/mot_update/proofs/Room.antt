@@ -26,8 +26,8 @@ use Rattle.mot_update.specs.Looking.{was_stored}
 use Rattle.mot_update.specs.Told.{AreAttemptsOf, answers_of}
 use Rattle.mot_update.specs.declared.settling.Need.{Need}
 use Rattle.mot_update.specs.declared.settling.Need.TheVariants as need
-use Rattle.mot_update.specs.declared.settling.Settled.{Settled}
-use Rattle.mot_update.specs.declared.settling.Settled.TheVariants as settles
+use Rattle.mot_update.specs.declared.settling.SettleOutcome.{SettleOutcome}
+use Rattle.mot_update.specs.declared.settling.SettleOutcome.TheVariants as settles
 use Rattle.mot_update.specs.declared.wanted.Wanted.{Wanted}
 
 -- as many objects as stand beside bodies
@@ -79,7 +79,7 @@ module _ (view : RepositoryView) (s : Standing) (agrees : Agrees view s) where
       ∙ ap (λ (g : Geometry). least_gap s.extents n g.area) agrees.geometry ∙ at)
 
   -- what was stored had room
-  pub room_for : (layout : Layout) (n : Need) (w : Wanted) (settled : Settled)
+  pub room_for : (layout : Layout) (n : Need) (w : Wanted) (settled : SettleOutcome)
       → AreAttemptsOf layout s (commands_for n w) (answers_of w.name settled)
       → was_stored settled ≡ true → HasRoomFor view n w
   room_for layout n w settles.Right right stored = absurd (let no : false ≡ true = stored in cc)

@@ -7,11 +7,11 @@ use Rattle.mot_objects.specs.Carousel.{Carousel}
 use Rattle.mot_objects.specs.declared.command.Command.{Command}
 use Rattle.mot_playout.specs.Server.{ServerView}
 use Rattle.mot_update.specs.HasRun.{HasRun}
-use Rattle.mot_update.specs.declared.moment.Moment.{Moment}
-use Rattle.mot_update.specs.declared.moment.Moment.TheVariants.{Within}
+use Rattle.mot_update.specs.declared.moment.UpdatePoint.{UpdatePoint}
+use Rattle.mot_update.specs.declared.moment.UpdatePoint.TheVariants.{Within}
 
 -- whether a look may come there
-abbrev pub may_look : Moment → Bool
+abbrev pub may_look : UpdatePoint → Bool
 may_look Within = false
 may_look moment = true
 

@@ -13,18 +13,18 @@ use Rattle.mot_update.specs.HasRun.{HasRun}
 use Rattle.mot_update.specs.Laws.{IsUpdate, names_of}
 use Rattle.mot_update.specs.Told.{Answer, AreAnswers, AreAttemptsOf, was_accepted}
 use Rattle.mot_update.specs.Updating.{is_known, settling, updating}
-use Rattle.mot_update.specs.declared.settling.Settled.{Settled}
-use Rattle.mot_update.specs.declared.settling.Settled.TheVariants.{Right, Put, Replaced}
+use Rattle.mot_update.specs.declared.settling.SettleOutcome.{SettleOutcome}
+use Rattle.mot_update.specs.declared.settling.SettleOutcome.TheVariants.{Right, Put, Replaced}
 use Rattle.mot_update.specs.declared.wanted.Wanted.{Wanted}
 
 -- what was to be done for an object, if anything was, is done
-abbrev pub was_settled : Settled → Bool
+abbrev pub was_settled : SettleOutcome → Bool
 was_settled Right = true
 was_settled (Put attempt) = was_accepted attempt
 was_settled (Replaced attempt) = was_accepted attempt
 
 -- a command was run for it, and accepted
-abbrev pub was_stored : Settled → Bool
+abbrev pub was_stored : SettleOutcome → Bool
 was_stored Right = false
 was_stored (Put attempt) = was_accepted attempt
 was_stored (Replaced attempt) = was_accepted attempt

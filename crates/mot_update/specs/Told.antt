@@ -7,8 +7,8 @@ use Rattle.mot_objects.specs.declared.command.Command.TheVariants as command
 use Rattle.mot_repository.specs.Outcome.{after_command}
 use Rattle.mot_playout.specs.declared.running.Attempt.{Attempt}
 use Rattle.mot_playout.specs.declared.running.Attempt.TheVariants.{Accepted, Refused}
-use Rattle.mot_update.specs.declared.settling.Settled.{Settled}
-use Rattle.mot_update.specs.declared.settling.Settled.TheVariants as settled
+use Rattle.mot_update.specs.declared.settling.SettleOutcome.{SettleOutcome}
+use Rattle.mot_update.specs.declared.settling.SettleOutcome.TheVariants as settled
 use Rattle.mot_update.specs.declared.wanted.Wanted.{Wanted}
 
 -- what came of a command on the object of this name
@@ -18,13 +18,13 @@ pub data Answer : Type 0 where
   Replaced : List ℕ → Attempt → Answer
 
 -- of an object that is right nothing is told
-abbrev pub answers_of : List ℕ → Settled → List Answer
+abbrev pub answers_of : List ℕ → SettleOutcome → List Answer
 answers_of name settled.Right = []
 answers_of name (settled.Put attempt) = Put name attempt ∷ []
 answers_of name (settled.Replaced attempt) = Replaced name attempt ∷ []
 
 -- what was done for a wanted object
-abbrev pub commands_of : Settled → Wanted → List Command
+abbrev pub commands_of : SettleOutcome → Wanted → List Command
 commands_of settled.Right w = []
 commands_of (settled.Put attempt) w = command.Put w.name w.content w.mime w.body ∷ []
 commands_of (settled.Replaced attempt) w = command.Replace w.name w.content w.mime w.body ∷ []

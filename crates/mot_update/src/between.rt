@@ -9,9 +9,9 @@ ghost use Rattle.mot_repository.specs.Repository.{Holds};
 ghost use Rattle.mot_playout.specs.Attempts.{fault_of};
 ghost use Rattle.mot_update.specs.Between.{IsUpdating};
 ghost use Rattle.mot_update.specs.Faults.{TellsFaults};
-ghost use Rattle.mot_update.specs.declared.moment.Moment.{Moment};
+ghost use Rattle.mot_update.specs.declared.moment.UpdatePoint.{UpdatePoint};
 
-use crate::Moment;
+use crate::UpdatePoint;
 use disk_model::Disk;
 use mot_numbers::Refusal;
 use mot_playout::Server;
@@ -21,7 +21,7 @@ use std::alloc::Global;
 pub trait Update {
     // What is told of a call that led from the one to the other, at this moment: the carousel that
     // it found, its commands, whether each was accepted, and what broke them off.
-    ghost tells: { Self → Self → Moment → Carousel → List Command → List Bool → Option Refusal
+    ghost tells: { Self → Self → UpdatePoint → Carousel → List Command → List Bool → Option Refusal
         → Type 0 } = { λ _ _ _ _ _ _ _. ⊤ };
 
     /// Does what is to be done now, in front of a packet. The error is what would end a run of
@@ -30,7 +30,7 @@ pub trait Update {
         &mut self,
         server: &mut Server<D>,
         alloc: Global,
-        moment: Moment,
+        moment: UpdatePoint,
     ) -> Result<(), Refusal>
         ensures keeps { KeepsLength (D.state server.old.disk) (D.state server.new.disk) }
         ensures faults { TellsFaults server.old server.new
@@ -52,7 +52,7 @@ impl Update for NoUpdate {
         &mut self,
         server: &mut Server<D>,
         _alloc: Global,
-        _moment: Moment,
+        _moment: UpdatePoint,
     ) -> Result<(), Refusal>
         ensures keeps { KeepsLength (D.state server.old.disk) (D.state server.new.disk) }
         ensures faults { TellsFaults server.old server.new

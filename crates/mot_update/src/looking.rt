@@ -15,9 +15,9 @@ ghost use Rattle.mot_update.specs.Looking.{Gives, HasLooked, HasSettled, RunsThr
 ghost use Rattle.mot_update.specs.Looking.{unknown_names, was_stored, withdraw_all};
 ghost use Rattle.mot_update.specs.Told.{TellsSince};
 ghost use Rattle.mot_update.specs.declared.settling.Need.{Need};
-ghost use Rattle.mot_update.specs.declared.settling.Settled.{Settled};
+ghost use Rattle.mot_update.specs.declared.settling.SettleOutcome.{SettleOutcome};
 
-use crate::{Need, Settled, Source, Wanted, need_of, settle, withdraw};
+use crate::{Need, SettleOutcome, Source, Wanted, need_of, settle, withdraw};
 use disk_model::Disk;
 use mot_numbers::Refusal;
 use mot_objects::{Carousel, Name};
@@ -143,7 +143,7 @@ fn settle_taken<D: Disk, S: Source>(
     alloc: Global,
     source: &mut S,
     wanted: Wanted,
-) -> Result<Option<Settled>, Refusal>
+) -> Result<Option<SettleOutcome>, Refusal>
     requires { S.last source.old ≡ wanted.name }
     ensures keeps { KeepsLength (D.state server.old.disk) (D.state server.new.disk) }
     ensures faults { TellsFaults server.old server.new
@@ -166,7 +166,7 @@ fn settle_taken<D: Disk, S: Source>(
         → (S.is_fine source.old ≡ true) × (result ≢ Ok None) }
 
     // What was stored was made to last.
-    ensures lasts { (settled : Settled) → result ≡ Ok (Some settled) → was_stored settled ≡ true
+    ensures lasts { (settled : SettleOutcome) → result ≡ Ok (Some settled) → was_stored settled ≡ true
         → S.lasts source.new }
 {
     let need = need_of(server, &wanted);

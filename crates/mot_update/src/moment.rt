@@ -4,7 +4,7 @@ ghost use Rattle.mot_update.specs.Between.{may_look};
 
 /// Where an update comes among the packets of a carousel.
 #[derive(Clone, Copy, Debug, PartialEq, Eq)]
-pub enum Moment {
+pub enum UpdatePoint {
     /// A turn has ended, or none was begun.
     BetweenTurns,
     /// Within a turn, where a look may come.
@@ -13,15 +13,15 @@ pub enum Moment {
     Within,
 }
 
-impl Moment {
+impl UpdatePoint {
     /// Whether a look may come there.
     pub fn may_look(self) -> bool
         ensures { result ≡ may_look self }
     {
         match self {
-            Moment::BetweenTurns => true,
-            Moment::AtLook => true,
-            Moment::Within => false,
+            UpdatePoint::BetweenTurns => true,
+            UpdatePoint::AtLook => true,
+            UpdatePoint::Within => false,
         }
     }
 }

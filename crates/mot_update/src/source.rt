@@ -5,10 +5,10 @@ ghost use Rattle.std.specs.Prelude.{slice_get};
 ghost use Rattle.mot_update.specs.Looking.{Gives, was_settled, was_stored};
 ghost use Rattle.mot_update.specs.Told.{Answer, TellsSince, Withdrew, answers_of, was_accepted};
 ghost use Rattle.mot_update.specs.Updating.{is_known};
-ghost use Rattle.mot_update.specs.declared.settling.Settled.{Settled};
+ghost use Rattle.mot_update.specs.declared.settling.SettleOutcome.{SettleOutcome};
 ghost use Rattle.mot_update.specs.declared.wanted.Wanted.{Wanted};
 
-use crate::{Settled, Wanted};
+use crate::{SettleOutcome, Wanted};
 use mot_objects::Name;
 use mot_playout::Attempt;
 use std::alloc::Global;
@@ -98,7 +98,7 @@ pub trait Source {
 
     /// What became of the object that it offered last, and gave. If it was stored, it was made to
     /// last before.
-    fn settled(&mut self, settled: Settled)
+    fn settled(&mut self, settled: SettleOutcome)
         requires { was_stored settled ≡ true → lasts self.old }
         ensures same { names self.new ≡ names self.old }
         ensures stays { place self.new ≡ place self.old }

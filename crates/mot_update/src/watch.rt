@@ -2,14 +2,14 @@
 ghost use Rattle.std.specs.Prelude.{◌≡◌, []};
 
 use crate::between::NoUpdate;
-use crate::moment::Moment;
+use crate::moment::UpdatePoint;
 use disk_model::Disk;
 use mot_events::{LookEvent, Tells};
 use mot_playout::Server;
 use std::alloc::Global;
 
 /// What is known of the looks of updates.
-pub trait Facts {
+pub trait LookHistory {
     /// How many looks there were.
     fn looks(&self) -> u64;
 
@@ -20,7 +20,7 @@ pub trait Facts {
     fn events_before(&self) -> &[LookEvent];
 }
 
-impl Facts for NoUpdate {
+impl LookHistory for NoUpdate {
     fn looks(&self) -> u64
         ensures { result ≡ 0 }
     {
@@ -43,8 +43,8 @@ impl Facts for NoUpdate {
 /// What is told of updates. It reads the server, and changes nothing of it.
 pub trait Watch: Tells {
     /// An update begins.
-    fn begin<D: Disk>(&mut self, server: &Server<D>, alloc: Global, moment: Moment);
+    fn begin<D: Disk>(&mut self, server: &Server<D>, alloc: Global, moment: UpdatePoint);
 
     /// It has ended, and these are its looks.
-    fn end<D: Disk, U: Facts>(&mut self, server: &Server<D>, alloc: Global, update: &U);
+    fn end<D: Disk, U: LookHistory>(&mut self, server: &Server<D>, alloc: Global, update: &U);
 }

@@ -3,7 +3,8 @@
 
 mod version;
 
-use disk_store::Unknown;
+use disk_store::{OpenFault, Unknown};
+use mot_endpoints::Cause;
 use mot_numbers::Refusal;
 use mot_outcome::{Subject, UsedDisk, refuse};
 use mot_server::run_program;
@@ -16,6 +17,9 @@ use version::print_version;
 
 /// Room for the longest reply to a `raw` line, so that it goes out in one write.
 const BUFFER: usize = 65_536;
+
+/// What is opened in the place of a standard stream that is closed.
+const NULL: &str = "/dev/null";
 
 /// The number of standard error, the last of the standard streams.
 const STANDARD_ERROR: i32 = 2;
@@ -31,7 +35,11 @@ fn main(rt: HostRuntime) -> ExitCode {
 fn run(rt: &HostRuntime) -> io::Result<u8> {
     match hold_streams(rt) {
         Ok(_streams) => run_on_streams(rt),
-        Err(_) => Ok(refused(rt, Refusal::DeviceFault)),
+        Err(error) => {
+            let cause = Cause::Disk(OpenFault::System(error));
+            let subject = Subject::File { path: NULL, cause };
+            Ok(refused(rt, Refusal::DeviceFault, subject))
+        }
     }
 }
 
@@ -56,7 +64,7 @@ fn run_words<W: Write>(rt: &HostRuntime, words: &[String], writer: &mut W) -> u8
 fn show_version<W: Write>(rt: &HostRuntime, writer: &mut W) -> u8 {
     match print_version(rt, writer) {
         Ok(()) => 0,
-        Err(_) => refused(rt, Refusal::WriteFault),
+        Err(_) => refused(rt, Refusal::WriteFault, Subject::Nothing),
     }
 }
 
@@ -65,25 +73,26 @@ fn show_version<W: Write>(rt: &HostRuntime, writer: &mut W) -> u8 {
 /// and what can't be printed is a fault. A file gets the least number that is free, so if the first
 /// one's is above theirs, none of them is closed.
 fn hold_streams(rt: &HostRuntime) -> io::Result<Option<(File, File, File)>> {
-    let first = File::open(rt, "/dev/null")?;
+    let first = File::open(rt, NULL)?;
     if first.as_raw_fd() > STANDARD_ERROR {
         return Ok(None);
     }
-    let second = File::open(rt, "/dev/null")?;
-    let third = File::open(rt, "/dev/null")?;
+    let second = File::open(rt, NULL)?;
+    let third = File::open(rt, NULL)?;
     Ok(Some((first, second, third)))
 }
 
-/// Prints the refusal, and answers its status.
-fn refused(rt: &HostRuntime, refusal: Refusal) -> u8 {
+/// Prints the refusal, and what it is about, and answers its status.
+fn refused(rt: &HostRuntime, refusal: Refusal, subject: Subject<'_>) -> u8 {
     let disk = UsedDisk::Untouched(Unknown);
-    refuse(&mut rt.stderr(), false, refusal, Subject::Nothing, disk).status
+    refuse(&mut rt.stderr(), false, refusal, subject, disk).status
 }
 
 /// Prints why the program did not begin: there was no memory, or a word was no UTF-8.
 fn explain(rt: &HostRuntime, error: &io::Error) -> ExitCode {
     if error.kind() == ErrorKind::OutOfMemory {
-        return ExitCode::from(refused(rt, Refusal::OutOfMemory));
+        let status = refused(rt, Refusal::OutOfMemory, Subject::Nothing);
+        return ExitCode::from(status);
     }
     let _ = eprintln!(rt; "motcar: a word of the command line is no UTF-8 text");
     ExitCode::from(2)

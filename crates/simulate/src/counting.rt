@@ -1,6 +1,6 @@
 //! What the stories of many seeds came to.
 use crate::commands::COMMANDS;
-use mot_memory_files::{Call, Reach, Reached, add_reached, times_failed};
+use mot_memory_files::{Call, Reach, ReachCount, add_reached, times_failed};
 use std::alloc::{AllocError, Global};
 
 /// The counts of a seed, or of many.
@@ -15,7 +15,7 @@ pub struct Counted {
     /// The lives of each command, in the order of `COMMANDS`.
     pub commands: Vec<u64>,
     /// How often the machines came to what.
-    pub reached: Vec<Reached>,
+    pub reached: Vec<ReachCount>,
 }
 
 impl Counted {

@@ -1,8 +1,8 @@
 //! What an operator was told in a life, taken over into the model; and what was removed meanwhile.
-use crate::answers::{Told, are_lines, first_word, line_at, told_line};
+use crate::answers::{LogLines, are_lines, first_word, line_at, told_line};
 use crate::commands::{Command, Manner, PUT, WITHDRAWN};
 use crate::living::{Life, tells};
-use crate::log::Moment;
+use crate::log::ShownLine;
 use crate::model::{Model, body_in, is_path_of, number_of};
 use crate::stop::{Stop, ask};
 use mot_files::Kind;
@@ -100,7 +100,7 @@ fn hear_one(
     model: &mut Model,
     line: &[u8],
     number: usize,
-    moment: Moment,
+    moment: ShownLine,
     manner: Manner,
 ) -> Result<(), Stop> {
     match manner.command {
@@ -108,7 +108,7 @@ fn hear_one(
         Command::Put => hear_put(alloc, w, model, line, number),
         Command::Withdraw => {
             if let Some(name) = WITHDRAWN.get(number)
-                && first_word(line).0 == b"done".as_slice()
+                && is_done(line)
             {
                 model.withdraw(name.as_bytes());
             }
@@ -134,7 +134,7 @@ fn hear_put(
     number: usize,
 ) -> Result<(), Stop> {
     if let Some(name) = PUT.get(number)
-        && first_word(line).0 == b"done".as_slice()
+        && is_done(line)
     {
         let bodies = versions_of(alloc, w, name.as_bytes(), u64::MAX)?;
         model.put(name.as_bytes(), bodies)?;
@@ -170,7 +170,7 @@ fn hear_line(
     w: &World,
     model: &mut Model,
     line: &[u8],
-    moment: Moment,
+    moment: ShownLine,
     manner: Manner,
 ) -> Result<(), Stop> {
     if let Some((file, number, reply)) = told_line(line) {
@@ -264,7 +264,7 @@ fn versions_of(
 /// Judges what the program removed.
 fn judge_removed(alloc: Global, w: &mut World, life: &Life<'_>) -> Result<(), Stop> {
     let log = life.log.shown.as_slice();
-    let told = Told::of(alloc, log, 0)?;
+    let told = LogLines::of(alloc, log, 0)?;
     for removed in &w.removed {
         judge_one(&told, log, removed)?;
     }
@@ -272,7 +272,7 @@ fn judge_removed(alloc: Global, w: &mut World, life: &Life<'_>) -> Result<(), St
     Ok(())
 }
 
-fn judge_one(told: &Told, log: &[u8], removed: &Removed) -> Result<(), Stop> {
+fn judge_one(told: &LogLines, log: &[u8], removed: &Removed) -> Result<(), Stop> {
     let path = removed.path.as_str();
     ask(
         !path.starts_with("objects/"),

@@ -7,7 +7,7 @@ use std::io::{self, ErrorKind, Write};
 
 /// What was known as a line was shown.
 #[derive(Clone, Copy)]
-pub struct Moment {
+pub struct ShownLine {
     /// Where the line begins and ends.
     pub start: usize,
     pub end: usize,
@@ -25,7 +25,7 @@ pub struct Log<'a> {
     world: &'a RefCell<World>,
     pub shown: Vec<u8>,
     waiting: Vec<u8>,
-    pub lines: Vec<Moment>,
+    pub lines: Vec<ShownLine>,
     /// Whether a write came before the one before it was flushed.
     pub is_late: bool,
     start: usize,
@@ -60,7 +60,7 @@ impl<'a> Log<'a> {
     }
 
     /// The line of this moment.
-    pub fn line(&self, moment: &Moment) -> &[u8] {
+    pub fn line(&self, moment: &ShownLine) -> &[u8] {
         match self.shown.get(moment.start..moment.end) {
             Some(line) => line,
             None => b"",
@@ -76,7 +76,7 @@ impl<'a> Log<'a> {
                 continue;
             };
             if let Some(b'\n') = self.shown.get(at) {
-                self.lines.push(Moment {
+                self.lines.push(ShownLine {
                     start: self.start,
                     end: at,
                     clock: world.clock,

@@ -4,7 +4,7 @@ ghost use Rattle.disk_store.specs.Beginning.{BeginWith, IsFirst, first_calls};
 ghost use Rattle.disk_store.specs.File.{calls_on, file_state};
 
 use super::files::DiskFiles;
-use super::{FileDiskFrom, Start, Unopened};
+use super::{FailedOpening, FileDiskFrom, Start};
 use disk_model::{Disk, DiskFault};
 use std::marker::PhantomData;
 
@@ -69,7 +69,7 @@ pub fn open_file<S: Start, M: DiskFiles<File = S::File>>(
     rt: &M,
     path: &str,
     start: S,
-) -> Result<BegunFile<S, WasThere>, Unopened<S>>
+) -> Result<BegunFile<S, WasThere>, FailedOpening<S>>
     ensures first { IfOk result (λ file. IsFirst false file.disk) }
 {
     let disk = FileDiskFrom::open_from(rt, path, start)?;
@@ -85,7 +85,7 @@ pub fn make_file<S: Start, M: DiskFiles<File = S::File>>(
     path: &str,
     len: u64,
     start: S,
-) -> Result<BegunFile<S, WasMade>, Unopened<S>>
+) -> Result<BegunFile<S, WasMade>, FailedOpening<S>>
     ensures first { IfOk result (λ file. IsFirst true file.disk) }
     ensures len { IfOk result (λ file. (file_state file.disk).len ≡ len) }
 {

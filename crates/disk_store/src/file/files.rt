@@ -6,7 +6,7 @@ use std::io;
 
 /// What an open file is.
 #[derive(Clone, Copy)]
-pub struct Facts {
+pub struct DiskFileStat {
     /// Whether it is a regular file.
     pub is_file: bool,
     /// Whether it is a block device.
@@ -23,7 +23,7 @@ pub trait DiskFile: Drop {
     fn try_lock(&self) -> Result<(), TryLockError>;
 
     /// What it is.
-    fn facts(&self) -> io::Result<Facts>;
+    fn facts(&self) -> io::Result<DiskFileStat>;
 
     /// How long it is; of a device, too.
     fn length(&mut self) -> io::Result<u64>;
@@ -62,7 +62,7 @@ pub trait DiskFiles {
     fn real_path(&self, path: &str) -> io::Result<String>;
 
     /// What the path names; a link is not followed.
-    fn facts_at(&self, path: &str) -> io::Result<Facts>;
+    fn facts_at(&self, path: &str) -> io::Result<DiskFileStat>;
 
     /// Removes the file of this path.
     fn remove_disk(&self, path: &str) -> io::Result<()>;

@@ -1,5 +1,5 @@
 //! The files of this machine as disks. Each method makes the one call of its name.
-use super::files::{DiskFile, DiskFiles, Facts};
+use super::files::{DiskFile, DiskFileStat, DiskFiles};
 use sqlite_std_file::OpenError;
 use std::alloc::Global;
 use std::fs::{self, File, Metadata, OpenOptions, TryLockError};
@@ -12,7 +12,7 @@ impl DiskFile for File {
         self.try_lock()
     }
 
-    fn facts(&self) -> io::Result<Facts> {
+    fn facts(&self) -> io::Result<DiskFileStat> {
         Ok(facts_of(&self.metadata()?))
     }
 
@@ -38,8 +38,8 @@ impl DiskFile for File {
 }
 
 /// What the system says.
-fn facts_of(found: &Metadata) -> Facts {
-    Facts {
+fn facts_of(found: &Metadata) -> DiskFileStat {
+    DiskFileStat {
         is_file: found.is_file(),
         is_block_device: found.file_type().is_block_device(),
         names: found.nlink(),
@@ -99,7 +99,7 @@ impl<'a> DiskFiles for HostFiles<'a> {
         Ok(String::from_str(self.rt.alloc(), real.as_str())?)
     }
 
-    fn facts_at(&self, path: &str) -> io::Result<Facts> {
+    fn facts_at(&self, path: &str) -> io::Result<DiskFileStat> {
         Ok(facts_of(&fs::symlink_metadata(self.rt, path)?))
     }
 

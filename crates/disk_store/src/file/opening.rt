@@ -19,17 +19,17 @@ use std::marker::PhantomData;
 
 /// A file that was not opened or made as a disk, and the value that opening it would have used up.
 #[derive(Drop)]
-pub struct Unopened<S: Start> {
+pub struct FailedOpening<S: Start> {
     pub start: S,
     pub fault: OpenFault,
 }
 
-impl<S: Start> Unopened<S> {
+impl<S: Start> FailedOpening<S> {
     /// A file that was not made, for this reason of the system.
-    pub fn of(start: S, error: io::Error) -> Unopened<S>
+    pub fn of(start: S, error: io::Error) -> FailedOpening<S>
         ensures { result.start ≡ start }
     {
-        Unopened {
+        FailedOpening {
             start,
             fault: OpenFault::System(error),
         }
@@ -37,22 +37,22 @@ impl<S: Start> Unopened<S> {
 
     /// A file that was not made either, since it could not be opened for this reason. That is the
     /// reason to give, unless there was nothing to open.
-    pub fn behind(self, first: OpenFault) -> Unopened<S>
+    pub fn behind(self, first: OpenFault) -> FailedOpening<S>
         ensures { result.start ≡ self.start }
     {
         let fault = match first {
             OpenFault::System(error) if error.kind() == ErrorKind::NotFound => self.fault,
             _ => first,
         };
-        Unopened {
+        FailedOpening {
             start: self.start,
             fault,
         }
     }
 }
 
-impl<S: Start> From<Unopened<S>> for DiskFault {
-    fn from(unopened: Unopened<S>) -> DiskFault {
+impl<S: Start> From<FailedOpening<S>> for DiskFault {
+    fn from(unopened: FailedOpening<S>) -> DiskFault {
         DiskFault::from(unopened.fault)
     }
 }
@@ -98,7 +98,7 @@ impl<S: Start> FileDiskFrom<S> {
         rt: &M,
         path: &str,
         start: S,
-    ) -> Result<FileDiskFrom<S>, Unopened<S>>
+    ) -> Result<FileDiskFrom<S>, FailedOpening<S>>
         ensures new { IfOk result (λ disk. IsNew (file_state disk).bytes (file_state disk)) }
         ensures first_bytes { IfOk result (λ disk. (file_state disk).len ≡ length S.Start.bytes
             → (file_state disk).bytes ≡ S.Start.bytes) }
@@ -108,7 +108,7 @@ impl<S: Start> FileDiskFrom<S> {
     {
         match FileDiskFrom::open_path(rt, path) {
             Ok(disk) => Ok(disk),
-            Err(fault) => Err(Unopened { start, fault }),
+            Err(fault) => Err(FailedOpening { start, fault }),
         }
     }
 
@@ -118,14 +118,14 @@ impl<S: Start> FileDiskFrom<S> {
         path: &str,
         len: u64,
         start: S,
-    ) -> Result<FileDiskFrom<S>, Unopened<S>>
+    ) -> Result<FileDiskFrom<S>, FailedOpening<S>>
         ensures new { IfOk result (λ disk. IsNew (replicate len 0) (file_state disk)) }
         ensures can_sync { IfOk result CanSync }
         ensures order { IfOk result (λ disk. calls_on disk ≡ making_calls len) }
     {
         match FileDiskFrom::make_path(rt, path, len) {
             Ok(disk) => Ok(disk),
-            Err(fault) => Err(Unopened { start, fault }),
+            Err(fault) => Err(FailedOpening { start, fault }),
         }
     }
 

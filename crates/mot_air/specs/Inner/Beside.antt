@@ -6,14 +6,14 @@ use Rattle.mot_feed.specs.declared.manner.Manner.{Manner}
 use Rattle.mot_air.specs.declared.on_air.Airing.{Airing}
 use Rattle.mot_feed_lines.specs.Answering.{TellsInTurn, TellsOnTime}
 use Rattle.mot_feed_lines.specs.declared.lines.Lines.{Lines}
-use Rattle.mot_feed_lines.specs.declared.reported.Reported.{Reported}
+use Rattle.mot_feed_lines.specs.declared.reported.WatchedUpdate.{WatchedUpdate}
 use Rattle.mot_files.specs.Call.{Call}
 use Rattle.mot_line_folder.specs.Spool.{SpoolView}
 use Rattle.mot_line_folder.specs.declared.folder.LineFolder.{LineFolder}
 use Rattle.mot_shelf.specs.Reader.{reader_path}
 use Rattle.mot_shelf.specs.View.{FolderView}
 use Rattle.mot_update.specs.Between.{Telling}
-use Rattle.mot_update.specs.declared.moment.Moment.{Moment}
+use Rattle.mot_update.specs.declared.moment.UpdatePoint.{UpdatePoint}
 
 -- the folder of lines before it is read, and where there is none
 abbrev pub lines_in : {S : Type 0} → (S → List Call) → Option (LineFolder S) → SpoolView
@@ -43,18 +43,18 @@ beside update lines hand = record { update = update; late = 0; lines = lines; ha
 
 -- what the update tells, or lines, of which so many packets come between two reads
 abbrev pub tells_lines_of : {U V : Type 0} → (Gives : V → V → List ℕ → Type 0) → (between : ℕ)
-    → (tells : U → U → Moment → Telling) → (old new : SourcesOf U V) → Moment → Telling
+    → (tells : U → U → UpdatePoint → Telling) → (old new : SourcesOf U V) → UpdatePoint → Telling
 tells_lines_of Gives between tells old new moment = TellsInTurn Gives between old.late new.late
     old.hand new.hand old.lines new.lines (tells old.update new.update moment)
 
 -- what an update tells that is watched
-abbrev pub tells_reported : {U W : Type 0} → (tells : U → U → Moment → Telling)
-    → (old new : Reported U W) → Moment → Telling
+abbrev pub tells_reported : {U W : Type 0} → (tells : U → U → UpdatePoint → Telling)
+    → (old new : WatchedUpdate U W) → UpdatePoint → Telling
 tells_reported tells old new moment = tells old.update new.update moment
 
 -- and lines behind it
 abbrev pub tells_answered : {R U V W : Type 0} → (Gives : V → V → List ℕ → Type 0) → (seen : R → V)
-    → (tells : U → U → Moment → Telling) → (old new : Lines R U W) → Moment → Telling
+    → (tells : U → U → UpdatePoint → Telling) → (old new : Lines R U W) → UpdatePoint → Telling
 tells_answered Gives seen tells old new moment = TellsOnTime Gives old.between new.between old.left
     new.left old.intake.hand new.intake.hand (seen old.reader) (seen new.reader)
     (tells old.reported.update new.reported.update moment)

@@ -25,7 +25,7 @@ abbrev pub rule_of_kind : Kind → List ℕ → Rule
 rule_of_kind Word name = word_rule name
 rule_of_kind Words name = words_rule name
 rule_of_kind (Path value) name = path_rule name
-rule_of_kind Number name = number_rule name
+rule_of_kind (Number value) name = number_rule name
 rule_of_kind Flag name = flag_rule name
 
 abbrev pub rule_for : Argument → Rule

@@ -10,7 +10,7 @@ use Rattle.mot_files.specs.declared.system.Fault.{Fault}
 use Rattle.mot_files.specs.declared.system.Fault.TheVariants.{Absent, Busy, System}
 use Rattle.mot_files.specs.declared.system.Kind.{Kind}
 use Rattle.mot_files.specs.declared.system.Kind.TheVariants.{File, Folder, Link}
-use Rattle.mot_files.specs.declared.system.Seen.{Seen}
+use Rattle.mot_files.specs.declared.system.FileStat.{FileStat}
 
 -- an error of the system, as a fault: only what is not there is absent
 pub data IsFaultOf (error : Error) (fault : Fault) : Type 0 where
@@ -30,7 +30,7 @@ pub record IsKindOf (found : Metadata) (kind : Kind) : Type 0 where
   pub link : kind ≡ Link ↔ IsSymlink (file_type found)
 
 -- what is seen of a file; std says nothing of its device, its number and its times
-pub record IsSeenOf (found : Metadata) (seen : Seen) : Type 0 where
+pub record IsSeenOf (found : Metadata) (seen : FileStat) : Type 0 where
   pub kind : IsKindOf found seen.kind
   pub len : seen.len ≡ metadata_len found
 

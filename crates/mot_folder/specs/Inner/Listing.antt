@@ -5,7 +5,7 @@ use Rattle.std.specs.List.{flat_map, list_any}
 use Rattle.std.specs.Str.{is_utf8}
 use Rattle.mot_events.specs.Events.{event_of}
 use Rattle.mot_events.specs.declared.event.LookEvent.{LookEvent}
-use Rattle.mot_events.specs.declared.event.Met.TheVariants.{Skipped}
+use Rattle.mot_events.specs.declared.event.LookResult.TheVariants.{Skipped}
 use Rattle.mot_events.specs.declared.event.Skip.{Skip}
 use Rattle.mot_events.specs.declared.event.Skip.TheVariants.{NotUtf8, Suffix}
 use Rattle.mot_folder.specs.Listed.{AreEither, IsListing, nameless, names_in, object_names}

@@ -2,10 +2,10 @@
 use Rattle.std.specs.Prelude.{◌≡◌, ◌⊎◌, ◌+◌, ◌<◌, ◌-◌, ℕ, List, length, take}
 use Rattle.std.specs.Prelude.{Option, Some, Bool, true, false, slice_get}
 use Rattle.mot_events.specs.Events.{event_of}
-use Rattle.mot_events.specs.declared.event.Deed.TheVariants.{Read}
+use Rattle.mot_events.specs.declared.event.LookStep.TheVariants.{Read}
 use Rattle.mot_events.specs.declared.event.LookEvent.{LookEvent}
-use Rattle.mot_events.specs.declared.event.Met.{Met}
-use Rattle.mot_events.specs.declared.event.Met.TheVariants as met
+use Rattle.mot_events.specs.declared.event.LookResult.{LookResult}
+use Rattle.mot_events.specs.declared.event.LookResult.TheVariants as met
 use Rattle.mot_events.specs.declared.event.Why.{Why}
 use Rattle.mot_events.specs.declared.event.Why.TheVariants as why
 use Rattle.mot_folder.specs.Inner.Listing.{IsCallRefusal}
@@ -14,13 +14,13 @@ use Rattle.mot_folder.specs.Log.{TellsOf, TellsOne, is_of_file}
 use Rattle.mot_folder.specs.Taken.{IsUntakable, wanted_file}
 use Rattle.mot_files.specs.declared.system.Stamp.{Stamp}
 use Rattle.mot_folder.specs.declared.folder.Untaken.{Untaken}
-use Rattle.mot_folder.specs.declared.folder.Untaken.TheVariants.{Refused as NotTaken, Unread as NotRead}
+use Rattle.mot_folder.specs.declared.folder.Untaken.TheVariants.{Refused as NotTaken, ReadFailure as NotRead}
 use Rattle.mot_folder.specs.Inner.Knowing.{KnowsFiles}
 use Rattle.mot_folder.specs.Inner.Names.{name_or_none}
 use Rattle.mot_folder.specs.declared.known.Known.{Known}
 use Rattle.mot_folder.specs.declared.known.KnownFiles.{KnownFiles}
 use Rattle.mot_folder.specs.declared.report.Report.{Report}
-use Rattle.mot_files.specs.declared.reading.Unread.TheVariants.{Changed, NoMemory as OutOfRoom, System, TooLong, Young}
+use Rattle.mot_files.specs.declared.reading.ReadFailure.TheVariants.{Changed, NoMemory as OutOfRoom, System, TooLong, Young}
 use Rattle.mot_numbers.specs.declared.refusal.Refusal.{Refusal}
 use Rattle.mot_numbers.specs.declared.refusal.Refusal.TheVariants.{BodyTooLong, OutOfMemory}
 use Rattle.mot_shelf.specs.Given.{Given, and_missed, and_read}
@@ -55,7 +55,7 @@ pub data Misses (types : List SuffixType) (name : List ℕ) (old new : Given) (N
 -- a file of this name is told as one that was not taken
 abbrev pub TellsFile : Report → Report → List ℕ → Type 0
 TellsFile old new name =
-    (met : Met) × (is_of_file met ≡ true) × TellsOne old new (event_of name met)
+    (met : LookResult) × (is_of_file met ≡ true) × TellsOne old new (event_of name met)
 
 -- What a look began with: its types, what was known of files, and the folder.
 pub record LookStart : Type 0 where

@@ -4,20 +4,20 @@ use Rattle.std.specs.Prelude.{min, nat_lt}
 use Rattle.std.specs.List.{list_any}
 use Rattle.std.specs.Str.{is_utf8}
 use Rattle.mot_events.specs.Events.{event_of}
-use Rattle.mot_events.specs.declared.event.Deed.TheVariants as deed
+use Rattle.mot_events.specs.declared.event.LookStep.TheVariants as deed
 use Rattle.mot_events.specs.declared.event.LookEvent.{LookEvent}
 use Rattle.mot_events.specs.declared.event.Why.{Why}
 use Rattle.mot_events.specs.declared.event.Why.TheVariants.{Bytes, Control, NotUtf8, Objects}
 use Rattle.mot_events.specs.declared.event.Why.TheVariants.{Space, Unsaid}
-use Rattle.mot_folder.specs.Log.{ReportTells, TellsOne, has_to_wait, met_for}
+use Rattle.mot_folder.specs.Log.{ReportTells, TellsOne, has_to_wait, result_for}
 use Rattle.mot_folder.specs.declared.report.Report.{Report}
 use Rattle.mot_folder.specs.declared.report.Sizes.{Sizes}
 use Rattle.mot_numbers.specs.declared.refusal.Refusal.{Refusal}
 use Rattle.mot_numbers.specs.declared.refusal.Refusal.TheVariants.{NoRoom, TooManyObjects}
 use Rattle.mot_playout.specs.declared.running.Attempt.{Attempt}
 use Rattle.mot_playout.specs.declared.running.Attempt.TheVariants.{Accepted, Refused}
-use Rattle.mot_update.specs.declared.settling.Settled.{Settled}
-use Rattle.mot_update.specs.declared.settling.Settled.TheVariants as settled
+use Rattle.mot_update.specs.declared.settling.SettleOutcome.{SettleOutcome}
+use Rattle.mot_update.specs.declared.settling.SettleOutcome.TheVariants as settled
 
 -- why an object of these sizes was not stored
 abbrev pub why_refused : Sizes → Refusal → Why
@@ -52,17 +52,17 @@ is_counted waiting came = has_to_wait came && nat_lt 0 waiting
 abbrev pub and_waiting : (waiting : ℕ) → (waits : Bool) → ℕ
 and_waiting waiting waits = if waits then min (waiting + 1) 4294967295 else waiting
 
-abbrev pub and_settled : (waiting : ℕ) → Settled → ℕ
+abbrev pub and_settled : (waiting : ℕ) → SettleOutcome → ℕ
 and_settled waiting settled.Right = waiting
 and_settled waiting (settled.Put came) = and_waiting waiting (has_to_wait came)
 and_settled waiting (settled.Replaced came) = and_waiting waiting (has_to_wait came)
 
 -- the object of this name and these sizes was settled so, and that is told of it
-abbrev pub TellsSettled : Sizes → Settled → Report → Report → List ℕ → Type 0
+abbrev pub TellsSettled : Sizes → SettleOutcome → Report → Report → List ℕ → Type 0
 TellsSettled sizes settled.Right old new name = new ≡ old
 TellsSettled sizes (settled.Put came) old new name =
     TellsUnless (is_counted sizes.waiting came) old new
-    (event_of name (met_for deed.Put came (why_not_stored sizes came)))
+    (event_of name (result_for deed.Put came (why_not_stored sizes came)))
 TellsSettled sizes (settled.Replaced came) old new name =
     TellsUnless (is_counted sizes.waiting came) old new
-    (event_of name (met_for deed.Replace came (why_not_stored sizes came)))
+    (event_of name (result_for deed.Replace came (why_not_stored sizes came)))

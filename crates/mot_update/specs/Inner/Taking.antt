@@ -14,7 +14,7 @@ use Rattle.mot_update.specs.Told.{AreAttemptsOf, answers_of, commands_of}
 use Rattle.mot_update.specs.Updating.{settling}
 use Rattle.mot_update.specs.declared.settling.Need.{Need}
 use Rattle.mot_update.specs.declared.settling.Need.TheVariants as need
-use Rattle.mot_update.specs.declared.settling.Settled.{Settled}
+use Rattle.mot_update.specs.declared.settling.SettleOutcome.{SettleOutcome}
 use Rattle.mot_update.specs.declared.wanted.Wanted.{Wanted}
 
 -- whether a command is needed
@@ -38,24 +38,24 @@ HasRoomFor view need.Put w =
 HasRoomFor view need.Replace w = HasGapFor view (length w.body)
 
 -- what was given
-abbrev pub given_if : Result (Option Settled) Refusal → Wanted → List Wanted
+abbrev pub given_if : Result (Option SettleOutcome) Refusal → Wanted → List Wanted
 given_if (Ok None) w = []
 given_if (Ok (Some settled)) w = w ∷ []
 given_if (Err refusal) w = w ∷ []
 
 -- what was to be done for it, and the marks of what was answered
-abbrev pub commands_if : Result (Option Settled) Refusal → List Object → Wanted → List Command
+abbrev pub commands_if : Result (Option SettleOutcome) Refusal → List Object → Wanted → List Command
 commands_if (Ok None) objects w = []
 commands_if (Ok (Some settled)) objects w = settling objects w
 commands_if (Err refusal) objects w = settling objects w
 
-abbrev pub marks_if : Result (Option Settled) Refusal → List Bool
+abbrev pub marks_if : Result (Option SettleOutcome) Refusal → List Bool
 marks_if (Ok None) = []
 marks_if (Ok (Some settled)) = marks_of_settling (Ok settled)
 marks_if (Err refusal) = []
 
 -- what was done is what was to be done, and its ids and its refusal are the command's
-abbrev pub IsDoneRightly : Layout → Standing → Wanted → Result (Option Settled) Refusal → Type 0
+abbrev pub IsDoneRightly : Layout → Standing → Wanted → Result (Option SettleOutcome) Refusal → Type 0
 IsDoneRightly layout s w (Ok None) = ⊤
 IsDoneRightly layout s w (Ok (Some settled)) =
     (settling s.carousel.objects w ≡ commands_of settled w)

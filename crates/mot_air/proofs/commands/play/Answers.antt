@@ -23,7 +23,7 @@ use Rattle.mot_line_folder.specs.declared.folder.LineFolder.{LineFolder}
 use Rattle.mot_endpoints.specs.Types.{IsTyped}
 use Rattle.mot_line_folder.specs.Spool.{SpoolView}
 use Rattle.mot_endpoints.specs.LinePlaces.{ChecksLines}
-use Rattle.mot_endpoints.specs.declared.lines.Others.{Others}
+use Rattle.mot_endpoints.specs.declared.lines.OtherFiles.{OtherFiles}
 use Rattle.mot_files.specs.Call.{Call}
 use Rattle.mot_shelf.specs.View.{FolderView}
 use Rattle.mot_suffixes.specs.Types.{SuffixType}
@@ -94,7 +94,7 @@ reads_asked eight every (Some path) (Some lines) same is =
     ∙ ap (λ (h : Option (List ℕ)). option_map {U = List ℕ × ℕ} (λ (x : List ℕ). (x, unwrap_or every eight - 1)) h) same
 
 -- the folder of lines is that of the words
-lines_asked : {S : Type 0} (calls : S → List Call) (path : Option (Bor (List ℕ))) (others : Others)
+lines_asked : {S : Type 0} (calls : S → List Call) (path : Option (Bor (List ℕ))) (others : OtherFiles)
     (lines : Option (LineFolder S))
     → option_map (λ (l : LineFolder S). l.place.path) lines ≡ path
     → IfSome lines (λ (l : LineFolder S). ChecksLines l.place.path.now others (Ok tt) []

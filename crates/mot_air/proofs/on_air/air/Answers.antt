@@ -16,11 +16,11 @@ use Rattle.mot_line_folder.specs.Spool.{SpoolView}
 use Rattle.mot_numbers.specs.declared.refusal.Refusal.{Refusal}
 use Rattle.mot_objects.specs.Carousel.{Carousel}
 use Rattle.mot_playout.specs.Attempts.{fault_of}
-use Rattle.mot_outcome.specs.declared.used.Beside.{Beside}
+use Rattle.mot_outcome.specs.declared.used.TaskCalls.{TaskCalls}
 use Rattle.mot_shelf.specs.View.{FolderView}
 
 -- what is told in this manner
-module _ (tale : Manner → FolderView → SpoolView → Tale) (beside : Beside)
+module _ (tale : Manner → FolderView → SpoolView → Tale) (beside : TaskCalls)
     (ending : Option Refusal) (before after : Option (List (List ℕ))) (start now : State) where
   abbrev AirsIn : Manner → Type 0
   AirsIn how = HandsOut ending beside

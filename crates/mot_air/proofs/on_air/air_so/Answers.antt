@@ -11,13 +11,13 @@ use Rattle.mot_files.specs.Call.{Call}
 use Rattle.mot_line_folder.specs.declared.folder.LineFolder.{LineFolder}
 use Rattle.mot_numbers.specs.declared.refusal.Refusal.{Refusal}
 use Rattle.mot_playout.specs.Attempts.{fault_of}
-use Rattle.mot_outcome.specs.declared.used.Beside.{Beside}
+use Rattle.mot_outcome.specs.declared.used.TaskCalls.{TaskCalls}
 use Rattle.mot_shelf.specs.Reader.{reader_path}
 use Rattle.mot_shelf.specs.View.{FolderView}
 
 -- what is told of a folder of lines, or of none
 module _ {S : Type 0} (calls : S → List Call) (w : Option Watch) (how : Manner)
-    (refused : Bool) (folder : FolderView) (beside : Beside) (ending : Option Refusal)
+    (refused : Bool) (folder : FolderView) (beside : TaskCalls) (ending : Option Refusal)
     (before after : Option (List (List ℕ))) (start now : State) where
   abbrev AirsSo : Option (LineFolder S) → Type 0
   AirsSo lines = HandsOut ending beside (λ then_folder then_lines. Plays (tale_with w

@@ -21,13 +21,13 @@ use Rattle.mot_endpoints.specs.declared.packets.Target.{Target}
 use Rattle.mot_numbers.specs.declared.refusal.Refusal.{Refusal}
 use Rattle.mot_numbers.specs.declared.refusal.Refusal.TheVariants.{DeviceFault, WriteFault}
 use Rattle.mot_outcome.specs.Outcome.{OnFile}
-use Rattle.mot_outcome.specs.declared.used.Beside.{Beside}
+use Rattle.mot_outcome.specs.declared.used.TaskCalls.{TaskCalls}
 use Rattle.mot_outcome.specs.declared.used.UsedDisk.TheVariants.{OfFile}
 use Rattle.mot_playout.specs.Attempts.{fault_of}
 use Rattle.mot_shelf.specs.View.{FolderView}
 
 -- the disk that is handed out is that of playing
-handed : (g : given.Over) (c : goal.After-of_file g) (P : FileDiskFrom _ _ _ → Beside → Type 0)
+handed : (g : given.Over) (c : goal.After-of_file g) (P : FileDiskFrom _ _ _ → TaskCalls → Type 0)
     → P c.play_into-end.result.ended.disk.disk c.play_into-end.result.beside
     → OnFile P (OfFile c.answered.result.disk.disk c.play_into-end.result.beside)
 handed g c P is =

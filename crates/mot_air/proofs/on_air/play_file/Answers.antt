@@ -2,7 +2,7 @@ use Rattle.std.proofs.Common.{ℕ, ◌∙◌, ◌-◌, Bool, ap, List, Option, R
 use Rattle.std.proofs.KnownBytes.{Keeps-refl}
 use Rattle.disk_store.specs.declared.file.start.Start.{Ghosts}
 use Rattle.mot_air.specs.Inner.Beside.{tale_aired}
-use Rattle.mot_air.specs.Inner.Unbegun.{IsUnbegun}
+use Rattle.mot_air.specs.Inner.StartError.{IsUnbegun}
 use Rattle.mot_numbers.specs.declared.refusal.Refusal.{Refusal}
 use Rattle.mot_outcome.specs.Outcome.{Concludes}
 use Rattle.mot_outcome.specs.declared.used.UsedDisk.{UsedDisk}

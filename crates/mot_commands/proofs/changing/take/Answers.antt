@@ -14,6 +14,8 @@ returns-clause-taken g c = record {
       c.carousel.ensures.value c.request_of-request.ensures;
   end = c.answer-end.result;
   answered = c.answer-end.ensures;
-  printed = c.print_reply.ensures.printed;
-  right = c.print_reply.ensures.right;
+  text = c.print_line.ensures.printed.0;
+  told = c.print_line.ensures.printed.1;
+  printed = c.print_line.ensures.printed.2;
+  right = c.print_line.ensures.right;
 }

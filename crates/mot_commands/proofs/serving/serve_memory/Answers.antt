@@ -42,9 +42,17 @@ returns-in_default-format g c =
 
 -- the disk that is served was just formatted
 pub returns : goal.returns
-returns g c = inr (record {
-  valid = c.if-not-is_valid.ensures.0 refl;
-  first = c.format.new.disk;
-  formatted = c.in-Ok.ensures.makes.ok tt;
-  served = c.serve_disk-ended.ensures.ended;
-})
+returns g c =
+    let unread = g.R.Read.remaining c.args.reader.now in
+    let left = g.R.Read.remaining c.serve_disk.new.reader in
+    let old = g.W.Write.contents c.args.writer.now in
+    let new = g.W.Write.contents c.serve_disk.new.writer in
+    let geometry = c.args.geometry in
+    subst (λ (f : _). Finishes (λ r. IsUnmade geometry r × Keeps unread left)
+    (λ ending used. ServesMemory geometry ending used unread left old new) f old new)
+    (sym c.in_memory.ensures) (inr (record {
+      valid = c.if-not-is_valid.ensures.0 refl;
+      first = c.format.new.disk;
+      formatted = c.in-Ok.ensures.makes.ok tt;
+      served = c.serve_disk.ensures.ended;
+    }))

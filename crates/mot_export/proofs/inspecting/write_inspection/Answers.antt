@@ -19,7 +19,7 @@ use Rattle.mot_repository.specs.Repository.{Agrees}
 use Rattle.mot_playout.specs.Server.{place_in}
 use Rattle.mot_session.specs.Served.{WritesFront}
 use Rattle.mot_export.specs.Inspecting.{rates_of, sizes_text, turn_lengths_text, turn_text}
-use Rattle.mot_export.specs.Inspecting.{use_text, waits_text}
+use Rattle.mot_export.specs.Inspecting.{use_text, usual_pause, waits_text}
 use Rattle.mot_export.specs.Inner.Inspected.{HasInspected}
 use Rattle.mot_export.proofs.Inspected.{front_text, same_size, told_text, turn_size_of, waits_so}
 use Rattle.mot_export.proofs.inspecting.write_inspection.Given as given
@@ -58,8 +58,9 @@ inspected g c is_printed printed s agrees =
     ++ turn_text turn
     ++ turn_lengths_text rates journal.geometry.segment
     (turn_of_carousel (carousel_of view.carousel agrees.bodies) journal.geometry.segment) in
-    let waits = waits_text (div_ceil (geometry.segment + 11) (packet_room geometry))
-    c.directory_packets-directory.result turn.packets in
+    let waits = waits_text (usual_pause c.args.rate geometry.packet)
+    (div_ceil (geometry.segment + 11) (packet_room geometry)) c.directory_packets-directory.result
+    turn.packets in
     let text : c.deref.result.now ≡ whole ++ waits =
     c.deref.ensures.value ∙ c.in-Ok-write_waits.ensures.written
     ∙ ap (λ l. l ++ waits) (told.2 ∙ ap (λ l. l ++ whole) c.new-text.ensures.items) in
@@ -69,7 +70,7 @@ inspected g c is_printed printed s agrees =
           (subst (λ (g : Geometry). IsLongestGap view.extents g.area gap) agrees.geometry told.1);
       printed = subst is_printed (text
           ∙ ap (λ l. l ++ waits) (told_text view s agrees journal.geometry gap turn rates refl size)
-          ∙ waits_so (front_text s journal.layout journal.count gap rates) geometry journal.geometry
+          ∙ waits_so (front_text s journal.layout journal.count gap rates) c.args.rate geometry journal.geometry
           s.geometry c.directory_packets-directory.result (directory_packets (place_in c.args.server.now s))
           turn.packets (turn_size_of s).packets same agrees.geometry
           (c.directory_packets-directory.ensures.value s) (ap (λ t. t.packets) size)) printed;

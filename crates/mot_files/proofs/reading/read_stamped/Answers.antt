@@ -2,7 +2,7 @@ use Rattle.std.proofs.Common.{◌≡◌, ◌∙◌, ap, refl, subst, sym}
 use Rattle.mot_files.specs.Reading.{IsRead, IsUnread}
 use Rattle.mot_files.specs.Reading.IsUnread.{unnamed}
 use Rattle.mot_files.specs.Stamping.{stamp_at}
-use Rattle.mot_files.specs.declared.reading.Unread.TheVariants.{System}
+use Rattle.mot_files.specs.declared.reading.ReadFailure.TheVariants.{System}
 use Rattle.mot_files.proofs.reading.read_stamped.Goals as goal
 
 pub returns-in-Err-clause-calls : goal.returns-in-Err-clause-calls

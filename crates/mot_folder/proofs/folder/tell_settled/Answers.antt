@@ -9,10 +9,10 @@ use Rattle.mot_folder.proofs.folder.tell_settled.Goals as goal
 use Rattle.mot_shelf.specs.Given.{Given}
 use Rattle.mot_suffixes.specs.Types.{SuffixType}
 use Rattle.mot_update.specs.Told.{Answer, Put, Replaced, TellsBoth, answers_of}
-use Rattle.mot_update.specs.declared.settling.Settled.{Settled}
+use Rattle.mot_update.specs.declared.settling.SettleOutcome.{SettleOutcome}
 
 -- the answer is that to the object of this name, which was settled so
-answered : (old new : Report) (waiting : ℕ) (name is : List ℕ) (settled : Settled)
+answered : (old new : Report) (waiting : ℕ) (name is : List ℕ) (settled : SettleOutcome)
     (answer : List ℕ → Answer) → name ≡ is → answers_of is settled ≡ answer is ∷ []
     → and_settled waiting settled ≡ and_waiting waiting (is_waiting (answer name))
     → ((types : List SuffixType) (given : Given) (names : List (List ℕ))

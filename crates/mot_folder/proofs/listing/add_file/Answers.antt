@@ -5,7 +5,7 @@ use Rattle.mot_objects.specs.declared.name.TheConstants.{MAX_NAME}
 use Rattle.mot_objects.specs.Name.{IsName, is_name}
 use Rattle.mot_folder.proofs.Log.{tells_same, tells_unread}
 use Rattle.mot_folder.proofs.Nameless.{nameless_named, nameless_told}
-use Rattle.mot_folder.proofs.Seen.{object_added, object_left_out}
+use Rattle.mot_folder.proofs.FileStat.{object_added, object_left_out}
 use Rattle.mot_folder.proofs.listing.add_file.Goals as goal
 
 pub returns-in_ok-add-in-Ok-clause-added : goal.returns-in_ok-add-in-Ok-clause-added

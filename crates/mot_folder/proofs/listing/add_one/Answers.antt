@@ -7,8 +7,8 @@ use Rattle.mot_folder.specs.Listed.{and_object}
 use Rattle.mot_folder.specs.declared.listing.TheConstants.{MAX_NAMES}
 use Rattle.mot_folder.proofs.Log.{tells_same}
 use Rattle.mot_folder.proofs.Order.{shown_where}
-use Rattle.mot_folder.proofs.Seen.{asked_failed, asked_nothing, asked_one, call_failed, of_file}
-use Rattle.mot_folder.proofs.Seen.{of_other, too_many, without_type}
+use Rattle.mot_folder.proofs.FileStat.{asked_failed, asked_nothing, asked_one, call_failed, of_file}
+use Rattle.mot_folder.proofs.FileStat.{of_other, too_many, without_type}
 use Rattle.mot_folder.proofs.Stages.{later_beside}
 use Rattle.mot_folder.proofs.Unlisted.{stops_so}
 use Rattle.mot_folder.proofs.listing.add_one.Goals as goal

@@ -1,6 +1,6 @@
 use Rattle.std.proofs.Common.{◌∙◌, length, subst}
 use Rattle.mot_events.specs.Events.{event_of}
-use Rattle.mot_events.specs.declared.event.Met.TheVariants.{Going}
+use Rattle.mot_events.specs.declared.event.LookResult.TheVariants.{Going}
 use Rattle.mot_folder.specs.Log.{TellsOne}
 use Rattle.mot_folder.proofs.looking.note_most.Goals as goal
 

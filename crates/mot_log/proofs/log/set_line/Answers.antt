@@ -1,6 +1,6 @@
 use Rattle.std.proofs.Common.{◌≡◌, ◌++◌, ◌+◌, ◌∙◌, ◌∷◌, List, [], ap, length, take, ℕ}
 use Rattle.std.proofs.Math.Seq.{take-append-add}
-use Rattle.mot_log.specs.Tally.{tally_of}
+use Rattle.mot_log.specs.EventClass.{class_of}
 use Rattle.mot_log.specs.Text.{level_words, text_of}
 use Rattle.mot_log.proofs.log.set_line.Goals as goal
 
@@ -13,7 +13,7 @@ cut front text line n e =
 
 pub returns : goal.returns
 returns c =
-    let front = level_words c.args.levels (tally_of c.args.event.now) in
+    let front = level_words c.args.levels (class_of c.args.event.now) in
     let text = text_of c.args.event.now in
     let line = c.add_text.new.text.items in
     c.in_ok-push.ensures.items ∙ ap (λ (l : List ℕ). l ++ 10 ∷ []) c.truncate.ensures.items

@@ -8,7 +8,7 @@ use Rattle.mot_cli.specs.declared.task.Task.TheVariants.{Memory, Format, Copy, P
 use Rattle.mot_cli.specs.declared.task.Task.TheVariants.{Health}
 use Rattle.mot_cli.specs.declared.task.Task.TheVariants.{PutFiles, WithdrawNames, OnDisk}
 use Rattle.mot_commands.specs.Commands.{DoesOnFile, FormatsFile, FormatsFree, IsUnformatted}
-use Rattle.mot_commands.specs.Commands.{IsUnmade, ServesMemory}
+use Rattle.mot_commands.specs.Commands.{IsUnmade, ServesMemory, only_looks}
 use Rattle.mot_commands.specs.Changing.{PutsFiles, WithdrawsFile, texts}
 use Rattle.mot_commands.specs.Health.{TellsHealth}
 use Rattle.mot_copy_command.specs.Command.{CopiesFile, OpensTwo}
@@ -16,7 +16,7 @@ use Rattle.mot_endpoints.specs.Types.{IsUntyped}
 use Rattle.mot_files.specs.Call.{Call}
 use Rattle.mot_numbers.specs.declared.refusal.Refusal.{Refusal}
 use Rattle.mot_numbers.specs.declared.refusal.Refusal.TheVariants.{DeviceFault, OutOfMemory}
-use Rattle.mot_outcome.specs.Outcome.{Opens, status_in}
+use Rattle.mot_outcome.specs.Outcome.{OpensOrReads, status_in}
 use Rattle.mot_playout.specs.Attempts.{fault_of}
 use Rattle.mot_server.specs.Inner.Coming.{ComesOut}
 use Rattle.mot_server.specs.Program.{UsesFor}
@@ -102,9 +102,10 @@ returns-in-OnDisk-clause-files g c =
     let new = g.M.System.System.calls c.work_on_file.new.host.system in
     let done = c.whole-in-OnDisk.result in
     subst (λ (t : Task). UsesFor (status_in done.result) (fault_of done.result) t done.disk old new) (sym c.in-OnDisk.is)
-    (subst (λ (w : _). Opens [] c.in-OnDisk.disk.now (fault_of w.result) w.disk old new)
-    (sym c.whole-in-OnDisk.ensures)
-    (opens_whole c.work_on_file.result.result c.in-OnDisk.disk.now c.work_on_file.result.disk old new c.work_on_file.ensures.files))
+    (subst (λ (w : _). OpensOrReads (only_looks c.in-OnDisk.work) [] c.in-OnDisk.disk.now (fault_of w.result) w.disk
+    old new) (sym c.whole-in-OnDisk.ensures)
+    (opens_whole c.work_on_file.result.result (only_looks c.in-OnDisk.work) c.in-OnDisk.disk.now
+    c.work_on_file.result.disk old new c.work_on_file.ensures.files))
 
 pub returns-in-Memory-clause-files : goal.returns-in-Memory-clause-files
 returns-in-Memory-clause-files g c =

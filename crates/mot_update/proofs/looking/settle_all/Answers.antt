@@ -10,7 +10,7 @@ use Rattle.mot_repository.specs.Repository.{Holds}
 use Rattle.mot_update.specs.HasRun.{HasRun, marks_of_settling}
 use Rattle.mot_update.specs.Inner.Taking.{IsDoneRightly, commands_if, given_if, marks_if}
 use Rattle.mot_update.specs.Looking.{Gives}
-use Rattle.mot_update.specs.declared.settling.Settled.{Settled}
+use Rattle.mot_update.specs.declared.settling.SettleOutcome.{SettleOutcome}
 use Rattle.mot_update.specs.Told.{AreAnswers, TellsSince, answers_of}
 use Rattle.mot_update.proofs.Answers.{answers-settled, both_gives, both_kept, both_nil, both_on}
 use Rattle.mot_update.proofs.Answers.{both_trans}
@@ -146,7 +146,7 @@ loop-wanted-preserved g c =
           let answers = answers_of w.name settled in
           let right : (t : Standing) → Holds mid.view t (state mid.disk)
           → IsDoneRightly mid.view.journal.layout t w (Ok (Some settled)) =
-          λ t held. subst (λ (o : Option Settled). IsDoneRightly mid.view.journal.layout t w (Ok o))
+          λ t held. subst (λ (o : Option SettleOutcome). IsDoneRightly mid.view.journal.layout t w (Ok o))
           some (two.right t held honest) in (
             settled_more old mid new (state old.disk) (state mid.disk) (state new.disk) s names
                 (place c.args.source.now) (place begun) (place last)
@@ -158,11 +158,11 @@ loop-wanted-preserved g c =
                   subst (λ l. slice_get l n.0 ≡ Some w.name) is.same n.3,
                 )
                 (gives_trans (given begun) (given c.next.new.self) (given taken) [] (w ∷ [])
-                next.gives (subst (λ (o : Option Settled). Gives (given c.next.new.self)
+                next.gives (subst (λ (o : Option SettleOutcome). Gives (given c.next.new.self)
                 (given taken) (given_if (Ok o) w)) some two.gives))
                 told.gives so_far.0 (marks_of_settling (Ok settled)) answers
                 (g.S.Source.is_fine last)
-                (λ t held. subst (λ (o : Option Settled). HasRun mid new (state mid.disk)
+                (λ t held. subst (λ (o : Option SettleOutcome). HasRun mid new (state mid.disk)
                 (state new.disk) t (commands_if (Ok o) t.carousel.objects w) (marks_if (Ok o)) None)
                 some (two.run t held honest))
                 (λ t held. subst (λ l. AreAnswers answers l (marks_of_settling (Ok settled)))
@@ -180,7 +180,7 @@ loop-wanted-preserved g c =
                 (both_on (was_told begun) (was_told taken) (was_told last) answers (w ∷ [])
                 (both_gives (was_told begun) (g.S.Source.offers c.next.new.self w)
                 (was_told taken) [] [] (w ∷ []) next.told
-                (subst (λ (o : Option Settled). TellsSince (g.S.Source.offers c.next.new.self w)
+                (subst (λ (o : Option SettleOutcome). TellsSince (g.S.Source.offers c.next.new.self w)
                 (was_told taken) [] (given_if (Ok o) w)) some two.told))
                 (subst (λ l. TellsSince (was_told taken) (was_told last) (answers_of l settled) [])
                 (two.source.2 ∙ next.last) told.told)),
@@ -222,17 +222,17 @@ loop-wanted-preserved-in_default-2 g c =
                 (given c.args.source.now) (given begun) (given taken) (g.S.Source.is_fine begun)
                 (g.S.Source.is_fine taken) (omega (arith, low, high, stays))
                 (gives_trans (given begun) (given c.next.new.self) (given taken) [] [] next.gives
-                (subst (λ (o : Option Settled). Gives (given c.next.new.self) (given taken)
+                (subst (λ (o : Option SettleOutcome). Gives (given c.next.new.self) (given taken)
                 (given_if (Ok o) w)) none two.gives))
                 (λ e. (two.fine e).1 (ap Ok none)) so_far.0
-                (λ t held. subst (λ (o : Option Settled). HasRun mid new (state mid.disk)
+                (λ t held. subst (λ (o : Option SettleOutcome). HasRun mid new (state mid.disk)
                 (state new.disk) t (commands_if (Ok o) t.carousel.objects w) (marks_if (Ok o)) None)
                 none (two.run t held honest)),
             both_kept (was_told c.args.source.now) (was_told begun) (was_told taken)
                 so_far.0.answers so_far.0.wanted so_far.1
                 (both_gives (was_told begun) (g.S.Source.offers c.next.new.self w)
                 (was_told taken) [] [] [] next.told
-                (subst (λ (o : Option Settled). TellsSince (g.S.Source.offers c.next.new.self w)
+                (subst (λ (o : Option SettleOutcome). TellsSince (g.S.Source.offers c.next.new.self w)
                 (was_told taken) [] (given_if (Ok o) w)) none two.told)),
           );
       fine = λ e. is.fine (next.fine (two.fine e).0);

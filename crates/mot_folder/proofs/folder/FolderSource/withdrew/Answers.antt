@@ -1,5 +1,5 @@
 use Rattle.std.proofs.Common.{[], subst, take}
-use Rattle.mot_events.specs.declared.event.Deed.TheVariants as deed
+use Rattle.mot_events.specs.declared.event.LookStep.TheVariants as deed
 use Rattle.mot_events.specs.declared.event.Why.TheVariants.{Unsaid}
 use Rattle.mot_folder.specs.Log.{TellsOne, answered}
 use Rattle.mot_folder.proofs.Knowing.{knows_withdrew}

@@ -18,7 +18,7 @@ use Rattle.mot_shelf.specs.Given.{nothing}
 use Rattle.mot_shelf.specs.Gives.{GaveSo}
 use Rattle.mot_shelf.specs.Reader.{view}
 use Rattle.mot_update.specs.Between.{IsUpdating, may_look}
-use Rattle.mot_update.specs.declared.moment.Moment.{Moment}
+use Rattle.mot_update.specs.declared.moment.UpdatePoint.{UpdatePoint}
 use Rattle.mot_update.proofs.Laws.{has_read}
 
 twice_not : (b : Bool) → b ≡ not (not b)
@@ -36,7 +36,7 @@ so_is before behind report {left} paced kept =
 
 -- a look runs commands, and tells of them
 updating_by : {D : Type 0} (old new : ServerView D) (start now : State) (s : Standing)
-    (w after : Watch) (moment : Moment) (before behind : LooksSoFar)
+    (w after : Watch) (moment : UpdatePoint) (before behind : LooksSoFar)
     (report : Report) (fault : Option Refusal)
     → after ≡ w → is_look_due before.left (may_look moment) ≡ true
     → behind.left ≡ packets_left report.any_left w.every
@@ -59,7 +59,7 @@ updating_by old new start now s w after moment before behind report fault same d
     }
 
 -- whether a look is due
-due_is : (left : ℕ) (moment : Moment) (may due : Bool) → may ≡ may_look moment
+due_is : (left : ℕ) (moment : UpdatePoint) (may due : Bool) → may ≡ may_look moment
     → due ≡ is_look_due left may → is_look_due left (may_look moment) ≡ due
 due_is left moment may due same is = sym (is ∙ ap (is_look_due left) same)
 

@@ -5,12 +5,12 @@ use Rattle.mot_numbers.specs.Geometry.{packet_room}
 use Rattle.mot_objects.specs.Stands.{AreBodiesOf, carousel_of}
 use Rattle.mot_player.specs.Turn.{turn_of_carousel}
 use Rattle.mot_repository.specs.Repository.{RepositoryView}
-use Rattle.mot_status.specs.declared.turn.Measured.{Measured}
+use Rattle.mot_status.specs.declared.turn.TurnMeasurement.{TurnMeasurement}
 
 -- It is that of the carousel with these ids of the directory and the cursor: it was known of it, or
 -- it is so many packets, and their bytes, as the turn of the carousel has, and the checksum of its
 -- directory.
-abbrev pub IsMeasured : (known : Option Measured) → RepositoryView → Measured → Type 0
+abbrev pub IsMeasured : (known : Option TurnMeasurement) → RepositoryView → TurnMeasurement → Type 0
 IsMeasured known view measured =
     (measured.directory ≡ view.carousel.directory) × (measured.cursor ≡ view.carousel.cursor)
     × ((known ≡ Some measured)
