@@ -161,6 +161,7 @@ class Faults(LineFiles):
         os.unlink(self.asked / "1.lines")
         send(self.asked, "2.lines", b"period 2\n")
         player.until("done directory 3")
+        until(lambda: not self.left())
         self.expect("a file that is gone is removed, and the next is taken",
                     (["done directory 2", "done directory 3"], []), (player.end(), self.left()))
 
