@@ -176,6 +176,8 @@ pub enum Event<'a> {
     Look(&'a LookEvent),
     /// A look ended.
     Looked,
+    /// A look at the folder of this path took so many seconds.
+    LookTook(&'a [u8], u64),
     /// Of files of lines, the one of this name is left or is the last, or the folder of this path
     /// can't be read.
     LinesRefused(&'a [u8], Refusal, &'a Why),

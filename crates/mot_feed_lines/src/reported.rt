@@ -51,6 +51,7 @@ impl<U: Update + LookHistory + Drop, T: Watch + Drop> Update for WatchedUpdate<U
             (D.state server.old.disk) (D.state server.new.disk) s (fault_of result) }
     {
         self.watch.begin(server, alloc, moment);
+        self.watch.begin_look(self.update.is_due(moment));
         let result = self.update.update(server, alloc, moment);
         self.watch.end(server, alloc, &self.update);
         result

@@ -463,4 +463,15 @@ impl<'a, S: System + Drop> LookHistory for Looks<'a, S> {
     {
         self.before.as_slice()
     }
+
+    fn folder(&self) -> &str {
+        self.folder.shelf.shown()
+    }
+
+    #[inline(always)]
+    fn is_due(&self, moment: UpdatePoint) -> bool
+        ensures { result ≡ is_look_due self.now.left (may_look moment) }
+    {
+        self.left <= 1 && moment.may_look()
+    }
 }

@@ -36,6 +36,7 @@ class_of_reply (reply.Shown text) = News
 abbrev pub class_of : Event → EventClass
 class_of (event.Look look) = class_of_result look.now.met
 class_of event.Looked = Look
+class_of (event.LookTook folder seconds) = Doubt
 class_of (event.LinesRefused name refusal why) = LineRefusal refusal
 class_of (event.Answered file number verb subject answer) = class_of_reply answer
 class_of (event.StatusRefused path why) = Refusal WriteFault
@@ -43,7 +44,8 @@ class_of (event.Stopped refusal) = Stop refusal
 class_of other = News
 
 -- the end of the program is an error; a refusal is a warning, and that most objects go, or would
--- go, or that an object's bytes are of another image type than its suffix says
+-- go, that an object's bytes are of another image type than its suffix says, or that a look took
+-- long
 abbrev pub level_of : EventClass → Level
 level_of (Stop refusal) = Error
 level_of (Refusal refusal) = Warning

@@ -156,9 +156,14 @@ abbrev pub status_written_text : (path : List ℕ) → List ℕ
 status_written_text path = codes "status " ++ shown_name path ++ codes " written"
 
 -- the text of an event
+abbrev pub took_text : List ℕ → ℕ → List ℕ
+took_text folder seconds =
+    codes "look " ++ shown_name folder ++ codes " took " ++ decimal seconds ++ codes " s"
+
 abbrev pub text_of : Event → List ℕ
 text_of (event.Look look) = result_text look.now.name look.now.met
 text_of event.Looked = []
+text_of (event.LookTook folder seconds) = took_text folder.now seconds
 text_of (event.LinesRefused name refusal why) =
     codes "lines " ++ shown_name name.now ++ codes " " ++ refused_words refusal why.now
 text_of (event.LinesReadable folder) =

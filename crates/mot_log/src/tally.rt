@@ -25,7 +25,7 @@ pub enum EventClass {
     Kept,
     /// More than half of the objects go, and more than three.
     Going,
-    /// Something is on air that a receiver may not show: nothing is counted.
+    /// Something is on air that a receiver may not show, or a look took long: nothing is counted.
     Doubt,
     /// Nothing is counted.
     News,
@@ -93,6 +93,7 @@ impl EventClass {
         match event {
             Event::Look(look) => EventClass::of_met(&look.met),
             Event::Looked => EventClass::Look,
+            Event::LookTook(_, _) => EventClass::Doubt,
             Event::LinesRefused(_, refusal, _) => EventClass::LineRefusal(*refusal),
             Event::Answered(_, _, _, _, reply) => EventClass::of_reply(reply),
             Event::StatusRefused(_, _) => EventClass::Refusal(Refusal::WriteFault),

@@ -6,7 +6,7 @@ ghost use Rattle.mot_log.specs.Text.{step_words, done_words, met_line, result_te
 ghost use Rattle.mot_log.specs.Text.{image_word, image_words, program_words, some_image_word};
 ghost use Rattle.mot_log.specs.Text.{reason_words, sizes_words, turn_words};
 ghost use Rattle.mot_log.specs.Text.{refusal_words, refused_words, reply_text};
-ghost use Rattle.mot_log.specs.Text.{subject_words, text_of, verb_words, why_words};
+ghost use Rattle.mot_log.specs.Text.{subject_words, text_of, took_text, verb_words, why_words};
 ghost use Rattle.mot_lines.specs.Text.{taken_words};
 ghost use Rattle.mot_numbers.specs.declared.refusal.Refusal.TheVariants.{WriteFault, OutOfMemory};
 ghost use Rattle.mot_suffixes.specs.Shown.{shown};
@@ -27,6 +27,7 @@ pub fn add_text(text: &mut Vec<u8>, event: &Event<'_>) -> Result<(), AllocError>
     match event {
         Event::Look(look) => add_met(text, look),
         Event::Looked => Ok(()),
+        Event::LookTook(folder, seconds) => add_took(text, folder, *seconds),
         Event::LinesRefused(name, refusal, why) => add_lines_refused(text, name, *refusal, why),
         Event::LinesReadable(folder) => add_around(text, "lines ", folder, " readable"),
         Event::Answered(file, number, verb, subject, reply) => {
@@ -487,6 +488,15 @@ fn ascii_byte(byte: u8) -> u8
         return byte;
     }
     b'?'
+}
+
+/// Adds how many seconds a look took.
+fn add_took(text: &mut Vec<u8>, folder: &[u8], seconds: u64) -> Result<(), AllocError>
+    ensures { OnOk result (text.new.items ≡ text.old.items ++ took_text folder.now seconds) }
+{
+    add_around(text, "look ", folder, " took ")?;
+    add_number(text, seconds)?;
+    add(text, " s")
 }
 
 /// Adds a number.

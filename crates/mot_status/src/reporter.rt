@@ -7,7 +7,7 @@ use crate::turn::{TurnMeasurement, measure};
 use disk_model::Disk;
 use mot_endpoints::StatusFile;
 use mot_events::{Event, LookEvent, Tells};
-use mot_files::System;
+use mot_files::{System, Time};
 use mot_listening::TurnSize;
 use mot_log::EventLog;
 use mot_playout::Server;
@@ -17,6 +17,12 @@ use std::io::Write;
 
 /// After how many packets the status is written again.
 const PACKETS: u64 = 1_000;
+
+/// From how many seconds on a look took long.
+const LONG: u64 = 2;
+
+/// How many nanoseconds a second has.
+const NANOS: u128 = 1_000_000_000;
 
 /// Room for the text of a status. That of many objects or refused files takes more.
 const ROOM: usize = 16_384;
@@ -57,6 +63,8 @@ pub struct Reporter<'a, S: System + Drop, W: Write + Drop> {
     last_change: u64,
     /// Whether the log says that the status is not written.
     is_unwritten: bool,
+    /// When the last look began, if that is known.
+    look_began: Option<Time>,
 }
 
 impl<'a, S: System + Drop, W: Write + Drop> Reporter<'a, S, W> {
@@ -83,6 +91,7 @@ impl<'a, S: System + Drop, W: Write + Drop> Reporter<'a, S, W> {
             changes: 0,
             last_change: 0,
             is_unwritten: false,
+            look_began: None,
         }
     }
 
@@ -104,6 +113,20 @@ impl<'a, S: System + Drop, W: Write + Drop> Reporter<'a, S, W> {
         self.looks = update.looks();
         if is_new {
             self.log.tell_look(update.events(), update.events_before());
+            self.tell_took(update.folder());
+        }
+    }
+
+    /// Tells how long the last look took, if that was long and the time is known.
+    fn tell_took(&mut self, folder: &str) {
+        let (Some(began), Some(now)) = (self.look_began, time_of(&mut self.status)) else {
+            return;
+        };
+        let seconds = now.nanos.saturating_sub(began.nanos) / NANOS;
+        if let Ok(seconds) = u64::try_from(seconds)
+            && seconds >= LONG
+        {
+            self.log.tell(&Event::LookTook(folder.as_bytes(), seconds));
         }
     }
 
@@ -192,6 +215,14 @@ impl<'a, S: System + Drop, W: Write + Drop> Watch for Reporter<'a, S, W> {
         }
     }
 
+    /// Notes when a look begins.
+    #[inline(always)]
+    fn begin_look(&mut self, is_look: bool) {
+        if is_look {
+            self.look_began = time_of(&mut self.status);
+        }
+    }
+
     /// Tells what is due after an update: what the last look met, if there was one since, and the
     /// status after a look and after each 1,000 packets.
     #[inline(always)]
@@ -243,8 +274,14 @@ fn ask_time<S: System + Drop>(
     if !grew {
         return seconds;
     }
+    seconds_or(time_of(status), seconds)
+}
+
+/// The time, if there is a system to be asked for it.
+#[inline(never)]
+fn time_of<S: System + Drop>(status: &mut Option<StatusFile<'_, S>>) -> Option<Time> {
     match status {
-        Some(file) => seconds_or(file.now(), seconds),
-        None => seconds,
+        Some(file) => file.now(),
+        None => None,
     }
 }

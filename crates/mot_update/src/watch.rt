@@ -1,5 +1,5 @@
 //! What watches updates, and tells of them.
-ghost use Rattle.std.specs.Prelude.{◌≡◌, []};
+ghost use Rattle.std.specs.Prelude.{◌≡◌, [], false};
 
 use crate::between::NoUpdate;
 use crate::moment::UpdatePoint;
@@ -18,6 +18,12 @@ pub trait LookHistory {
 
     /// What the look before it met.
     fn events_before(&self) -> &[LookEvent];
+
+    /// The folder that is looked at; none, if it is no folder.
+    fn folder(&self) -> &str;
+
+    /// Whether there is a look in an update at this moment.
+    fn is_due(&self, moment: UpdatePoint) -> bool;
 }
 
 impl LookHistory for NoUpdate {
@@ -38,12 +44,27 @@ impl LookHistory for NoUpdate {
     {
         &[]
     }
+
+    fn folder(&self) -> &str
+        ensures { result.now ≡ [] }
+    {
+        ""
+    }
+
+    fn is_due(&self, _moment: UpdatePoint) -> bool
+        ensures { result ≡ false }
+    {
+        false
+    }
 }
 
 /// What is told of updates. It reads the server, and changes nothing of it.
 pub trait Watch: Tells {
     /// An update begins.
     fn begin<D: Disk>(&mut self, server: &Server<D>, alloc: Global, moment: UpdatePoint);
+
+    /// Its look begins, if there is one in it.
+    fn begin_look(&mut self, is_look: bool);
 
     /// It has ended, and these are its looks.
     fn end<D: Disk, U: LookHistory>(&mut self, server: &Server<D>, alloc: Global, update: &U);
