@@ -37,12 +37,12 @@ names_work name = bytes_eq name (codes "serve") || bytes_eq name (codes "check")
 work_named : (name : Text) (rows : List Row) (work : DiskTask) → IsWork name rows work
     → names_work name ≡ true
 work_named name rows Serve is = ap names_work is
-work_named name rows Check is = ap names_work is
+work_named name rows (Check form) is = ap names_work is.0
 work_named name rows Migrate is = ap names_work is
-work_named name rows ListObjects is = ap names_work is
+work_named name rows (ListObjects form) is = ap names_work is.0
 work_named name rows (GetBody object) is = ap names_work is.0
 work_named name rows Export is = ap names_work is
-work_named name rows (Inspect rate) is = ap names_work is.0
+work_named name rows (Inspect rate form) is = ap names_work is.0
 
 -- another name asks for none of that
 elsewhere : (name : Text) (rows : List Row) (work : DiskTask) → names_work name ≡ false

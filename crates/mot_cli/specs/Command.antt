@@ -42,9 +42,13 @@ abbrev pub sync_app : App
 sync_app = with_rule (with_looks (with_rule (disk_app (codes "sync")) (word_rule (codes "DIR"))))
     (flag_rule (codes "dry-run"))
 
+-- what is printed as JSON, if that is asked for
+abbrev pub with_json : App → App
+with_json a = with_rule a (flag_rule (codes "json"))
+
 abbrev pub health_app : App
-health_app = with_rule (with_rule (new_app (codes "health")) (word_rule (codes "STATUS")))
-    (number_rule (codes "max-age"))
+health_app = with_json (with_rule (with_rule (new_app (codes "health")) (word_rule (codes "STATUS")))
+    (number_rule (codes "max-age")))
 
 -- single objects: their files, their names, and the name of one
 abbrev pub put_app : App
@@ -58,7 +62,7 @@ abbrev pub get_app : App
 get_app = with_rule (disk_app (codes "get")) (word_rule (codes "NAME"))
 
 abbrev pub inspect_app : App
-inspect_app = with_rule (disk_app (codes "inspect")) (number_rule (codes "rate"))
+inspect_app = with_json (with_rule (disk_app (codes "inspect")) (number_rule (codes "rate")))
 
 -- the program with all its commands
 abbrev pub motcar_app : App
@@ -71,13 +75,13 @@ motcar_app =
     play_app.top)
     sync_app.top)
     health_app.top)
-    (disk_app (codes "list")).top)
+    (with_json (disk_app (codes "list"))).top)
     put_app.top)
     withdraw_app.top)
     get_app.top)
     (disk_app (codes "serve")).top)
     inspect_app.top)
-    (disk_app (codes "check")).top)
+    (with_json (disk_app (codes "check"))).top)
     copy_app.top)
     (disk_app (codes "export")).top)
     (disk_app (codes "migrate")).top)

@@ -12,6 +12,8 @@ use Rattle.mot_cli.specs.declared.playing.LookRules.{LookRules}
 use Rattle.mot_cli.specs.declared.task.DiskTask.{DiskTask}
 use Rattle.mot_cli.specs.declared.task.DiskTask.TheVariants.{Serve, Check, Migrate, ListObjects}
 use Rattle.mot_cli.specs.declared.task.DiskTask.TheVariants.{GetBody, Export, Inspect}
+use Rattle.mot_cli.specs.declared.task.Form.{Form}
+use Rattle.mot_cli.specs.declared.task.Form.TheVariants.{Json, Words}
 use Rattle.mot_cli.specs.declared.task.NoTask.{NoTask}
 use Rattle.mot_cli.specs.declared.task.NoTask.TheVariants.{Lacks, OutOfRange}
 use Rattle.mot_cli.specs.declared.task.Task.{Task}
@@ -52,15 +54,20 @@ is_age (Some age) = nat_le 1 age && nat_le age 86400
 abbrev pub GiveAge : List Row → Option ℕ → Type 0
 GiveAge rows age = IsGiven (first_of (codes "max-age") rows) age × (is_age age ≡ true)
 
+-- how a command prints what it is asked for
+abbrev pub form_in : List Row → Form
+form_in rows = if is_set rows (codes "json") then Json else Words
+
 -- a command of this name, with these words behind it, asks for this to be done with a disk
 abbrev pub IsWork : Text → List Row → DiskTask → Type 0
 IsWork name rows Serve = name ≡ codes "serve"
-IsWork name rows Check = name ≡ codes "check"
+IsWork name rows (Check form) = (name ≡ codes "check") × (form ≡ form_in rows)
 IsWork name rows Migrate = name ≡ codes "migrate"
-IsWork name rows ListObjects = name ≡ codes "list"
+IsWork name rows (ListObjects form) = (name ≡ codes "list") × (form ≡ form_in rows)
 IsWork name rows (GetBody object) = (name ≡ codes "get") × NameWord rows (codes "NAME") object.now
 IsWork name rows Export = name ≡ codes "export"
-IsWork name rows (Inspect rate) = (name ≡ codes "inspect") × GiveRate rows rate
+IsWork name rows (Inspect rate form) =
+    (name ≡ codes "inspect") × GiveRate rows rate × (form ≡ form_in rows)
 
 -- a command of this name, with these words behind it, is this task
 abbrev pub IsTask : Text → List Row → Task → Type 0
@@ -90,6 +97,7 @@ IsTask name rows (Sync sync) =
     × AreRules rows sync.rules × (sync.dry_run ≡ is_set rows (codes "dry-run"))
 IsTask name rows (Health h) =
     (name ≡ codes "health") × NameWord rows (codes "STATUS") h.status.now × GiveAge rows h.max_age
+    × (h.form ≡ form_in rows)
 IsTask name rows (PutFiles disk files types) =
     (name ≡ codes "put") × NameWord rows (codes "DISK") disk.now
     × NameWords rows (codes "FILE") files.now × NameOption rows (codes "types") types

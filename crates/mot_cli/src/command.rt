@@ -55,12 +55,12 @@ const VERBS: &[Verb] = &[
     Verb {
         name: "health",
         about: "Say whether a disk on air sends packets, by when its status was written",
-        arguments: &[WRITTEN, MAX_AGE],
+        arguments: &[WRITTEN, MAX_AGE, JSON],
     },
     Verb {
         name: "list",
         about: "Print the objects of a disk",
-        arguments: &[DISK],
+        arguments: &[DISK, JSON],
     },
     Verb {
         name: "put",
@@ -85,26 +85,17 @@ const VERBS: &[Verb] = &[
     Verb {
         name: "inspect",
         about: "Print the sizes of a disk, what is free of them, and how long a turn takes",
-        arguments: &[DISK, RATE],
+        arguments: &[DISK, RATE, JSON],
     },
     Verb {
         name: "check",
         about: "Print the carousel of a disk, whether the disk is clean, and its layout",
-        arguments: &[DISK],
+        arguments: &[DISK, JSON],
     },
     Verb {
         name: "copy",
         about: "Make a copy of a disk, of other sizes if they are given",
-        arguments: &[
-            DISK,
-            NEW,
-            COPY_OBJECTS,
-            COPY_DATA,
-            COPY_SEGMENT,
-            COPY_ADDRESS,
-            COPY_PACKET,
-            GOES_ON,
-        ],
+        arguments: &[DISK, NEW, OBJECTS, DATA, SEGMENT, ADDRESS, PACKET, GOES_ON],
     },
     Verb {
         name: "export",
@@ -127,31 +118,31 @@ const VERBS: &[Verb] = &[
 const OBJECTS: Argument = Argument {
     name: "objects",
     kind: Kind::Number("N"),
-    help: "Objects at most, 1 to 250 [default: 16]",
+    help: "Objects at most, 1 to 250 [default: 16; of a copy, as the disk]",
 };
 
 const DATA: Argument = Argument {
     name: "data",
     kind: Kind::Number("BYTES"),
-    help: "Bytes for all bodies, 1 to 268435456 [default: 65536]",
+    help: "Bytes for all bodies, 1 to 268435456 [default: 65536; of a copy, as the disk]",
 };
 
 const SEGMENT: Argument = Argument {
     name: "segment",
     kind: Kind::Number("BYTES"),
-    help: "Bytes of a segment, 64 to 8189 [default: 1024]",
+    help: "Bytes of a segment, 64 to 8189 [default: 1024; of a copy, as the disk]",
 };
 
 const ADDRESS: Argument = Argument {
     name: "address",
     kind: Kind::Number("N"),
-    help: "Address of the packets, 1 to 1023 [default: 1]",
+    help: "Address of the packets, 1 to 1023 [default: 1; of a copy, as the disk]",
 };
 
 const PACKET: Argument = Argument {
     name: "packet",
     kind: Kind::Number("BYTES"),
-    help: "Bytes of a packet: 24, 48, 72 or 96 [default: 96]",
+    help: "Bytes of a packet: 24, 48, 72 or 96 [default: 96; of a copy, as the disk]",
 };
 
 /// The beginning of a new disk's ids.
@@ -161,41 +152,11 @@ const AFTER: Argument = Argument {
     help: "Transport id after which the ids begin, 0 to 65535 [default: 0]",
 };
 
-/// What `copy` needs besides a disk, and may be given: the sizes of the copy, and where its ids go on.
+/// What `copy` needs besides a disk, and may be given besides its sizes: where its ids go on.
 const NEW: Argument = Argument {
     name: "NEW",
     kind: Kind::Word,
     help: "The file of the copy: it is made, or it is long enough, or a block device",
-};
-
-const COPY_OBJECTS: Argument = Argument {
-    name: "objects",
-    kind: Kind::Number("N"),
-    help: "Objects at most, 1 to 250 [default: as the disk]",
-};
-
-const COPY_DATA: Argument = Argument {
-    name: "data",
-    kind: Kind::Number("BYTES"),
-    help: "Bytes for all bodies, 1 to 268435456 [default: as the disk]",
-};
-
-const COPY_SEGMENT: Argument = Argument {
-    name: "segment",
-    kind: Kind::Number("BYTES"),
-    help: "Bytes of a segment, 64 to 8189 [default: as the disk]",
-};
-
-const COPY_ADDRESS: Argument = Argument {
-    name: "address",
-    kind: Kind::Number("N"),
-    help: "Address of the packets, 1 to 1023 [default: as the disk]",
-};
-
-const COPY_PACKET: Argument = Argument {
-    name: "packet",
-    kind: Kind::Number("BYTES"),
-    help: "Bytes of a packet: 24, 48, 72 or 96 [default: as the disk]",
 };
 
 const GOES_ON: Argument = Argument {
@@ -352,6 +313,13 @@ const RATE: Argument = Argument {
     name: "rate",
     kind: Kind::Number("N"),
     help: "Time the turn at N kbit/s, a multiple of 8 up to 1824 [default: twelve rates]",
+};
+
+/// The form of what is printed.
+const JSON: Argument = Argument {
+    name: "json",
+    kind: Kind::Flag,
+    help: "Print JSON, one object a line",
 };
 
 /// What the words after the program's own name match in the command line. The error is that a word

@@ -5,7 +5,7 @@ ghost use Rattle.mot_cli.specs.Task.{GiveAge, IsTask, is_age};
 ghost use Rattle.mot_cli.specs.Inner.Found.{Finds};
 
 use crate::given::{number_of, word_of};
-use crate::task::Task;
+use crate::task::{Form, Task, form_of};
 use clap::ArgMatches;
 
 /// The status of a disk on air.
@@ -15,6 +15,8 @@ pub struct HealthTask<'a> {
     pub status: &'a str,
     /// How many seconds ago it was written at most; 120, if no number is given.
     pub max_age: Option<u32>,
+    /// How the answer is printed.
+    pub form: Form,
 }
 
 /// The task of the command `health`.
@@ -24,6 +26,7 @@ pub(crate) fn health_of<'m, 'a>(words: &'m ArgMatches<'a>) -> Option<Task<'m, 'a
     Some(Task::Health(HealthTask {
         status: word_of(words, "STATUS")?,
         max_age: age_of(words)?,
+        form: form_of(words),
     }))
 }
 

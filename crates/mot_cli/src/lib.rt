@@ -18,4 +18,4 @@ pub use given::has_levels;
 pub use health::HealthTask;
 pub use options::Options;
 pub use playing::{LookRules, PlayTask, SyncTask};
-pub use task::{DiskTask, NoTask, Task, task_of};
+pub use task::{DiskTask, Form, NoTask, Task, task_of};

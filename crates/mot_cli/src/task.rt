@@ -1,14 +1,14 @@
 //! What the words of the command line ask for.
-ghost use Rattle.std.specs.Prelude.{◌≢◌, IfErr, IfOk, codes};
+ghost use Rattle.std.specs.Prelude.{◌≡◌, ◌≢◌, IfErr, IfOk, codes};
 ghost use Rattle.clap.specs.Words.{found_of, rows_of};
 ghost use Rattle.mot_cli.specs.Given.{NameWord};
-ghost use Rattle.mot_cli.specs.Task.{IsTask, IsWhy, IsWork};
+ghost use Rattle.mot_cli.specs.Task.{IsTask, IsWhy, IsWork, form_in};
 ghost use Rattle.mot_cli.specs.declared.task.Task.{Task};
 ghost use Rattle.mot_cli.specs.Inner.Found.{Finds};
 
 use crate::by_hand::{put_of, withdraw_of};
 use crate::copying::{CopyTask, copy_of};
-use crate::given::word_of;
+use crate::given::{is_set, word_of};
 use crate::health::{HealthTask, health_of};
 use crate::options::{directory_of, geometry_of};
 use crate::playing::{PlayTask, SyncTask, play_of, rate_of, sync_of};
@@ -63,24 +63,33 @@ pub enum Task<'m, 'a> {
     },
 }
 
+/// How something is printed.
+#[derive(Clone, Copy)]
+pub enum Form {
+    /// As lines of words.
+    Words,
+    /// As JSON, each line one object.
+    Json,
+}
+
 /// What the program is to do with a disk.
 #[derive(Clone, Copy)]
 pub enum DiskTask<'a> {
     /// Serve it.
     Serve,
     /// Tell what it keeps.
-    Check,
+    Check(Form),
     /// Rewrite it into layout 2.
     Migrate,
     /// Print its objects.
-    ListObjects,
+    ListObjects(Form),
     /// Print the body of the object of this name.
     GetBody(&'a str),
     /// Print its carousel.
     Export,
     /// Print its sizes, with its turn timed at this rate in kbit/s; if none is given, at the usual
     /// ones.
-    Inspect(Option<u32>),
+    Inspect(Option<u32>, Form),
 }
 
 /// Why words ask for no task.
@@ -156,13 +165,24 @@ fn work_of<'a>(name: &str, words: &ArgMatches<'a>) -> Option<DiskTask<'a>>
 {
     match name {
         "serve" => Some(DiskTask::Serve),
-        "check" => Some(DiskTask::Check),
+        "check" => Some(DiskTask::Check(form_of(words))),
         "migrate" => Some(DiskTask::Migrate),
-        "list" => Some(DiskTask::ListObjects),
+        "list" => Some(DiskTask::ListObjects(form_of(words))),
         "get" => Some(DiskTask::GetBody(word_of(words, "NAME")?)),
         "export" => Some(DiskTask::Export),
-        "inspect" => Some(DiskTask::Inspect(rate_of(words)?)),
+        "inspect" => Some(DiskTask::Inspect(rate_of(words)?, form_of(words))),
         _ => None,
+    }
+}
+
+/// How a command prints what it is asked for.
+pub(crate) fn form_of(words: &ArgMatches<'_>) -> Form
+    ensures { result ≡ form_in (rows_of (found_of words.now)) }
+{
+    if is_set(words, "json") {
+        Form::Json
+    } else {
+        Form::Words
     }
 }
 

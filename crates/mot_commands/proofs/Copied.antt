@@ -13,9 +13,9 @@ pub looks_still : {D : Type 0} (state : D → State) (disk : D) (work : DiskTask
     → IsTrue (only_looks work) → Does state disk work ending unread left old new start
     → OnlySyncs start (state disk)
 looks_still state disk Serve ending unread left old new start looks does = absurd (cc (looks))
-looks_still state disk Check ending unread left old new start looks does = does.1.0
+looks_still state disk (Check form) ending unread left old new start looks does = does.1.0
 looks_still state disk Migrate ending unread left old new start looks does = absurd (cc (looks))
-looks_still state disk ListObjects ending unread left old new start looks does = does.1.0
+looks_still state disk (ListObjects form) ending unread left old new start looks does = does.1.0
 looks_still state disk (GetBody name) ending unread left old new start looks does = does.1.0
 looks_still state disk Export ending unread left old new start looks does = does.1.syncs
-looks_still state disk (Inspect rate) ending unread left old new start looks does = does.1.syncs
+looks_still state disk (Inspect rate form) ending unread left old new start looks does = does.1.syncs

@@ -1,5 +1,6 @@
 pub mod Copied
 pub mod Ends
+pub mod Listed
 pub mod Named
 pub mod On
 pub mod Opened

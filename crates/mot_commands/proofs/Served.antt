@@ -65,9 +65,9 @@ module _ {D E : Type 0} (of : D → E) (state : E → State) (disk : D) (start :
         → Does state_on disk work ending was is old new start
         → Does state (of disk) work ending was is old new start
     does-on ending Serve does = serves-on ending does
-    does-on ending Check does = does
+    does-on ending (Check form) does = does
     does-on ending Migrate does = does
-    does-on ending ListObjects does = does
+    does-on ending (ListObjects form) does = does
     does-on ending (GetBody name) does = does
     does-on ending Export does = does
-    does-on ending (Inspect rate) does = does
+    does-on ending (Inspect rate form) does = does

@@ -61,18 +61,18 @@ abbrev pub Does : {D : Type 0} (state : D → State) (disk : D) → DiskTask →
     → (unread left old new : Option (List ℕ)) → (start : State) → Type 0
 Does state disk Serve ending unread left old new start =
     Serves state disk ending unread left old new start
-Does state disk Check ending unread left old new start =
-    Keeps unread left × Checks ending old new start (state disk)
+Does state disk (Check form) ending unread left old new start =
+    Keeps unread left × Checks form ending old new start (state disk)
 Does state disk Migrate ending unread left old new start =
     Keeps unread left × Migrates ending old new start (state disk)
-Does state disk ListObjects ending unread left old new start =
-    Keeps unread left × Lists ending old new start (state disk)
+Does state disk (ListObjects form) ending unread left old new start =
+    Keeps unread left × Lists form ending old new start (state disk)
 Does state disk (GetBody name) ending unread left old new start =
     Keeps unread left × Gets name.now ending old new start (state disk)
 Does state disk Export ending unread left old new start =
     Keeps unread left × Exports ending old new start (state disk)
-Does state disk (Inspect rate) ending unread left old new start =
-    Keeps unread left × Inspects rate ending old new start (state disk)
+Does state disk (Inspect rate form) ending unread left old new start =
+    Keeps unread left × Inspects rate form ending old new start (state disk)
 
 -- it changes nothing on a disk
 abbrev pub only_looks : DiskTask → Bool

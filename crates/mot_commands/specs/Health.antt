@@ -1,6 +1,6 @@
 -- Whether a disk on air sends packets, by when its status was written last.
-use Rattle.std.specs.Prelude.{◌≡◌, ◌&&◌, ◌-◌, ◌/◌, ◌++◌, ◌∷◌, [], ℕ, Bool, false, List}
-use Rattle.std.specs.Prelude.{Ok, Option, Result, Some, nat_le, unwrap_or}
+use Rattle.std.specs.Prelude.{◌≡◌, ◌-◌, ◌/◌, ◌++◌, ◌∷◌, [], ℕ, Bool, false, if◌then◌else◌, List}
+use Rattle.std.specs.Prelude.{None, Ok, Option, Result, Some, nat_le, unwrap_or}
 use Rattle.disk_store.specs.declared.file.start.Start.{Ghosts}
 use Rattle.mot_cli.specs.declared.health.HealthTask.{HealthTask}
 use Rattle.mot_commands.specs.declared.health.TheConstants.{MAX_AGE}
@@ -13,15 +13,17 @@ use Rattle.mot_numbers.specs.declared.refusal.Refusal.{Refusal}
 use Rattle.mot_outcome.specs.Outcome.{IsUntouched, Prints, status_of}
 use Rattle.mot_outcome.specs.declared.used.UsedDisk.{UsedDisk}
 
--- how many whole seconds ago a moment was; none, if it is yet to come
-abbrev pub age_of : (written now : Time) → ℕ
-age_of written now = (now.nanos - written.nanos) / 1000000000
+-- how many whole seconds ago a regular file was written, if the system said so; none, if that is yet
+-- to come
+abbrev pub age_of : Result FileStat Fault → (now : Option Time) → Option ℕ
+age_of (Ok seen) (Some now) =
+    if is_file_kind seen.kind then Some ((now.nanos - seen.written.nanos) / 1000000000) else None
+age_of seen now = None
 
--- the system said that a status is a regular file, which was written so many seconds ago at most
-abbrev pub is_well : (most : ℕ) → Result FileStat Fault → (now : Option Time) → Bool
-is_well most (Ok seen) (Some now) =
-    is_file_kind seen.kind && nat_le (age_of seen.written now) most
-is_well most seen now = false
+-- so many at most
+abbrev pub is_young : (most : ℕ) → (age : Option ℕ) → Bool
+is_young most (Some age) = nat_le age most
+is_young most None = false
 
 -- The system was asked for the status and then for the time, and for nothing else. The exit status
 -- is 0 exactly if that is well, and it could be printed.
@@ -30,7 +32,7 @@ pub record AsksHealth (h : HealthTask) (status : ℕ) (ending : Option Refusal)
   pub seen : Result FileStat Fault
   pub now : Option Time
   pub calls : new ≡ old ++ followed h.status.now seen ∷ told_time now ∷ []
-  pub well : status ≡ status_of (is_well (unwrap_or h.max_age MAX_AGE) seen now) ending
+  pub well : status ≡ status_of (is_young (unwrap_or h.max_age MAX_AGE) (age_of seen now)) ending
 
 -- a text was printed, or some first bytes of it; which, no clause says
 abbrev pub TellsHealth : {S F : Type 0} {start : Ghosts S F} → (ending : Option Refusal)

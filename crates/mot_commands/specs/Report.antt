@@ -3,6 +3,9 @@ use Rattle.std.specs.Prelude.{◌≡◌, ◌≢◌, ◌⊎◌, ◌↔◌, ℕ, B
 use Rattle.std.specs.Prelude.{Ok, Err, IsFalse, IsTrue, if◌then◌else◌, codes}
 use Rattle.std.specs.Io.KnownBytes.{Keeps}
 use Rattle.disk_model.specs.Disk.{State, IsStill, KeepsLength, OnlySyncs, Throughout}
+use Rattle.mot_cli.specs.declared.task.Form.{Form}
+use Rattle.mot_cli.specs.declared.task.Form.TheVariants.{Json, Words}
+use Rattle.mot_commands.specs.Json.{carousel_json, report_line}
 use Rattle.mot_update.specs.Opening.{IsUnopened, OfClean}
 use Rattle.mot_journal.specs.Image.{DiskRecords, Standing, records_of, stands_for}
 use Rattle.mot_journal.specs.Image.{IsClean, IsInLayoutTwo}
@@ -15,6 +18,7 @@ use Rattle.mot_numbers.specs.Refusal.{IsCalm}
 use Rattle.mot_numbers.specs.declared.geometry.Geometry.{Geometry}
 use Rattle.mot_numbers.specs.declared.refusal.Refusal.{Refusal}
 use Rattle.mot_numbers.specs.declared.refusal.Refusal.TheVariants.{DeviceFault}
+use Rattle.mot_objects.specs.Carousel.{Carousel}
 use Rattle.mot_outcome.specs.Outcome.{Prints, number_line}
 use Rattle.mot_repository.specs.Opening.{IsOpeningRefusal}
 use Rattle.mot_repository.specs.Repository.{IsOf}
@@ -51,22 +55,27 @@ abbrev pub layout_line : Layout → List ℕ
 layout_line One = codes "layout 1\n"
 layout_line Two = codes "layout 2\n"
 
--- what is told of a disk of these bytes: what `list` shows of it, whether it is clean, its layout
-pub record IsReport (bytes text : List ℕ) : Type 0 where
+-- what is told of a carousel, of whether its disk is clean, and of the disk's layout
+abbrev pub report_in : Form → Carousel → Bool → Layout → List ℕ
+report_in Words c clean layout = listing_text c ++ clean_line clean ++ layout_line layout
+report_in Json c clean layout = carousel_json c ++ report_line clean layout
+
+-- that of a disk of these bytes
+pub record IsReport (form : Form) (bytes text : List ℕ) : Type 0 where
   pub standing : Standing
   pub stands : stands_for bytes ≡ Ok standing
   pub clean : Bool
   pub exact : IsTrue clean ↔ IsClean bytes
   pub journal : DiskRecords
   pub read : records_of bytes ≡ Ok journal
-  pub shown : text
-      ≡ listing_text standing.carousel ++ clean_line clean ++ layout_line journal.layout
+  pub shown : text ≡ report_in form standing.carousel clean journal.layout
 
 -- the disk was only synced, and what it stands for was printed; or it could not be read
-abbrev pub Checks : Option Refusal → (old new : Option (List ℕ)) → (start now : State) → Type 0
-Checks ending old new start now =
+abbrev pub Checks : Form → Option Refusal → (old new : Option (List ℕ)) → (start now : State)
+    → Type 0
+Checks form ending old new start now =
     OnlySyncs start now × Reports (λ refusal. IsUnopened refusal start now)
-    (λ text. now.IsHonest → IsReport start.bytes text) ending old new
+    (λ text. now.IsHonest → IsReport form start.bytes text) ending old new
 
 -- ---- `migrate`
 

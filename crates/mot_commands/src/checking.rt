@@ -1,25 +1,31 @@
 //! What `check` does.
-ghost use Rattle.mot_playout.specs.Attempts.{fault_of};
-ghost use Rattle.std.specs.Prelude.{◌≡◌, ◌++◌};
-ghost use Rattle.mot_lines.specs.Listing.{listing_text_beside};
-ghost use Rattle.mot_outcome.specs.Outcome.{Prints};
+ghost use Rattle.std.specs.Prelude.{◌≡◌, IfOk};
+ghost use Rattle.mot_commands.specs.Inner.Shown.{report_beside, shown_beside};
+ghost use Rattle.mot_commands.specs.Json.{layout_number};
 ghost use Rattle.mot_commands.specs.Report.{Checks, clean_line, layout_line};
+ghost use Rattle.mot_objects.specs.declared.carousel.Carousel.{Carousel};
+ghost use Rattle.mot_playout.specs.Attempts.{fault_of};
 
+use crate::shown::text_in;
 use disk_model::Disk;
+use mot_cli::Form;
+use mot_export::{JsonValue, add_json_line};
 use mot_journal::Layout;
-use mot_numbers::Refusal;
-use mot_objects::Carousel;
-use mot_outcome::{write_bytes, write_last};
+use mot_outcome::print_text;
 use mot_repository::Repository;
-use mot_session::write_listing;
 use mot_update::Ended;
-use std::alloc::Global;
+use std::alloc::{AllocError, Global};
 use std::io::Write;
 
 /// Prints what a disk keeps, whether it is clean, and its layout. Nothing on it changes, but that
 /// it is synced.
-pub(crate) fn check_disk<D: Disk, W: Write>(alloc: Global, disk: D, writer: &mut W) -> Ended<D, ()>
-    ensures { Checks (fault_of result.result) (W.contents writer.old) (W.contents writer.new)
+pub(crate) fn check_disk<D: Disk, W: Write>(
+    alloc: Global,
+    disk: D,
+    form: Form,
+    writer: &mut W,
+) -> Ended<D, ()>
+    ensures { Checks form (fault_of result.result) (W.contents writer.old) (W.contents writer.new)
         (D.state disk) (D.state result.disk) }
 {
     let mut repository = match Repository::open(alloc, disk) {
@@ -27,11 +33,15 @@ pub(crate) fn check_disk<D: Disk, W: Write>(alloc: Global, disk: D, writer: &mut
         Err(refused) => return Ended::unopened(refused),
     };
     match repository.is_clean() {
-        Ok(is_clean) => Ended {
-            result: write_report(writer, repository.carousel(), is_clean, repository.layout()),
-            disk: repository.into_disk(),
-            reason: None,
-        },
+        Ok(is_clean) => {
+            let text = text_in(alloc, repository.carousel(), form);
+            let report = report_in(text, is_clean, repository.layout(), form);
+            Ended {
+                result: print_text(writer, report),
+                disk: repository.into_disk(),
+                reason: None,
+            }
+        }
         Err(refusal) => Ended {
             result: Err(refusal),
             disk: repository.into_disk(),
@@ -40,20 +50,31 @@ pub(crate) fn check_disk<D: Disk, W: Write>(alloc: Global, disk: D, writer: &mut
     }
 }
 
-/// Prints a carousel, whether its disk is clean, and the disk's layout.
-fn write_report<W: Write>(
-    writer: &mut W,
-    carousel: &Carousel,
+/// Adds to what is shown of a carousel whether its disk is clean, and the disk's layout.
+fn report_in(
+    text: Result<Vec<u8>, AllocError>,
     is_clean: bool,
     layout: Layout,
-) -> Result<(), Refusal>
-    ensures { Prints (fault_of result)
-        (listing_text_beside carousel.now ++ clean_line is_clean ++ layout_line layout)
-        (W.contents writer.old) (W.contents writer.new) }
+    form: Form,
+) -> Result<Vec<u8>, AllocError>
+    ensures { (c : Carousel) → IfOk text (λ shown. shown.items ≡ shown_beside form c)
+        → IfOk result (λ report. report.items ≡ report_beside form c is_clean layout) }
 {
-    write_listing(writer, carousel)?;
-    write_bytes(writer, clean_text(is_clean))?;
-    write_last(writer, layout_text(layout))
+    let mut text = text?;
+    match form {
+        Form::Words => {
+            text.extend_from_slice(clean_text(is_clean))?;
+            text.extend_from_slice(layout_text(layout))?;
+            Ok(text)
+        }
+        Form::Json => {
+            let members = [
+                ("clean", JsonValue::Flag(is_clean)),
+                ("layout", JsonValue::Count(layout_number(layout))),
+            ];
+            add_json_line(text, &members)
+        }
+    }
 }
 
 /// Whether a disk is clean, as a line.
@@ -70,5 +91,15 @@ fn layout_text(layout: Layout) -> &'static [u8]
     match layout {
         Layout::One => b"layout 1\n",
         Layout::Two => b"layout 2\n",
+    }
+}
+
+/// The number of a layout.
+fn layout_number(layout: Layout) -> u64
+    ensures { result ≡ layout_number layout }
+{
+    match layout {
+        Layout::One => 1,
+        Layout::Two => 2,
     }
 }

@@ -1,23 +1,25 @@
 //! What `health` does.
-ghost use Rattle.std.specs.Prelude.{◌≡◌, IfOk};
-ghost use Rattle.mot_commands.specs.Health.{AsksHealth, TellsHealth, age_of, is_well};
-ghost use Rattle.mot_files.specs.Listing.{is_file_kind};
+ghost use Rattle.std.specs.Prelude.{◌≡◌};
+ghost use Rattle.mot_commands.specs.Health.{AsksHealth, TellsHealth, age_of, is_young};
 ghost use Rattle.mot_numbers.specs.declared.refusal.Refusal.TheVariants.{OutOfMemory};
-ghost use Rattle.mot_outcome.specs.Outcome.{Concludes, Prints, status_in};
+ghost use Rattle.mot_outcome.specs.Outcome.{Concludes, status_in};
 ghost use Rattle.mot_playout.specs.Attempts.{fault_of};
 
 use disk_store::{OpenFault, Start};
-use mot_cli::HealthTask;
+use mot_cli::{Form, HealthTask};
 use mot_endpoints::{Host, Machine};
-use mot_files::{Fault, FileStat, Kind, System, Time};
-use mot_numbers::Refusal;
-use mot_outcome::{TaskEnd, UsedDisk, write_last};
+use mot_export::{JsonValue, add_json_line};
+use mot_files::{Fault, FileStat, System, Time, is_regular};
+use mot_outcome::{TaskEnd, UsedDisk, print_text};
 use std::alloc::{AllocError, Global};
 use std::io::Write;
 
 /// How many seconds ago a status was written at most, if no number is given. At the slowest rate,
 /// 8 kbit/s, it is written every 96 seconds.
 const MAX_AGE: u32 = 120;
+
+/// Why a status is not written again.
+const STILL: &str = "packets stand still; nobody reads them, the folder hangs, or motcar has ended";
 
 /// How many nanoseconds a second has.
 const NANOS: u128 = 1_000_000_000;
@@ -39,10 +41,10 @@ pub fn tell_health<S: Start, W: Write, M: Machine + Drop>(
 {
     let seen = host.system.follow(asked.status);
     let now = host.system.now();
-    let well = is_well(asked.max_age.unwrap_or(MAX_AGE), seen, now);
-    let result = match line_of(alloc, asked.status, seen, now, well) {
-        Ok(line) => tell(writer, line.as_str(), well),
-        Err(AllocError) => Err(Refusal::OutOfMemory),
+    let well = is_well(asked.max_age.unwrap_or(MAX_AGE), age_of(seen, now));
+    let result = match print_text(writer, text_of(alloc, asked, seen, now, well)) {
+        Ok(()) => Ok(well),
+        Err(refusal) => Err(refusal),
     };
     TaskEnd {
         result,
@@ -52,44 +54,50 @@ pub fn tell_health<S: Start, W: Write, M: Machine + Drop>(
     }
 }
 
-/// Prints the line, and answers so.
-fn tell<W: Write>(writer: &mut W, line: &str, well: bool) -> Result<bool, Refusal>
-    ensures printed { Prints (fault_of result) line.now (W.contents writer.old) (W.contents writer.new) }
-    ensures ok { IfOk result (λ answer. answer ≡ well) }
+/// Whether it was written so many seconds ago at most.
+fn is_well(most: u32, age: Option<u128>) -> bool
+    ensures { result ≡ is_young most age }
 {
-    match write_last(writer, line.as_bytes()) {
-        Ok(()) => Ok(well),
-        Err(refusal) => Err(refusal),
+    match age {
+        Some(age) => age <= u128::from(most),
+        None => false,
     }
 }
 
-/// Whether it is a regular file that was written so many seconds ago at most.
-fn is_well(most: u32, seen: Result<FileStat, Fault>, now: Option<Time>) -> bool
-    ensures { result ≡ is_well most seen now }
+/// How many whole seconds ago a regular file was written, if that is known; none, if it is yet to
+/// come.
+fn age_of(seen: Result<FileStat, Fault>, now: Option<Time>) -> Option<u128>
+    ensures { result ≡ age_of seen now }
 {
     match (seen, now) {
-        (Ok(seen), Some(now)) => {
-            is_file(seen.kind) && age_of(seen.written, now) <= u128::from(most)
+        (Ok(seen), Some(now)) if is_regular(&seen) => {
+            Some(now.nanos.saturating_sub(seen.written.nanos) / NANOS)
         }
-        _ => false,
+        _ => None,
     }
 }
 
-/// Whether it is a regular file.
-fn is_file(kind: Kind) -> bool
-    ensures { result ≡ is_file_kind kind }
-{
-    match kind {
-        Kind::File => true,
-        _ => false,
+/// What is printed of a status of which the system said this.
+fn text_of(
+    alloc: Global,
+    asked: &HealthTask<'_>,
+    seen: Result<FileStat, Fault>,
+    now: Option<Time>,
+    well: bool,
+) -> Result<Vec<u8>, AllocError> {
+    let line = line_of(alloc, asked.status, seen, now, well)?;
+    if let Form::Words = asked.form {
+        let mut text = line.into_bytes();
+        text.push(b'\n')?;
+        return Ok(text);
     }
-}
-
-/// How many whole seconds ago a moment was; none, if it is yet to come.
-fn age_of(written: Time, now: Time) -> u128
-    ensures { result ≡ age_of written now }
-{
-    now.nanos.saturating_sub(written.nanos) / NANOS
+    let age = age_of(seen, now).and_then(|age| u64::try_from(age).ok());
+    let members = [
+        ("ok", JsonValue::Flag(well)),
+        ("age", JsonValue::maybe(age)),
+        ("line", JsonValue::Text(line.as_str())),
+    ];
+    add_json_line(Vec::new(alloc), &members)
 }
 
 /// The line about a status of which the system said this.
@@ -100,29 +108,21 @@ fn line_of(
     now: Option<Time>,
     well: bool,
 ) -> Result<String, AllocError> {
-    match (seen, now) {
-        (Ok(seen), Some(now)) if is_file(seen.kind) => {
-            let age = age_of(seen.written, now);
-            let (before, after) = words_of(well);
-            format!(in alloc; "{before}{path} was written {age} s ago{after}\n")
-        }
-        (Ok(_), Some(_)) => format!(in alloc; "{path}: not a regular file\n"),
-        (Ok(_), None) => format!(in alloc; "{path}: the system does not say what time it is\n"),
-        (Err(fault), _) => {
-            let fault = OpenFault::System(fault.error());
-            format!(in alloc; "{path}: {fault}\n")
-        }
+    if let Some(age) = age_of(seen, now) {
+        return if well {
+            format!(in alloc; "ok: {path} was written {age} s ago")
+        } else {
+            format!(in alloc; "{path} was written {age} s ago: {STILL}")
+        };
     }
-}
-
-/// What stands before and after the age of a status.
-fn words_of(well: bool) -> (&'static str, &'static str) {
-    if well {
-        ("ok: ", "")
-    } else {
-        (
-            "",
-            ": packets stand still; nobody reads them, the folder hangs, or motcar has ended",
-        )
+    match seen {
+        Ok(seen) if is_regular(&seen) => {
+            format!(in alloc; "{path}: the system does not say what time it is")
+        }
+        Ok(_) => format!(in alloc; "{path}: not a regular file"),
+        Err(fault) => {
+            let fault = OpenFault::System(fault.error());
+            format!(in alloc; "{path}: {fault}")
+        }
     }
 }

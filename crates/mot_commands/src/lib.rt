@@ -12,6 +12,7 @@ mod health;
 mod listing;
 mod migrating;
 mod serving;
+mod shown;
 mod working;
 
 pub use changing::{put, withdraw_file};

@@ -1,41 +1,34 @@
 //! What `list` does.
 ghost use Rattle.mot_playout.specs.Attempts.{fault_of};
-ghost use Rattle.mot_lines.specs.Listing.{listing_text_beside};
-ghost use Rattle.mot_outcome.specs.Outcome.{Prints};
 ghost use Rattle.mot_commands.specs.Shown.{Lists};
 
+use crate::shown::text_in;
 use disk_model::Disk;
-use mot_numbers::Refusal;
-use mot_objects::Carousel;
-use mot_outcome::write_last;
+use mot_cli::Form;
+use mot_outcome::print_text;
 use mot_repository::Repository;
-use mot_session::write_listing;
 use mot_update::Ended;
 use std::alloc::Global;
 use std::io::Write;
 
 /// Prints the objects of a disk. Nothing on it changes, but that it is synced.
-pub(crate) fn list_disk<D: Disk, W: Write>(alloc: Global, disk: D, writer: &mut W) -> Ended<D, ()>
-    ensures { Lists (fault_of result.result) (W.contents writer.old) (W.contents writer.new)
+pub(crate) fn list_disk<D: Disk, W: Write>(
+    alloc: Global,
+    disk: D,
+    form: Form,
+    writer: &mut W,
+) -> Ended<D, ()>
+    ensures { Lists form (fault_of result.result) (W.contents writer.old) (W.contents writer.new)
         (D.state disk) (D.state result.disk) }
 {
     let repository = match Repository::open(alloc, disk) {
         Ok(repository) => repository,
         Err(refused) => return Ended::unopened(refused),
     };
-    let result = write_list(writer, repository.carousel());
+    let result = print_text(writer, text_in(alloc, repository.carousel(), form));
     Ended {
         disk: repository.into_disk(),
         result,
         reason: None,
     }
-}
-
-/// Prints what `list` shows of a carousel.
-fn write_list<W: Write>(writer: &mut W, carousel: &Carousel) -> Result<(), Refusal>
-    ensures { Prints (fault_of result) (listing_text_beside carousel.now)
-        (W.contents writer.old) (W.contents writer.new) }
-{
-    write_listing(writer, carousel)?;
-    write_last(writer, b"")
 }

@@ -92,12 +92,12 @@ fn work_on<D: Disk, R: Read, W: Write>(
 {
     match work {
         DiskTask::Serve => serve_disk(alloc, disk, reader, writer),
-        DiskTask::Check => check_disk(alloc, disk, writer),
+        DiskTask::Check(form) => check_disk(alloc, disk, *form, writer),
         DiskTask::Migrate => migrate_disk(alloc, disk, writer),
-        DiskTask::ListObjects => list_disk(alloc, disk, writer),
+        DiskTask::ListObjects(form) => list_disk(alloc, disk, *form, writer),
         DiskTask::GetBody(name) => get_body(alloc, disk, name, writer),
         DiskTask::Export => export_disk(alloc, disk, writer),
-        DiskTask::Inspect(rate) => inspect_disk(alloc, disk, *rate, writer),
+        DiskTask::Inspect(rate, form) => inspect_disk(alloc, disk, *rate, *form, writer),
     }
 }
 

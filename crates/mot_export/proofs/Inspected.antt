@@ -1,18 +1,21 @@
 -- A disk inspected, from its opening on.
-use Rattle.std.proofs.Common.{◌≡◌, ◌∙◌, ℕ, suc, ◌+◌, List, [], ◌∷◌, ◌++◌, length, map, Option}
-use Rattle.std.proofs.Common.{Some, Result, Ok, Err, refl, sym, ap, subst, inl, inr}
-use Rattle.std.specs.Prelude.{IfErr, IsFalse, OnOk}
+use Rattle.std.proofs.Common.{◌≡◌, ◌∙◌, ℕ, suc, ◌+◌, List, [], ◌∷◌, length, map, Option}
+use Rattle.std.proofs.Common.{Some, Result, Ok, Err, refl, sym, ap, subst, inr}
+use Rattle.std.proofs.Common.{Global, None, Vec}
+use Rattle.std.specs.Prelude.{IfOk, IsFalse, MatchResult}
 use Rattle.std.specs.Int.{div_ceil}
 use Rattle.std.specs.List.{fold, sum_by}
-use Rattle.std.specs.Io.KnownBytes.{Appends}
+use Rattle.std.specs.Io.KnownBytes.{Appends, Keeps}
 use Rattle.disk_model.specs.Disk.{IsHonestDisk, State, OnlySyncs}
+use Rattle.mot_carousel.specs.Gap.{IsLongestGap}
+use Rattle.mot_cli.specs.declared.task.Form.{Form}
 use Rattle.mot_journal.specs.Image.{Standing}
 use Rattle.mot_journal.specs.Journal.{with_records}
-use Rattle.mot_journal.specs.declared.layout.Layout.{Layout}
+use Rattle.mot_journal.specs.Slot.{slot_count}
 use Rattle.mot_numbers.specs.Geometry.{packet_room}
 use Rattle.mot_numbers.specs.declared.geometry.Geometry.{Geometry}
 use Rattle.mot_numbers.specs.declared.refusal.Refusal.{Refusal}
-use Rattle.mot_numbers.specs.declared.refusal.Refusal.TheVariants.{WriteFault}
+use Rattle.mot_numbers.specs.declared.refusal.Refusal.TheVariants.{OutOfMemory}
 use Rattle.mot_objects.specs.Carousel.{Object}
 use Rattle.mot_objects.specs.Carousel as whole
 use Rattle.mot_objects.specs.declared.carousel.Carousel.{Carousel}
@@ -22,17 +25,16 @@ use Rattle.mot_player.specs.Place.{Place, directory_packets}
 use Rattle.mot_player.specs.Turn.{turn_of_carousel}
 use Rattle.mot_listening.specs.TurnSize.{size_of_turn}
 use Rattle.mot_listening.specs.declared.turn.TurnSize.{TurnSize}
-use Rattle.mot_export.specs.Inspecting.{Inspects, PrintsFigures, TellsOfDisk}
-use Rattle.mot_export.specs.Inspecting.{bytes_of_bodies, inspection_text, usual_pause}
-use Rattle.mot_export.specs.Inspecting.{sizes_text, turn_lengths_text, turn_text, use_text}
-use Rattle.mot_export.specs.Inspecting.{waits_text}
-use Rattle.mot_export.specs.Inner.Inspected.{HasInspected, IsInspectingFault}
+use Rattle.mot_export.specs.Inspecting.{AreFigures, Inspects, PrintsFigures, TellsOfDisk}
+use Rattle.mot_export.specs.Inspecting.{bytes_of_bodies, rates_of, times_of, usual_pause, waits_of}
+use Rattle.mot_export.specs.declared.inspection.Inspection.{Inspection}
+use Rattle.mot_export.specs.Inner.Inspected.{IsAbout}
 use Rattle.mot_update.specs.Opening.{OfStanding, first_place}
 use Rattle.mot_update.proofs.Laws.{openable, read_so}
 use Rattle.mot_repository.specs.Opening.{IsOpened}
 use Rattle.mot_repository.specs.Repository.{Agrees, RepositoryView}
 use Rattle.mot_playout.specs.Server.{ServerView, place_in}
-use Rattle.mot_playout.specs.Attempts.{fault_of}
+use Rattle.mot_outcome.specs.Outcome.{Prints}
 use Rattle.mot_session.specs.Served.{WritesFront}
 
 abbrev AreLengths : List beside.Object → List (List ℕ) → Type 0
@@ -64,13 +66,6 @@ same_bytes a (o ∷ os) (b ∷ bodies) e =
     ∙ ap (λ m. fold (λ (n : ℕ) (o : Object). n + length o.body) (a + m) (objects_of os bodies))
     (first_length o os b bodies e)
 
--- a text of seven parts, with the same parts
-same_text : (text : Geometry → Geometry → ℕ → ℕ → TurnSize → Geometry → whole.Carousel → List ℕ)
-    (a b e g : Geometry) (n n' u u' : ℕ) (k k' : TurnSize) (c c' : whole.Carousel)
-    → a ≡ g → b ≡ g → n ≡ n' → u ≡ u' → k ≡ k' → e ≡ g → c ≡ c'
-    → text a b n u k e c ≡ text g g n' u' k' g c'
-same_text text a b e g n n' u u' k k' c c' first second ns us ks third cs = cc
-
 -- the size of the turn of what the disk stands for
 abbrev pub turn_size_of : Standing → TurnSize
 turn_size_of s = size_of_turn (packet_room s.geometry) s.geometry.segment
@@ -81,28 +76,6 @@ same_turn : (room room' segment segment' : ℕ) (c c' : whole.Carousel) → room
     → size_of_turn room segment (turn_of_carousel c segment)
     ≡ size_of_turn room' segment' (turn_of_carousel c' segment')
 same_turn room room' segment segment' c c' rooms segments cs = cc
-
--- what is told in front of how long a receiver has to listen
-abbrev pub front_text : Standing → Layout → (records gap : ℕ) → List ℕ → List ℕ
-front_text s layout records gap rates =
-    sizes_text s.geometry
-    ++ use_text s.geometry layout (length s.carousel.objects) (bytes_of_bodies s.carousel.objects)
-    gap records
-    ++ turn_text (turn_size_of s)
-    ++ turn_lengths_text rates s.geometry.segment
-    (turn_of_carousel s.carousel s.geometry.segment)
-
--- and that
-pub waits_so : (front : List ℕ) (rate : Option ℕ) (a b g : Geometry) (d directory t turn : ℕ) → a ≡ b
-    → b ≡ g → d ≡ directory → t ≡ turn
-    → front ++ waits_text (usual_pause rate a.packet) (div_ceil (a.segment + 11) (packet_room a)) d t
-    ≡ front ++ waits_text (usual_pause rate g.packet) (div_ceil (g.segment + 11) (packet_room g))
-    directory turn
-waits_so front rate a b g d directory t turn first then ds ts =
-    let text = λ (h : Geometry) (m n : ℕ). front ++ waits_text (usual_pause rate h.packet)
-    (div_ceil (h.segment + 11) (packet_room h)) m n in
-    ap (λ (h : Geometry). text h d t) (first ∙ then) ∙ ap (λ n. text g n t) ds
-    ∙ ap (λ n. text g directory n) ts
 
 module _ (view : RepositoryView) (s : Standing) (agrees : Agrees view s) where
   abbrev items : List beside.Object
@@ -133,26 +106,38 @@ module _ (view : RepositoryView) (s : Standing) (agrees : Agrees view s) where
       (segments ∙ ap (λ (g : Geometry). g.segment) agrees.geometry)
       (ap (λ (k : Carousel). carousel_of k agrees.bodies) cs ∙ sym agrees.carousel)
 
-  -- what was told of what is kept in memory is told of what the disk stands for
-  pub told_text : (g : Geometry) (gap : ℕ) (size : TurnSize) (rates : List ℕ)
-      → g ≡ view.journal.geometry → size ≡ turn_size_of s
-      → sizes_text g ++ use_text view.journal.geometry view.journal.layout (length items)
-      (sum_by (λ (o : beside.Object). o.length) items) gap view.journal.count
-      ++ turn_text size ++ turn_lengths_text rates view.journal.geometry.segment
-      (turn_of_carousel (carousel_of view.carousel agrees.bodies)
-      view.journal.geometry.segment)
-      ≡ front_text s view.journal.layout view.journal.count gap rates
-  told_text g gap size rates sizes counted =
-      same_text (λ a b n u k e c. sizes_text a
-      ++ use_text b view.journal.layout n u gap view.journal.count
-      ++ turn_text k
-      ++ turn_lengths_text rates e.segment (turn_of_carousel c e.segment))
-      g view.journal.geometry view.journal.geometry s.geometry
-      (length items) (length s.carousel.objects)
-      (sum_by (λ (o : beside.Object). o.length) items) (bytes_of_bodies s.carousel.objects)
-      size (turn_size_of s) (carousel_of view.carousel agrees.bodies) s.carousel
-      (sizes ∙ agrees.geometry) agrees.geometry number used counted agrees.geometry
-      (sym agrees.carousel)
+  -- the figures of what is kept in memory are those of what the disk stands for
+  pub figures : (rate : Option ℕ) (directory : ℕ) (told : Inspection)
+      → told.geometry ≡ view.journal.geometry → told.objects ≡ length items
+      → told.bytes ≡ sum_by (λ (o : beside.Object). o.length) items
+      → IsLongestGap view.extents view.journal.geometry.area told.gap
+      → told.slots ≡ slot_count view.journal.layout view.journal.geometry
+      → told.records ≡ view.journal.count → told.turn ≡ turn_size_of s
+      → told.waits ≡ waits_of (usual_pause rate view.journal.geometry.packet)
+      (div_ceil (view.journal.geometry.segment + 11) (packet_room view.journal.geometry))
+      directory told.turn.packets
+      → told.times.items ≡ times_of (rates_of rate) view.journal.geometry.segment
+      (turn_of_carousel (carousel_of view.carousel agrees.bodies) view.journal.geometry.segment)
+      → AreFigures rate s view.journal.layout view.journal.count directory told
+  figures rate directory told geometry objects bytes gap slots records turn waits times =
+      let same = agrees.geometry in
+      record {
+        geometry = geometry ∙ same;
+        objects = objects ∙ number;
+        bytes = bytes ∙ used;
+        gap = subst (λ e. IsLongestGap e s.geometry.area told.gap) agrees.extents
+            (subst (λ (g : Geometry). IsLongestGap view.extents g.area told.gap) same gap);
+        slots = slots ∙ ap (slot_count view.journal.layout) same;
+        records = records;
+        turn = turn;
+        waits = waits ∙ ap (λ (g : Geometry). waits_of (usual_pause rate g.packet)
+            (div_ceil (g.segment + 11) (packet_room g)) directory told.turn.packets) same;
+        times = times
+            ∙ ap (λ (g : Geometry). times_of (rates_of rate) g.segment
+            (turn_of_carousel (carousel_of view.carousel agrees.bodies) g.segment)) same
+            ∙ ap (λ (c : whole.Carousel). times_of (rates_of rate) s.geometry.segment
+            (turn_of_carousel c s.geometry.segment)) (sym agrees.carousel);
+      }
 
 module _ {D : Type 0} (state : D → State) (disk : D) (server : ServerView D)
     (sound : (d : D) → (state d).IsHonest → IsHonestDisk (state d))
@@ -161,61 +146,60 @@ module _ {D : Type 0} (state : D → State) (disk : D) (server : ServerView D)
     (same : (state server.disk).failures ≡ (state disk).failures)
     (going : IsFalse server.view.halted)
     (at_start : (s : Standing) → Agrees server.view s → place_in server s ≡ first_place s)
-    (rate : Option ℕ) (before after : Option (List ℕ)) where
+    (rate : Option ℕ) (form : Form) (before after : Option (List ℕ)) where
   -- what is told of an open server is told of the disk, from its opening on
-  tells_of : (is_printed : List ℕ → Type 0)
+  tells_of : (text : List ℕ) (is_printed : List ℕ → Type 0) → is_printed text
       → ((s : Standing) → Agrees server.view s
-      → HasInspected rate server.view.journal (place_in server s) s is_printed)
-      → OfStanding (λ s. TellsOfDisk rate s (state disk).bytes is_printed) (state disk)
+      → IsAbout rate form server.view.journal (place_in server s) s text)
+      → OfStanding (λ s. TellsOfDisk rate form s (state disk).bytes is_printed) (state disk)
       (state server.disk)
-  tells_of is_printed told = λ s honest stands.
+  tells_of text is_printed printed about = λ s honest stands.
       let first = opened honest in
       let is = read_so (state disk) (state server.disk) (state server.disk) server.view (sound disk)
       (sound server.disk) opens opened going (λ h. h) s honest stands in
-      let so = told s is.agrees in
+      let so = about s is.agrees in
       record {
         journal = with_records server.view.journal first.records;
         read = first.read;
-        gap = so.gap;
-        longest = so.longest;
-        printed = subst (λ (p : Place). is_printed (inspection_text s server.view.journal.layout
-            (length first.records) so.gap (directory_packets p) rate))
-            (at_start s is.agrees)
-            (subst (λ n. is_printed (inspection_text s server.view.journal.layout n so.gap
-            (directory_packets (place_in server s)) rate)) first.count so.printed);
+        told = so.told;
+        figures = subst (λ (p : Place). AreFigures rate s server.view.journal.layout
+            (length first.records) (directory_packets p) so.told) (at_start s is.agrees)
+            (subst (λ n. AreFigures rate s server.view.journal.layout n
+            (directory_packets (place_in server s)) so.told) first.count so.figures);
+        text = text;
+        shown = so.shown;
+        printed = printed;
       }
 
   -- what was printed of an open server was printed of the disk
-  printed : (result : Result Unit Refusal)
-      → ((s : Standing) → Agrees server.view s → OnOk result
-      (HasInspected rate server.view.journal (place_in server s) s (Appends before after)))
-      → ((s : Standing) → Agrees server.view s → IfErr result (λ r. r ≡ WriteFault
-      → HasInspected rate server.view.journal (place_in server s) s
-      (λ text. WritesFront text before after)))
-      → IfErr result (λ r. IsInspectingFault r before after)
-      → PrintsFigures rate (fault_of result) before after (state disk) (state server.disk)
-  printed (Ok done) told broken why = (same, tells_of (Appends before after) told)
-  printed (Err refusal) told broken (inl is) =
-      subst (λ r. PrintsFigures rate (Some r) before after (state disk) (state server.disk)) (sym is)
-      (same, tells_of (λ text. WritesFront text before after) (λ s agrees. broken s agrees is))
-  printed (Err refusal) told broken (inr is) =
-      subst (λ r. PrintsFigures rate (Some r) before after (state disk) (state server.disk))
-      (sym is.0) (same, is.1)
+  printed : {E : Type 0} (made : Result (Vec ℕ Global) E) (ending : Option Refusal)
+      → ((s : Standing) → Agrees server.view s → IfOk made (λ text. IsAbout rate form
+      server.view.journal (place_in server s) s text.items))
+      → MatchResult made (λ text. Prints ending text.items before after)
+      (λ _. (ending ≡ Some OutOfMemory) × Keeps before after)
+      → PrintsFigures rate form ending before after (state disk) (state server.disk)
+  printed (Ok text) None about prints =
+      (same, tells_of text.items (Appends before after) prints about)
+  printed (Ok text) (Some refusal) about prints =
+      subst (λ r. PrintsFigures rate form (Some r) before after (state disk) (state server.disk))
+      (sym prints.0)
+      (same, tells_of text.items (λ t. WritesFront t before after) prints.1 about)
+  printed (Err e) ending about lacks =
+      subst (λ r. PrintsFigures rate form r before after (state disk) (state server.disk))
+      (sym lacks.0) (same, lacks.1)
 
   -- so the disk is inspected, from its opening on
-  pub inspects : (result : Result Unit Refusal)
-      → ((s : Standing) → Agrees server.view s → OnOk result
-      (HasInspected rate server.view.journal (place_in server s) s (Appends before after)))
-      → ((s : Standing) → Agrees server.view s → IfErr result (λ r. r ≡ WriteFault
-      → HasInspected rate server.view.journal (place_in server s) s
-      (λ text. WritesFront text before after)))
-      → IfErr result (λ r. IsInspectingFault r before after)
-      → Inspects rate (fault_of result) before after (state disk) (state server.disk)
-  inspects result told broken why = record {
+  pub inspects : {E : Type 0} (made : Result (Vec ℕ Global) E) (ending : Option Refusal)
+      → ((s : Standing) → Agrees server.view s → IfOk made (λ text. IsAbout rate form
+      server.view.journal (place_in server s) s text.items))
+      → MatchResult made (λ text. Prints ending text.items before after)
+      (λ _. (ending ≡ Some OutOfMemory) × Keeps before after)
+      → Inspects rate form ending before after (state disk) (state server.disk)
+  inspects made ending about prints = record {
     syncs = opens;
     came = inr (
       openable (state disk) (state server.disk) (state server.disk) server.view (sound disk)
           (sound server.disk) opens opened going (λ h. h),
-      printed result told broken why,
+      printed made ending about prints,
     );
   }

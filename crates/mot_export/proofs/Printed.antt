@@ -13,7 +13,6 @@ use Rattle.std.proofs.lemmas.List.{take_all}
 use Rattle.std.proofs.lemmas.List.Concat.{flat_map-append}
 use Rattle.hex.specs.Hex.{encode_lower, encode_with, lower_digits}
 use Rattle.mot_journal.specs.Image.{Standing}
-use Rattle.mot_export.specs.Inspecting.{size_column}
 use Rattle.mot_lines.specs.Export.{front_words, put_line}
 use Rattle.mot_numbers.specs.declared.refusal.Refusal.{Refusal}
 use Rattle.mot_objects.specs.declared.object.Object as beside
@@ -26,17 +25,6 @@ use Rattle.mot_session.proofs.Laws.{Writes-after, WritesFront-after, WritesFront
 use Rattle.mot_session.proofs.Laws.{WritesFront-before}
 use Rattle.mot_session.specs.Output.{Writes}
 use Rattle.mot_session.specs.Served.{WritesFront}
-
--- a word, and the columns of these sizes
-abbrev pub columns_line : List ℕ → (in_24 in_48 in_72 in_96 : ℕ) → List ℕ
-columns_line word in_24 in_48 in_72 in_96 =
-    word ++ size_column in_24 ++ size_column in_48 ++ size_column in_72 ++ size_column in_96 ++ 10
-    ∷ []
-
--- a text of four columns, with the same columns
-pub same_columns : {A : Type 0} (text : A → A → A → A → List ℕ) (p q r s p' q' r' s' : A) → p ≡ p'
-    → q ≡ q' → r ≡ r' → s ≡ s' → text p q r s ≡ text p' q' r' s'
-same_columns text p q r s p' q' r' s' ps qs rs ss = cc
 
 digits-append : (t xs ys : List ℕ) → encode_with t (xs ++ ys) ≡ encode_with t xs ++ encode_with t ys
 unfolding encode_with

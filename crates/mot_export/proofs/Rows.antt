@@ -1,10 +1,13 @@
 -- Frames filled, as they were measured behind a multiplexer.
-use Rattle.std.proofs.Common.{◌≡◌, true, false, [], ◌∷◌, replicate, refl}
+use Rattle.std.proofs.Common.{◌≡◌, true, false, [], ◌∷◌, None, Some, replicate, refl}
+use Rattle.std.specs.Prelude.{codes}
 use Rattle.mot_player.specs.Turn.{Turn}
 use Rattle.mot_listening.specs.Lengths.{frame_size, lengths_of_turn}
 use Rattle.mot_export.specs.Filling.{frames_of}
-use Rattle.mot_export.specs.Filling.{tenths_of}
-use Rattle.mot_export.specs.Inspecting.{filled_above, filled_below}
+use Rattle.json.specs.Print.{escape_byte, print_from}
+use Rattle.json.specs.Token.{boolean, null, string}
+use Rattle.mot_export.specs.Inspecting.{filled_above, filled_below, time_in}
+use Rattle.mot_export.specs.Json.{json_line}
 
 -- forty objects of 90 bytes, with names of three
 abbrev small : Turn
@@ -20,9 +23,6 @@ frames-96 = refl
 
 frames-72 : (frames_of (frame_size 32) (lengths_of_turn 67 1024 small)).begun ≡ 91
 frames-72 = refl
-
-told-88 : tenths_of 88 ≡ 22
-told-88 = refl
 
 -- at 8 and 16 kbit/s no packet of 96 bytes is sent, and at 16 one of 48
 never-8 : (frames_of (frame_size 8) (96 ∷ 24 ∷ [])).fits ≡ false
@@ -46,8 +46,25 @@ filled : (frames_of (frame_size 40) (96 ∷ 24 ∷ 96 ∷ 24 ∷ [])).begun ≡ 
 filled = refl
 
 -- beside 1,024 bytes the groups of these segments fill packets of 96 bytes
-below : filled_below 1024 91 ≡ 990
+below : filled_below 1024 91 ≡ Some 990
 below = refl
 
-above : filled_above 1024 91 ≡ 1081
+above : filled_above 1024 91 ≡ Some 1081
 above = refl
+
+-- no disk has segments of fewer than 64 bytes
+none_below : filled_below 64 91 ≡ None
+none_below = refl
+
+-- packets of 96 bytes fit in no frame of 8 kbit/s
+too_long : time_in 8 (96 ∷ 24 ∷ []) ≡ None
+too_long = refl
+
+lasts : time_in 32 (lengths_of_turn 91 1024 small) ≡ Some 2112
+lasts = refl
+
+-- an object of a text, a truth and nothing
+in_json : json_line ((codes "name", string (codes "a\"b")) ∷ (codes "clean", boolean true)
+    ∷ (codes "mime", null) ∷ []) ≡ codes "{\"name\":\"a\\\"b\",\"clean\":true,\"mime\":null}\n"
+unfolding print_from escape_byte
+in_json = refl

@@ -1,5 +1,5 @@
 -- How a multiplexer fills the frames of a sub-channel with the packets of a turn.
-use Rattle.std.specs.Prelude.{◌≡◌, ℕ, ◌+◌, ◌-◌, ◌*◌, ◌/◌, ◌<◌, ◌≤◌, true, ◌&&◌, nat_le}
+use Rattle.std.specs.Prelude.{◌≡◌, ℕ, ◌+◌, ◌-◌, ◌<◌, ◌≤◌, true, ◌&&◌, nat_le}
 use Rattle.std.specs.Prelude.{if◌then◌else◌, List, length, map}
 use Rattle.std.specs.List.{fold}
 use Rattle.mot_player.specs.Laws.{IsAtTurnsBeginning}
@@ -26,10 +26,6 @@ with_packet size f packet =
 -- the frames that packets of these lengths fill, in order
 abbrev pub frames_of : (size : ℕ) → List ℕ → Frames
 frames_of size packets = fold (with_packet size) no_frames packets
-
--- tenths of a second that so many frames of 24 ms take, rounded up
-abbrev pub tenths_of : ℕ → ℕ
-tenths_of frames = (24 * frames + 99) / 100
 
 -- The packets of a turn that is played from its beginning have these lengths.
 abbrev pub TurnsHaveTheirLengths : Type 0

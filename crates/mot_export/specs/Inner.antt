@@ -1,4 +1,4 @@
 pub mod Filled
 pub mod Inspected
-pub mod Lengths
 pub mod Printing
+pub mod Tokens

@@ -1,7 +1,8 @@
 //! Frames of a sub-channel, filled as a multiplexer fills them.
-ghost use Rattle.std.specs.Prelude.{◌≡◌, ◌+◌, ◌^◌, ◌<◌, ◌≤◌, ◌∷◌, map};
+ghost use Rattle.std.specs.Prelude.{◌≡◌, ◌+◌, ◌^◌, ◌<◌, ◌≤◌, ◌∷◌, length, map};
 ghost use Rattle.std.specs.List.{fold};
 ghost use Rattle.mot_numbers.specs.PacketLength.{room_of};
+ghost use Rattle.mot_numbers.specs.declared.geometry.TheConstants.{MAX_OBJECTS};
 ghost use Rattle.mot_objects.specs.declared.body.TheConstants.{MAX_BODY};
 ghost use Rattle.mot_objects.specs.declared.object.Object.{Object};
 ghost use Rattle.mot_export.specs.Filling.{frames_of, no_frames, with_packet};
@@ -19,7 +20,7 @@ use mot_packets::packet_count;
 #[derive(Clone, Copy)]
 pub(crate) struct Frames {
     /// How many were begun.
-    pub(crate) begun: u128,
+    pub(crate) begun: u64,
     /// How many bytes of the last are left.
     pub(crate) left: usize,
     /// Whether each packet fits in a frame.
@@ -40,7 +41,7 @@ impl Frames {
 
     /// Those that were filled from what is left of these on.
     fn add(&mut self, behind: Frames)
-        requires few { (self.old.begun < 2 ^ 120) × (behind.begun < 2 ^ 20) }
+        requires few { (self.old.begun < 2 ^ 60) × (behind.begun < 2 ^ 20) }
         ensures { self.new ≡ followed_by self.old behind }
     {
         self.begun += behind.begun;
@@ -50,7 +51,7 @@ impl Frames {
 
     /// Puts a packet into the frame, or into the next if it has no room there.
     fn fill(&mut self, size: usize, packet: usize)
-        requires { self.old.begun < 2 ^ 120 }
+        requires { self.old.begun < 2 ^ 60 }
         ensures filled { self.new ≡ with_packet size self.old packet }
         ensures few { self.new.begun ≤ self.old.begun + 1 }
     {
@@ -85,17 +86,6 @@ struct Step {
 }
 
 impl Step {
-    /// What no group makes of a frame with no bytes left.
-    fn none() -> Self {
-        Step {
-            size: 0,
-            room: 19,
-            len: 0,
-            left: 0,
-            frames: Frames::none(),
-        }
-    }
-
     /// What a group of so many bytes makes of a frame with so many left.
     fn new(size: usize, full_length: PacketLength, len: usize, left: usize) -> Self
         requires { len < 2 ^ 20 }
@@ -127,14 +117,14 @@ pub(crate) fn turn_frames(
     directory: usize,
     objects: &[Object],
 ) -> Frames
-    requires { directory ≤ MAX_BODY }
+    requires short { directory ≤ MAX_BODY }
+    requires few { length objects.now ≤ MAX_OBJECTS }
     ensures filled { result ≡ frames_of size (turn_lengths (room_of full_length) segment_size
         (directory ∷ map (λ (o : Object). o.length) objects.now)) }
-    ensures few { result.begun < 2 ^ 110 }
+    ensures few { result.begun < 2 ^ 50 }
 {
     let mut frames = Frames::none();
-    let none = Step::none();
-    let mut steps = [none; STEPS];
+    let mut steps = [None; STEPS];
     fill_entity(
         &mut frames,
         &mut steps,
@@ -160,13 +150,13 @@ pub(crate) fn turn_frames(
 /// Fills frames with the packets of a directory or body of so many bytes.
 fn fill_entity(
     frames: &mut Frames,
-    steps: &mut [Step; STEPS],
+    steps: &mut [Option<Step>; STEPS],
     size: usize,
     full_length: PacketLength,
     segment_size: SegmentSize,
     len: usize,
 )
-    requires few { frames.old.begun < 2 ^ 110 }
+    requires few { frames.old.begun < 2 ^ 50 }
     requires short { len ≤ MAX_BODY }
     ensures filled { frames.new ≡ fold (with_packet size) frames.old
         (entity_lengths (room_of full_length) segment_size len) }
@@ -186,7 +176,7 @@ fn fill_entity(
 /// What a group of so many bytes makes of a frame with so many left. It is kept, since most groups
 /// are as long as the one before, and frames end in few ways.
 fn frames_behind(
-    steps: &mut [Step; STEPS],
+    steps: &mut [Option<Step>; STEPS],
     size: usize,
     full_length: PacketLength,
     len: usize,
@@ -199,18 +189,19 @@ fn frames_behind(
 {
     let place = (left / 8 + len) % STEPS;
     let room = full_length.room();
-    let kept = steps[place];
-    if kept.size == size && kept.room == room && kept.len == len && kept.left == left {
+    if let Some(kept) = &steps[place]
+        && (kept.left == left && kept.len == len && kept.room == room && kept.size == size)
+    {
         return kept.frames;
     }
     let step = Step::new(size, full_length, len, left);
-    steps[place] = step;
+    steps[place] = Some(step);
     step.frames
 }
 
 /// Fills frames with the packets of a group of so many bytes.
 fn fill_group(frames: &mut Frames, size: usize, full_length: PacketLength, len: usize)
-    requires few { frames.old.begun < 2 ^ 115 }
+    requires few { frames.old.begun < 2 ^ 55 }
     requires short { len < 2 ^ 20 }
     ensures filled { frames.new ≡ fold (with_packet size) frames.old
         (group_lengths (room_of full_length) len) }

@@ -10,7 +10,7 @@ mod unfit;
 mod used;
 
 pub use exit::{Exit, explain, refuse};
-pub use printing::{write_bytes, write_last, write_number};
+pub use printing::{print_text, write_bytes, write_last, write_number};
 pub use subject::{Subject, subject_of, tell};
 pub use unfit::{clear_after, clear_unfit};
 pub use used::{TaskCalls, TaskEnd, UsedDisk};

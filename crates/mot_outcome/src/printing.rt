@@ -1,10 +1,14 @@
 //! Printing bytes, whole or up to a fault.
+ghost use Rattle.std.specs.Prelude.{◌≡◌, MatchResult, Some};
+ghost use Rattle.std.specs.Io.KnownBytes.{Keeps};
+ghost use Rattle.mot_numbers.specs.declared.refusal.Refusal.TheVariants.{OutOfMemory};
 ghost use Rattle.mot_outcome.specs.Outcome.{Prints, number_line};
 ghost use Rattle.mot_playout.specs.Attempts.{fault_of};
 
 use itoa::Buffer;
 use mot_numbers::Refusal;
 use mot_session::write_whole;
+use std::alloc::AllocError;
 use std::io::Write;
 
 /// Writes all of the bytes; after a fault some first of them were written.
@@ -22,6 +26,23 @@ pub fn write_last<W: Write>(writer: &mut W, bytes: &[u8]) -> Result<(), Refusal>
 {
     write_bytes(writer, bytes)?;
     writer.flush().map_err(|_| Refusal::WriteFault)
+}
+
+/// Prints a text, if there was memory for it, and hands all of it on.
+pub fn print_text<W: Write>(
+    writer: &mut W,
+    text: Result<Vec<u8>, AllocError>,
+) -> Result<(), Refusal>
+    ensures { MatchResult text
+        (λ text. Prints (fault_of result) text.items (W.contents writer.old)
+        (W.contents writer.new))
+        (λ _. (fault_of result ≡ Some OutOfMemory)
+        × Keeps (W.contents writer.old) (W.contents writer.new)) }
+{
+    match text {
+        Ok(text) => write_last(writer, &text),
+        Err(AllocError) => Err(Refusal::OutOfMemory),
+    }
 }
 
 /// Writes a line of these bytes and a number in decimal digits, and hands all of it on.

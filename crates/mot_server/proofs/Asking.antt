@@ -58,12 +58,12 @@ not_play name other differs is play =
 works_not_play : (name : Text) (rows : List Row) (work : DiskTask) → IsWork name rows work
     → name ≡ codes "play" → ⊥
 works_not_play name rows Serve is play = not_play name (codes "serve") refl is play
-works_not_play name rows Check is play = not_play name (codes "check") refl is play
+works_not_play name rows (Check f) is play = not_play name (codes "check") refl is.0 play
 works_not_play name rows Migrate is play = not_play name (codes "migrate") refl is play
-works_not_play name rows ListObjects is play = not_play name (codes "list") refl is play
+works_not_play name rows (ListObjects f) is play = not_play name (codes "list") refl is.0 play
 works_not_play name rows (GetBody o) is play = not_play name (codes "get") refl is.0 play
 works_not_play name rows Export is play = not_play name (codes "export") refl is play
-works_not_play name rows (Inspect r) is play = not_play name (codes "inspect") refl is.0 play
+works_not_play name rows (Inspect r f) is play = not_play name (codes "inspect") refl is.0 play
 
 -- a task that is asked for lacks none
 pub lacks_none : (name : Text) (rows : List Row) (task : Task) → IsTask name rows task

@@ -1,23 +1,27 @@
 -- What an open server is inspected by.
-use Rattle.std.specs.Prelude.{◌≡◌, ◌⊎◌, ℕ, List, Option}
-use Rattle.std.specs.Io.KnownBytes.{Keeps}
+use Rattle.std.specs.Prelude.{ℕ, List, Option}
+use Rattle.mot_cli.specs.declared.task.Form.{Form}
 use Rattle.mot_journal.specs.Image.{Standing}
 use Rattle.mot_journal.specs.Journal.{JournalView}
-use Rattle.mot_numbers.specs.declared.refusal.Refusal.{Refusal}
-use Rattle.mot_numbers.specs.declared.refusal.Refusal.TheVariants.{OutOfMemory, WriteFault}
+use Rattle.mot_listening.specs.Entities.{turn_lengths}
 use Rattle.mot_player.specs.Place.{Place, directory_packets}
-use Rattle.mot_export.specs.Inspecting.{inspection_text}
-use Rattle.mot_carousel.specs.Gap.{IsLongestGap}
+use Rattle.mot_export.specs.Inspecting.{AreFigures, IsShown, time_in}
+use Rattle.mot_export.specs.declared.inspection.Inspection.{Inspection}
+use Rattle.mot_export.specs.declared.inspection.TurnTime.{TurnTime}
 
--- what was printed, of which this is known, tells of a server that plays from this place
-pub record HasInspected (rate : Option ℕ) (journal : JournalView) (place : Place) (s : Standing)
-    (is_printed : List ℕ → Type 0) : Type 0 where
-  pub gap : ℕ
-  pub longest : IsLongestGap s.extents s.geometry.area gap
-  pub printed : is_printed (inspection_text s journal.layout journal.count gap
-      (directory_packets place) rate)
+-- a text tells of a server that plays from this place
+pub record IsAbout (rate : Option ℕ) (form : Form) (journal : JournalView) (place : Place)
+    (s : Standing) (text : List ℕ) : Type 0 where
+  pub told : Inspection
+  pub figures : AreFigures rate s journal.layout journal.count (directory_packets place) told
+  pub shown : IsShown form told text
 
--- why it could not be
-abbrev pub IsInspectingFault : Refusal → (old new : Option (List ℕ)) → Type 0
-IsInspectingFault refusal old new =
-    (refusal ≡ WriteFault) ⊎ ((refusal ≡ OutOfMemory) × Keeps old new)
+-- how long the turn of entities of these lengths is at a rate
+abbrev pub entities_time : (size : ℕ) → List ℕ → (rate : ℕ) → TurnTime
+entities_time size entities rate = record {
+  rate = rate;
+  in_24 = time_in rate (turn_lengths 19 size entities);
+  in_48 = time_in rate (turn_lengths 43 size entities);
+  in_72 = time_in rate (turn_lengths 67 size entities);
+  in_96 = time_in rate (turn_lengths 91 size entities);
+}

@@ -27,7 +27,7 @@ returns-in-Check-clause-keeps g c = c.check_disk.ensures.0.keeps
 
 pub returns-in-Check-clause-does : goal.returns-in-Check-clause-does
 returns-in-Check-clause-does g c =
-    same _ _ _ Check _ _ _ _ _ _ c.in-Check.is (Keeps-refl _, c.check_disk.ensures)
+    same _ _ _ (Check c.in-Check.form) _ _ _ _ _ _ c.in-Check.is (Keeps-refl _, c.check_disk.ensures)
 
 pub returns-in-Migrate-clause-keeps : goal.returns-in-Migrate-clause-keeps
 returns-in-Migrate-clause-keeps g c = c.migrate_disk.ensures.keeps
@@ -41,7 +41,7 @@ returns-in-ListObjects-clause-keeps g c = c.list_disk.ensures.0.keeps
 
 pub returns-in-ListObjects-clause-does : goal.returns-in-ListObjects-clause-does
 returns-in-ListObjects-clause-does g c =
-    same _ _ _ ListObjects _ _ _ _ _ _ c.in-ListObjects.is (Keeps-refl _, c.list_disk.ensures)
+    same _ _ _ (ListObjects c.in-ListObjects.form) _ _ _ _ _ _ c.in-ListObjects.is (Keeps-refl _, c.list_disk.ensures)
 
 pub returns-in-GetBody-clause-keeps : goal.returns-in-GetBody-clause-keeps
 returns-in-GetBody-clause-keeps g c = c.get_body.ensures.0.keeps
@@ -62,4 +62,4 @@ returns-in-Inspect-clause-keeps g c = c.inspect_disk.ensures.ended.syncs.keeps
 
 pub returns-in-Inspect-clause-does : goal.returns-in-Inspect-clause-does
 returns-in-Inspect-clause-does g c =
-    same _ _ _ (Inspect c.in-Inspect.rate) _ _ _ _ _ _ c.in-Inspect.is (Keeps-refl _, c.inspect_disk.ensures.ended)
+    same _ _ _ (Inspect c.in-Inspect.rate c.in-Inspect.form) _ _ _ _ _ _ c.in-Inspect.is (Keeps-refl _, c.inspect_disk.ensures.ended)

@@ -13,7 +13,7 @@ returns-in-Err-clause-ended g c =
     let start = state c.args.disk in
     let opens = c.in-Err.ensures in
     let old = g.W.Write.contents c.args.writer.now in
-    subst (λ (e : _). Inspects c.args.rate (fault_of e.result) old old start (state e.disk))
+    subst (λ (e : _). Inspects c.args.rate c.args.form (fault_of e.result) old old start (state e.disk))
     (sym c.unopened.ensures)
     (record {
       syncs = opens.only_syncs;
@@ -29,15 +29,15 @@ returns-clause-ended g c =
     let start = c.args.disk in
     let opens = c.in-Ok.ensures in
     let server = c.in-Ok.server in
-    let calls = c.write_inspection-result.ensures in
-    let result = c.write_inspection-result.result in
+    let ending = fault_of c.print_text-result.result in
     let rate = c.args.rate in
     let old = g.W.Write.contents c.args.writer.now in
-    let new = g.W.Write.contents c.write_inspection-result.new.writer in
-    subst (λ d. Inspects rate (fault_of result) old new (state start) (state d))
+    let new = g.W.Write.contents c.print_text-result.new.writer in
+    subst (λ d. Inspects rate c.args.form ending old new (state start) (state d))
     (sym c.into_disk.ensures)
     (inspects state start server g.met.D.Disk.sound opens.only_syncs opens.opened opens.calm
-    opens.going opens.at_start rate old new result calls.told calls.broken calls.fault)
+    opens.going opens.at_start rate c.args.form old new c.text_about.result ending c.text_about.ensures
+    c.print_text-result.ensures)
 
 pub returns-clause-lengths : goal.returns-clause-lengths
 returns-clause-lengths g c = turns-have-their-lengths
