@@ -17,7 +17,7 @@ use std::alloc::{AllocError, Global};
 use std::cell::RefCell;
 
 /// A life that makes so many calls has no end.
-pub const LONGEST: u64 = 60_000;
+pub const LONGEST: u64 = 200_000;
 
 /// What a seed came to.
 #[derive(Drop)]
