@@ -5,6 +5,7 @@ A row that waits looks again and again whether what it waits for is so, for a mi
 of system calls are strace's.
 """
 import fcntl
+import json
 import os
 import pathlib
 import re
@@ -206,6 +207,10 @@ class AirCase(Case):
         os.chown(place, NOBODY, NOBODY)
         return place, {"user": NOBODY, "group": NOBODY, "extra_groups": []}
 
-    def inspected(self, disk):
-        """What `inspect` tells of a disk in its first lines, by the first word."""
-        return dict(it.split(" ", 1) for it in self.motcar("inspect", disk)[1].decode().splitlines()[:8])
+    def in_json(self, command, *words):
+        """The objects that a command prints with `--json`, a line each."""
+        return [json.loads(it) for it in self.motcar(command, *words, "--json")[1].decode().splitlines()]
+
+    def inspected(self, disk, *words):
+        """The numbers of a disk, as `inspect` tells them."""
+        return self.in_json("inspect", disk, *words)[0]

@@ -1,4 +1,5 @@
 """What a person does to a disk by hand: `list`, `put`, `withdraw`, `get`; and `sync --dry-run`, which changes nothing."""
+import json
 import os
 
 from .air import AirCase
@@ -20,6 +21,14 @@ class ByHand(AirCase):
 
     def listed(self):
         return self.motcar("list", self.place)
+
+    def test_names_in_json(self):
+        """Each name is a text of JSON, as it is: with quotes, backslashes, and letters of more bytes."""
+        names = ['a"b', "c\\d", "e/f", "\u00e9\u20ac\U0001f4fb", "\u0085x"]
+        self.serve(self.place, [f"put {it} 1 0 {'text/plain' if it == 'e/f' else '-'} 61" for it in names])
+        came = [json.loads(it) for it in self.motcar("list", self.place, "--json")[1].decode().split("\n")[2:-1]]
+        wanted = [(it, "text/plain" if it == "e/f" else None) for it in names]
+        self.expect("names in JSON", wanted, [(it["name"], it["mime"]) for it in came])
 
     def test_put(self):
         self.expect("a file is put", (0, b"put logo.png done object 2 directory 3\n", b""), self.first)

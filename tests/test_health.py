@@ -1,4 +1,5 @@
 """Whether a disk on air sends packets, by when its status was written last: `health`."""
+import json
 import os
 import re
 import signal
@@ -31,6 +32,18 @@ class Health(AirCase):
                 break
         line = f"{'ok: ' if is_well else ''}{path} was written {seconds} s ago{'' if is_well else STILL}\n"
         self.expect(f"{path}, {seconds} s old, {more}", (0 if is_well else 1, line, ""), came)
+
+    def test_json(self):
+        """The same answer, and the age if it is known."""
+        self.aged(1_000)
+        status, printed, said = self.asked("status", "--json")
+        came = json.loads(printed)
+        age = came.pop("age")
+        line = f"status was written {age} s ago{STILL}"
+        self.expect("a status of 1,000 s", (1, {"ok": False, "line": line}, ""), (status, came, said))
+        self.expect("and its age", True, 1_000 <= age < 1_060)
+        wanted = {"ok": False, "age": None, "line": "none: No such file or directory"}
+        self.expect("none", (1, wanted), (self.asked("none", "--json")[0], json.loads(self.asked("none", "--json")[1])))
 
     def test_ages(self):
         for is_well, seconds in ((True, 0), (True, 3), (True, 120), (False, 121), (False, 86_400)):

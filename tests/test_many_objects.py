@@ -1,4 +1,6 @@
 """Disks of 250 objects, the most that there may be: what `check`, `export` and `inspect` print, a turn, and reasons."""
+import json
+
 from . import dab
 from .disk import NOTHING, disk_of, slot
 from .program import Case, refused
@@ -31,14 +33,23 @@ class ManyObjects(Case):
         self.expect("export", (0, self.lines, b""), self.motcar("export", "disk"))
 
     def test_inspect_counts_all(self):
-        status, printed, said = self.motcar("inspect", "disk")
+        status, printed, said = self.motcar("inspect", "disk", "--json")
         used = sum(map(len, self.bodies.values()))
         packets = dab.packets_told(self.serve("disk", b"turn\n")[1])
-        size = sum(map(len, packets))
-        wanted = ["address 1", "packet 96", "segment 1024", "objects 250 used 250 free 0",
-                  f"data 300000 used {used} free {300_000 - used}", f"gap {300_000 - used}",
-                  "slots 252 used 251 free 1", f"turn {len(packets)} packets {size} bytes"]
-        self.expect("inspect", (0, wanted, b""), (status, printed.decode().splitlines()[:8], said))
+        wanted = {"objects_used": 250, "objects_free": 0, "data_used": used, "data_free": 300_000 - used,
+                  "gap": 300_000 - used, "slots_used": 251, "slots_free": 1, "turn_packets": len(packets),
+                  "turn_bytes": sum(map(len, packets))}
+        came = json.loads(printed.splitlines()[0])
+        self.expect("inspect", (0, wanted, b""), (status, {it: came[it] for it in wanted}, said))
+
+    def test_json_shows_all(self):
+        objects = [{"tid": 2 + 2 * at, "version": 0, "type": 2, "subtype": 3, "length": len(body), "name": name, "mime": None}
+                   for at, (name, body) in enumerate(self.bodies.items())]
+        listed = [{"period": 0, "directory": 501, "cursor": 501, "objects": 250}, *objects]
+        for command, more in (("list", []), ("check", [{"clean": True, "layout": 2}])):
+            status, printed, said = self.motcar(command, "disk", "--json")
+            came = [json.loads(it) for it in printed.decode().splitlines()]
+            self.expect(f"{command} --json", (0, [*listed, *more], b""), (status, came, said))
 
     def test_a_turn_has_all(self):
         directory, bodies = dab.carousel_of(dab.packets_told(self.serve("disk", b"turn\n")[1]))

@@ -64,14 +64,14 @@ class Samples(Status):
     def test_all(self):
         self.shown()
         inspected, version = self.inspected(self.place), self.motcar("--version")[1].split()[1].decode()
-        packets, size = map(int, inspected["turn"].split()[0::2][:2])
+        packets, size = inspected["turn_packets"], inspected["turn_bytes"]
         reasons = {"b.txt": "6 EmptyBody", 'c\\"\\\\.txt': "6 EmptyBody", "d?.txt": "2 BadName: a control character"}
         files = {f'motcar_file_refused{{command="read",name="{it}",reason="{why}"}}': 1 for it, why in reasons.items()}
         wanted = {"packets_total": packets, "turns_total": 1, "looks_total": 1, "changes_total": 1, "refusals_total": 4,
                   "line_refusals_total": 0, "mass_withdrawals_total": 0, "objects_limit": 40, "data_bytes": 600_000,
                   "objects": 1, "directory_id": 3, "directory_checksum": self.checksum(self.place),
                   "turn_packets": packets, "turn_bytes": size, "folder_listed": 1,
-                  "free_bytes": int(inspected["data"].split()[-1]), "gap_bytes": int(inspected["gap"]),
+                  "free_bytes": inspected["data_free"], "gap_bytes": inspected["gap"],
                   f'info{{version="{version}"}}': 1}
         wanted = {f"motcar_{it}": value for it, value in wanted.items()}
         # (the others have rows of their own)
@@ -211,9 +211,27 @@ class Samples(Status):
         until(lambda: self.count("packets_total") > at)
         after = self.count("turn_packets"), self.count("turn_bytes")
         player.end()
-        packets, size = map(int, self.inspected(self.place)["turn"].split()[0::2][:2])
+        inspected = self.inspected(self.place)
+        packets, size = inspected["turn_packets"], inspected["turn_bytes"]
         came = after, after[1] > before[1] + 5_000
         self.expect("a turn after an object was replaced", ((packets, size), True), came)
+
+    @needs_strace
+    def test_a_look_that_takes_long(self):
+        """It is told at level 4, by the clock of the status; one that is not long is not, and none without a status."""
+        def took(delay, *more):
+            words = [self.program, "play", self.place, "/dev/null", "--at-once", "--turns", "3", "--levels",
+                     "--folder", self.objects_of, *more]
+            fault = f"inject=getdents64:delay_enter={delay}:when=1"
+            told = run(traced(words, fault, paths=[self.objects_of, f"{self.objects_of}/."]))[1].decode()
+            return [re.sub(r"\d+ s$", "N s", it) for it in told.splitlines() if " took " in it]
+
+        status = "--status", self.path
+        self.expect("a listing of 2.5 s", [f"<4>look {self.objects_of} took N s"], took(2_500_000, *status))
+        self.expect("one of 0.2 s", [], took(200_000, *status))
+        self.expect("one of 2.5 s, without a status", [], took(2_500_000))
+
+    test_a_look_that_takes_long.takes_long = True
 
     @needs_strace
     def test_a_disk_fault_in_a_look(self):
