@@ -330,7 +330,7 @@ def given():
     found = argparse.ArgumentParser(description=__doc__, formatter_class=argparse.RawDescriptionHelpFormatter)
     found.add_argument("program", nargs="?", metavar="PROGRAM",
                        help="the built program (the one that the tests find), or a Debian package of it")
-    found.add_argument("--systems", default=",".join(SYSTEMS), help=f"names of Debian releases ({','.join(SYSTEMS)})")
+    found.add_argument("--systems", default=",".join(SYSTEMS), help=f"names of Debian releases, or of folders in --folder ({','.join(SYSTEMS)})")
     found.add_argument("--folder", type=pathlib.Path, help="where each Debian is kept (a temporary folder)")
     found.add_argument("--old-filter", action="store_true", help="a control: the units have the filter that they once had")
     options = found.parse_args()
