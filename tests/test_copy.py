@@ -145,7 +145,7 @@ class Copy(AirCase):
         self.expect_refused("damaged", refused(20, "Damaged 0", "damaged: slot 0: the directory has transport id 0"), "damaged", "new")
 
     def test_a_new_one_that_can_not_be(self):
-        why = "old: in use by another program; choose another name than the old disk's, or end that program first"
+        why = "old: in use by another program; if it is the old disk itself, choose another name; else end that program first"
         self.expect_refused("itself", refused(15, "DeviceFault", why), "old", "old")
         why = "none/new: No such file or directory; check the path"
         self.expect_refused("no folder", refused(15, "DeviceFault", why), "old", "none/new")

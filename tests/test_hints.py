@@ -20,7 +20,7 @@ HINTS = {
 # What the manual's table has beside the words of the system: rows of other tests.
 OTHERS = [
     "in use by another program; if that plays it, its folder or its lines change it; else end it first",
-    "in use by another program; choose another name than the old disk's, or end that program first", "neither a regular file nor a block device; check the path",
+    "in use by another program; if it is the old disk itself, choose another name; else end that program first", "neither a regular file nor a block device; check the path",
     "the file has a second name (a hard link); remove the other name", "a file is there; move it away",
     "not a regular file of one name; move it away", "the name of a file of another disk; choose another name",
 ]

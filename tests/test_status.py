@@ -224,10 +224,10 @@ class Samples(Status):
                      "--folder", self.objects_of, *more]
             fault = f"inject=getdents64:delay_enter={delay}:when=1"
             told = run(traced(words, fault, paths=[self.objects_of, f"{self.objects_of}/."]))[1].decode()
-            return [re.sub(r"\d+ s$", "N s", it) for it in told.splitlines() if " took " in it]
+            return [re.sub(r" [3-6] s$", " 3 to 6 s", it) for it in told.splitlines() if " took " in it]
 
         status = "--status", self.path
-        self.expect("a listing of 2.5 s", [f"<4>look {self.objects_of} took N s"], took(2_500_000, *status))
+        self.expect("a listing of 3.2 s", [f"<4>look {self.objects_of} took 3 to 6 s"], took(3_200_000, *status))
         self.expect("one of 0.2 s", [], took(200_000, *status))
         self.expect("one of 2.5 s, without a status", [], took(2_500_000))
 

@@ -109,8 +109,6 @@ CITED_BY_NONE = [
     ("mot_listening/Entities", "packet_lengths group_lengths segment_lengths entity_lengths turn_lengths",
      "private functions of `turn_size` and of `inspect_disk`"),
     ("mot_feed/Sending", "SendsPacket", "private functions of `mot_feed`, and its proofs"),
-    ("mot_log/Status", "label_byte", "private functions of `write_status`"),
-    ("mot_log/Text", "line_of", "private functions of `EventLog`"),
     ("mot_folder/Log", "TellsAnswers TellsOf not_accepted waiting_in", "private functions of `look_at_folder`"),
     ("mot_line_folder/LineFiles", "refusal_of", "private functions of `Spool`"),
     ("mot_shelf/Gives", "GoesOnSo", "private functions of `look_at_folder`"),

@@ -1,6 +1,5 @@
 -- Words that give no geometry, and ask for no task.
-use Rattle.std.proofs.Common.{◌≡◌, ◌∙◌, ℕ, List, Option, Some, None, arith, ap, refl, sym}
-use Rattle.std.proofs.Common.{◌≢◌, slice_index, subst}
+use Rattle.std.proofs.Common.{◌≡◌, ◌∙◌, ℕ, List, Option, Some, None, ap, refl, sym}
 use Rattle.std.specs.Prelude.{Bool, true, false, ◌||◌, bytes_eq, codes}
 use Rattle.clap.specs.Words.{Row, Text}
 use Rattle.mot_numbers.specs.declared.geometry.Geometry.{Geometry}
@@ -24,10 +23,6 @@ pub none_found : {T : Type 0} (P : T → Type 0) (found : Option T) → found �
     → ((x : T) → P x → ⊥) → Finds P found
 none_found P found is none = rw is none
 
--- texts that differ in a byte are not the same
-clash : (i m n : ℕ) (a b : Text) → slice_index a i ≡ m → slice_index b i ≡ n → m ≢ n → a ≡ b → ⊥
-clash i m n a b p q d e = d (sym p ∙ ap (λ t. slice_index t i) e ∙ q)
-
 -- the names of what is done with a disk alone
 abbrev names_work : Text → Bool
 names_work name = bytes_eq name (codes "serve") || bytes_eq name (codes "check")
@@ -44,11 +39,34 @@ work_named name rows (GetBody object) is = ap names_work is.0
 work_named name rows Export is = ap names_work is
 work_named name rows (Inspect rate form) is = ap names_work is.0
 
--- another name asks for none of that
-elsewhere : (name : Text) (rows : List Row) (work : DiskTask) → names_work name ≡ false
-    → IsWork name rows work → ⊥
-elsewhere name rows work none is =
-    let yes = work_named name rows work is in absurd (cc)
+-- whether a command of this name may ask for this task
+abbrev may_ask : Text → Task → Bool
+may_ask name (Memory g) = bytes_eq name (codes "memory")
+may_ask name (Format path g directory) = bytes_eq name (codes "format")
+may_ask name (Copy copy) = bytes_eq name (codes "copy")
+may_ask name (Play p) = bytes_eq name (codes "play")
+may_ask name (Sync sync) = bytes_eq name (codes "sync")
+may_ask name (Health h) = bytes_eq name (codes "health")
+may_ask name (PutFiles disk files types) = bytes_eq name (codes "put")
+may_ask name (WithdrawNames disk names) = bytes_eq name (codes "withdraw")
+may_ask name (OnDisk disk work) = names_work name
+
+asked : (name : Text) (rows : List Row) (task : Task) → IsTask name rows task
+    → may_ask name task ≡ true
+asked name rows (Memory g) t = ap (λ n. bytes_eq n (codes "memory")) t.0
+asked name rows (Format path g directory) t = ap (λ n. bytes_eq n (codes "format")) t.0
+asked name rows (Copy copy) t = ap (λ n. bytes_eq n (codes "copy")) t.0
+asked name rows (Play p) t = ap (λ n. bytes_eq n (codes "play")) t.0
+asked name rows (Sync sync) t = ap (λ n. bytes_eq n (codes "sync")) t.0
+asked name rows (Health h) t = ap (λ n. bytes_eq n (codes "health")) t.0
+asked name rows (PutFiles disk files types) t = ap (λ n. bytes_eq n (codes "put")) t.0
+asked name rows (WithdrawNames disk names) t = ap (λ n. bytes_eq n (codes "withdraw")) t.0
+asked name rows (OnDisk disk work) t = work_named name rows work t.0
+
+-- a command asks for no task of another one
+other : (name : Text) (rows : List Row) (task : Task) → may_ask name task ≡ false
+    → IsTask name rows task → ⊥
+other name rows task none is = let yes = asked name rows task is in absurd (cc)
 
 given_same : (text : Option (List ℕ)) (m n : Option ℕ) → IsGiven text m → IsGiven text n → m ≡ n
 given_same None m n a b = a ∙ sym b
@@ -74,90 +92,53 @@ no_geometry rows o a None is = λ g gives. let same = geometry_same rows o gives
 
 module _ (rows : List Row) (none : (g : Geometry) → GiveGeometry rows g → ⊥) where
   -- words without a geometry ask for no disk in memory
-  pub memory_needs_geometry : (name : Text) → name ≡ codes "memory" → (task : Task)
-      → IsTask name rows task → ⊥
-  memory_needs_geometry name is (Memory g) t = none g t.1
-  memory_needs_geometry name is (Format path g directory) t =
-      clash 0 109 102 (codes "memory") (codes "format") refl refl (omega arith) (sym is ∙ t.0)
-  memory_needs_geometry name is (Copy copy) t =
-      clash 0 109 99 (codes "memory") (codes "copy") refl refl (omega arith) (sym is ∙ t.0)
-  memory_needs_geometry name is (Play p) t =
-      clash 0 109 112 (codes "memory") (codes "play") refl refl (omega arith) (sym is ∙ t.0)
-  memory_needs_geometry name is (Sync sync) t =
-      clash 0 109 115 (codes "memory") (codes "sync") refl refl (omega arith) (sym is ∙ t.0)
-  memory_needs_geometry name is (Health h) t =
-      clash 0 109 104 (codes "memory") (codes "health") refl refl (omega arith) (sym is ∙ t.0)
-  memory_needs_geometry name is (PutFiles disk files types) t =
-      clash 0 109 112 (codes "memory") (codes "put") refl refl (omega arith) (sym is ∙ t.0)
-  memory_needs_geometry name is (WithdrawNames disk names) t =
-      clash 0 109 119 (codes "memory") (codes "withdraw") refl refl (omega arith) (sym is ∙ t.0)
-  memory_needs_geometry name is (OnDisk disk work) t =
-      elsewhere (codes "memory") rows work refl (subst (λ (n : Text). IsWork n rows work) is t.0)
+  pub memory_needs : (task : Task) → IsTask (codes "memory") rows task → ⊥
+  memory_needs (Memory g) t = none g t.1
+  memory_needs (Format path g directory) t = other (codes "memory") rows (Format path g directory) refl t
+  memory_needs (Copy copy) t = other (codes "memory") rows (Copy copy) refl t
+  memory_needs (Play p) t = other (codes "memory") rows (Play p) refl t
+  memory_needs (Sync sync) t = other (codes "memory") rows (Sync sync) refl t
+  memory_needs (Health h) t = other (codes "memory") rows (Health h) refl t
+  memory_needs (PutFiles disk files types) t = other (codes "memory") rows (PutFiles disk files types) refl t
+  memory_needs (WithdrawNames disk names) t = other (codes "memory") rows (WithdrawNames disk names) refl t
+  memory_needs (OnDisk disk work) t = other (codes "memory") rows (OnDisk disk work) refl t
 
 module _ (rows : List Row)
     (none : (g : Geometry) (d : ℕ) → GiveGeometry rows g → GiveDirectory rows d → ⊥) where
   -- words without a geometry, or a directory's id, ask for no formatting
-  pub format_needs_both : (name : Text) → name ≡ codes "format" → (task : Task)
-      → IsTask name rows task → ⊥
-  format_needs_both name is (Format path g directory) t = none g directory t.2 t.3
-  format_needs_both name is (Memory g) t =
-      clash 0 102 109 (codes "format") (codes "memory") refl refl (omega arith) (sym is ∙ t.0)
-  format_needs_both name is (Copy copy) t =
-      clash 0 102 99 (codes "format") (codes "copy") refl refl (omega arith) (sym is ∙ t.0)
-  format_needs_both name is (Play p) t =
-      clash 0 102 112 (codes "format") (codes "play") refl refl (omega arith) (sym is ∙ t.0)
-  format_needs_both name is (Sync sync) t =
-      clash 0 102 115 (codes "format") (codes "sync") refl refl (omega arith) (sym is ∙ t.0)
-  format_needs_both name is (Health h) t =
-      clash 0 102 104 (codes "format") (codes "health") refl refl (omega arith) (sym is ∙ t.0)
-  format_needs_both name is (PutFiles disk files types) t =
-      clash 0 102 112 (codes "format") (codes "put") refl refl (omega arith) (sym is ∙ t.0)
-  format_needs_both name is (WithdrawNames disk names) t =
-      clash 0 102 119 (codes "format") (codes "withdraw") refl refl (omega arith) (sym is ∙ t.0)
-  format_needs_both name is (OnDisk disk work) t =
-      elsewhere (codes "format") rows work refl (subst (λ (n : Text). IsWork n rows work) is t.0)
+  pub format_needs : (task : Task) → IsTask (codes "format") rows task → ⊥
+  format_needs (Format path g directory) t = none g directory t.2 t.3
+  format_needs (Memory g) t = other (codes "format") rows (Memory g) refl t
+  format_needs (Copy copy) t = other (codes "format") rows (Copy copy) refl t
+  format_needs (Play p) t = other (codes "format") rows (Play p) refl t
+  format_needs (Sync sync) t = other (codes "format") rows (Sync sync) refl t
+  format_needs (Health h) t = other (codes "format") rows (Health h) refl t
+  format_needs (PutFiles disk files types) t = other (codes "format") rows (PutFiles disk files types) refl t
+  format_needs (WithdrawNames disk names) t = other (codes "format") rows (WithdrawNames disk names) refl t
+  format_needs (OnDisk disk work) t = other (codes "format") rows (OnDisk disk work) refl t
 
 module _ (rows : List Row) (none : (after : Option ℕ) → GiveLastId rows after → ⊥) where
   -- words without an id to go on after ask for no copy
-  pub copy_needs_id : (task : Task) → IsTask (codes "copy") rows task → ⊥
-  copy_needs_id (Copy copy) t = none copy.after t.4
-  copy_needs_id (Memory g) t =
-      clash 0 99 109 (codes "copy") (codes "memory") refl refl (omega arith) t.0
-  copy_needs_id (Format path g directory) t =
-      clash 0 99 102 (codes "copy") (codes "format") refl refl (omega arith) t.0
-  copy_needs_id (Play p) t =
-      clash 0 99 112 (codes "copy") (codes "play") refl refl (omega arith) t.0
-  copy_needs_id (Sync sync) t =
-      clash 0 99 115 (codes "copy") (codes "sync") refl refl (omega arith) t.0
-  copy_needs_id (Health h) t =
-      clash 0 99 104 (codes "copy") (codes "health") refl refl (omega arith) t.0
-  copy_needs_id (PutFiles disk files types) t =
-      clash 0 99 112 (codes "copy") (codes "put") refl refl (omega arith) t.0
-  copy_needs_id (WithdrawNames disk names) t =
-      clash 0 99 119 (codes "copy") (codes "withdraw") refl refl (omega arith) t.0
-  copy_needs_id (OnDisk disk work) t = elsewhere (codes "copy") rows work refl t.0
+  pub copy_needs : (task : Task) → IsTask (codes "copy") rows task → ⊥
+  copy_needs (Copy copy) t = none copy.after t.4
+  copy_needs (Memory g) t = other (codes "copy") rows (Memory g) refl t
+  copy_needs (Format path g directory) t = other (codes "copy") rows (Format path g directory) refl t
+  copy_needs (Play p) t = other (codes "copy") rows (Play p) refl t
+  copy_needs (Sync sync) t = other (codes "copy") rows (Sync sync) refl t
+  copy_needs (Health h) t = other (codes "copy") rows (Health h) refl t
+  copy_needs (PutFiles disk files types) t = other (codes "copy") rows (PutFiles disk files types) refl t
+  copy_needs (WithdrawNames disk names) t = other (codes "copy") rows (WithdrawNames disk names) refl t
+  copy_needs (OnDisk disk work) t = other (codes "copy") rows (OnDisk disk work) refl t
 
 module _ (rows : List Row) (none : (p : PlayTask) → IsTask (codes "play") rows (Play p) → ⊥) where
   -- words that nothing is played for ask for no playing
   pub play_needs : (task : Task) → IsTask (codes "play") rows task → ⊥
   play_needs (Play p) t = none p t
-  play_needs (Memory g) t =
-      clash 0 112 109 (codes "play") (codes "memory") refl refl (omega arith) t.0
-  play_needs (Format path g directory) t =
-      clash 0 112 102 (codes "play") (codes "format") refl refl (omega arith) t.0
-  play_needs (Copy copy) t =
-      clash 0 112 99 (codes "play") (codes "copy") refl refl (omega arith) t.0
-  play_needs (Sync sync) t =
-      clash 0 112 115 (codes "play") (codes "sync") refl refl (omega arith) t.0
-  play_needs (Health h) t =
-      clash 0 112 104 (codes "play") (codes "health") refl refl (omega arith) t.0
-  play_needs (PutFiles disk files types) t =
-      clash 1 108 117 (codes "play") (codes "put") refl refl (omega arith) t.0
-  play_needs (WithdrawNames disk names) t =
-      clash 0 112 119 (codes "play") (codes "withdraw") refl refl (omega arith) t.0
-  play_needs (OnDisk disk work) t = elsewhere (codes "play") rows work refl t.0
-
--- what is found for a word is that for each name that is the same
-pub named_so : (rows : List Row) (name word : Text) → name ≡ word → (found : Option Task)
-    → Finds (IsTask word rows) found → Finds (IsTask name rows) found
-named_so rows name word is found h = subst (λ (n : Text). Finds (IsTask n rows) found) (sym is) h
+  play_needs (Memory g) t = other (codes "play") rows (Memory g) refl t
+  play_needs (Format path g directory) t = other (codes "play") rows (Format path g directory) refl t
+  play_needs (Copy copy) t = other (codes "play") rows (Copy copy) refl t
+  play_needs (Sync sync) t = other (codes "play") rows (Sync sync) refl t
+  play_needs (Health h) t = other (codes "play") rows (Health h) refl t
+  play_needs (PutFiles disk files types) t = other (codes "play") rows (PutFiles disk files types) refl t
+  play_needs (WithdrawNames disk names) t = other (codes "play") rows (WithdrawNames disk names) refl t
+  play_needs (OnDisk disk work) t = other (codes "play") rows (OnDisk disk work) refl t

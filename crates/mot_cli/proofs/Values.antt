@@ -1,5 +1,5 @@
 -- The values of an argument, in what a parse found and in its rows.
-use Rattle.std.proofs.Common.{◌≡◌, ◌∙◌, ℕ, Bool, true, false, cond, List, [], ◌∷◌, Option, Some}
+use Rattle.std.proofs.Common.{◌≡◌, ◌∙◌, ℕ, Bool, true, false, cond, List, [], ◌∷◌, Option, Some, None}
 use Rattle.std.proofs.Common.{map, refl, sym, ap}
 use Rattle.std.specs.Prelude.{option_map, option_and_then, find, slice_get}
 use Rattle.std.specs.Borrow.{Bor}
@@ -22,29 +22,18 @@ value_in = option_and_then (λ a.
 abbrev value_of_row : Option Row → Option (List ℕ)
 value_of_row = option_and_then (λ (r : Row). slice_get r.values 0)
 
+abbrev first_in : Option (List (List ℕ)) → Option (List ℕ)
+first_in = option_and_then (λ values. slice_get values 0)
+
+value_first : (a : Option MatchedArg) → value_in a ≡ first_in (option_map raw_values a)
+value_first None = refl
+value_first (Some a) = first_text a.vals.items
+
+row_first : (r : Option Row) → value_of_row r ≡ first_in (option_map (λ (r : Row). r.values) r)
+row_first None = refl
+row_first (Some r) = refl
+
 module _ (id : List ℕ) where
-  first_step : (b : Bool) (e : Bor (List ℕ) × MatchedArg)
-      (found : Option (Bor (List ℕ) × MatchedArg)) (row : Row) (rows : Option Row)
-      → row.values ≡ map (λ (s : Bor (List ℕ)). s.now) e.1.vals.items
-      → value_in (option_map (λ (x : Bor (List ℕ) × MatchedArg). x.1) found) ≡ value_of_row rows
-      → value_in (option_map (λ (x : Bor (List ℕ) × MatchedArg). x.1) (cond b (Some e) found))
-      ≡ value_of_row (cond b (Some row) rows)
-  first_step true e found row rows v h = first_text e.1.vals.items ∙ ap (λ l. slice_get l 0) (sym v)
-  first_step false e found row rows v h = h
-
-  entries_value : (es : List (Bor (List ℕ) × MatchedArg))
-      → value_in (option_map (λ (x : Bor (List ℕ) × MatchedArg). x.1)
-      (find (λ (x : Bor (List ℕ) × MatchedArg). bytes_eq x.0.now id) es))
-      ≡ value_of_row (find (λ (r : Row). bytes_eq r.id id) (map row_of es))
-  entries_value [] = refl
-  entries_value (e ∷ es) = first_step (bytes_eq e.0.now id) e
-      (find (λ (x : Bor (List ℕ) × MatchedArg). bytes_eq x.0.now id) es) (row_of e)
-      (find (λ (r : Row). bytes_eq r.id id) (map row_of es)) refl (entries_value es)
-
-  -- the first value that was found of an argument is the first in its rows
-  pub first_found : (f : Found) → first_value f id ≡ first_of id (rows_of f)
-  first_found f = entries_value f.entries.items
-
   all_step : (b : Bool) (e : Bor (List ℕ) × MatchedArg)
       (found : Option (Bor (List ℕ) × MatchedArg)) (row : Row) (rows : Option Row)
       → row.values ≡ raw_values e.1
@@ -69,3 +58,8 @@ module _ (id : List ℕ) where
   -- all values that were found of an argument are those in its rows
   pub all_found : (f : Found) → option_map raw_values (matched_of f id) ≡ all_of id (rows_of f)
   all_found f = entries_all f.entries.items
+
+  -- the first value that was found of an argument is the first in its rows
+  pub first_found : (f : Found) → first_value f id ≡ first_of id (rows_of f)
+  first_found f = value_first (matched_of f id) ∙ ap first_in (all_found f)
+      ∙ sym (row_first (find (λ (r : Row). bytes_eq r.id id) (rows_of f)))

@@ -18,101 +18,41 @@ replies.
 Exit status: 0 if everything was done, 1 after a refusal, which standard error or the log describes,
 2 if the command line is wrong.";
 
+/// Rows of commands: the name, what the help says, and the arguments.
+macro_rules! verbs {
+    ($($name:literal, $about:literal, $arguments:expr;)*) => {
+        &[$(Verb { name: $name, about: $about, arguments: $arguments }),*]
+    };
+}
+
 /// The commands, those that a station needs first.
-const VERBS: &[Verb] = &[
-    Verb {
-        name: "format",
-        about: "Make a disk, and its file if there is none",
-        arguments: &[DISK, OBJECTS, DATA, SEGMENT, ADDRESS, PACKET, AFTER],
-    },
-    Verb {
-        name: "play",
-        about: "Play a disk into a pipe, a device or a file, each packet in one write",
-        arguments: &[
-            DISK,
-            PACKETS,
-            FOLDER,
-            TYPES,
-            ALLOW_EMPTY,
-            KEEP_MOST,
-            AT_ONCE,
-            LINES,
-            EVERY,
-            TURNS,
-            DIRECTORY,
-            LOOK,
-            PLAY_RATE,
-            EARLY,
-            STATUS,
-            LEVELS,
-        ],
-    },
-    Verb {
-        name: "sync",
-        about: "Make the carousel of a disk equal to a folder",
-        arguments: &[DISK, DIR, TYPES, ALLOW_EMPTY, KEEP_MOST, AT_ONCE, DRY_RUN],
-    },
-    Verb {
-        name: "health",
-        about: "Say whether a disk on air sends packets, by when its status was written",
-        arguments: &[WRITTEN, MAX_AGE, JSON],
-    },
-    Verb {
-        name: "list",
-        about: "Print the objects of a disk",
-        arguments: &[DISK, JSON],
-    },
-    Verb {
-        name: "put",
-        about: "Put files into the carousel of a disk, or replace the objects of their names",
-        arguments: &[DISK, FILE, TYPES],
-    },
-    Verb {
-        name: "withdraw",
-        about: "Withdraw objects from the carousel of a disk",
-        arguments: &[DISK, NAMES],
-    },
-    Verb {
-        name: "get",
-        about: "Print the body of an object of a disk, and nothing else",
-        arguments: &[DISK, NAME],
-    },
-    Verb {
-        name: "serve",
-        about: "Answer lines of standard input on standard output, from a disk",
-        arguments: &[DISK],
-    },
-    Verb {
-        name: "inspect",
-        about: "Print the sizes of a disk, what is free of them, and how long a turn takes",
-        arguments: &[DISK, RATE, JSON],
-    },
-    Verb {
-        name: "check",
-        about: "Print the carousel of a disk, whether the disk is clean, and its layout",
-        arguments: &[DISK, JSON],
-    },
-    Verb {
-        name: "copy",
-        about: "Make a copy of a disk, of other sizes if they are given",
-        arguments: &[DISK, NEW, OBJECTS, DATA, SEGMENT, ADDRESS, PACKET, GOES_ON],
-    },
-    Verb {
-        name: "export",
-        about: "Print the lines that rebuild the carousel of a disk",
-        arguments: &[DISK],
-    },
-    Verb {
-        name: "migrate",
-        about: "Rewrite a disk of layout 1 into layout 2",
-        arguments: &[DISK],
-    },
-    Verb {
-        name: "memory",
-        about: "Answer lines of standard input on standard output, from memory",
-        arguments: &[OBJECTS, DATA, SEGMENT, ADDRESS, PACKET],
-    },
-];
+const VERBS: &[Verb] = verbs! {
+    "format", "Make a disk, and its file if there is none",
+        &[DISK, OBJECTS, DATA, SEGMENT, ADDRESS, PACKET, AFTER];
+    "play", "Play a disk into a pipe, a device or a file, each packet in one write",
+        &[DISK, PACKETS, FOLDER, TYPES, ALLOW_EMPTY, KEEP_MOST, AT_ONCE, LINES, EVERY, TURNS,
+            DIRECTORY, LOOK, PLAY_RATE, EARLY, STATUS, LEVELS];
+    "sync", "Make the carousel of a disk equal to a folder",
+        &[DISK, DIR, TYPES, ALLOW_EMPTY, KEEP_MOST, AT_ONCE, DRY_RUN];
+    "health", "Say whether a disk on air sends packets, by when its status was written",
+        &[WRITTEN, MAX_AGE, JSON];
+    "list", "Print the objects of a disk", &[DISK, JSON];
+    "put", "Put files into the carousel of a disk, or replace the objects of their names",
+        &[DISK, FILE, TYPES];
+    "withdraw", "Withdraw objects from the carousel of a disk", &[DISK, NAMES];
+    "get", "Print the body of an object of a disk, and nothing else", &[DISK, NAME];
+    "serve", "Answer lines of standard input on standard output, from a disk", &[DISK];
+    "inspect", "Print the sizes of a disk, what is free of them, and how long a turn takes",
+        &[DISK, RATE, JSON];
+    "check", "Print the carousel of a disk, whether the disk is clean, and its layout",
+        &[DISK, JSON];
+    "copy", "Make a copy of a disk, of other sizes if they are given",
+        &[DISK, NEW, OBJECTS, DATA, SEGMENT, ADDRESS, PACKET, GOES_ON];
+    "export", "Print the lines that rebuild the carousel of a disk", &[DISK];
+    "migrate", "Rewrite a disk of layout 1 into layout 2", &[DISK];
+    "memory", "Answer lines of standard input on standard output, from memory",
+        &[OBJECTS, DATA, SEGMENT, ADDRESS, PACKET];
+};
 
 /// The numbers of a geometry.
 const OBJECTS: Argument = Argument {

@@ -1,7 +1,6 @@
 //! What the command `copy` is asked for.
 ghost use Rattle.std.specs.Prelude.{codes};
 ghost use Rattle.clap.specs.Words.{found_of, rows_of};
-ghost use Rattle.mot_cli.specs.Given.{NameWord};
 ghost use Rattle.mot_cli.specs.Task.{IsTask};
 ghost use Rattle.mot_cli.specs.Inner.Found.{Finds};
 
@@ -24,13 +23,13 @@ pub struct CopyTask<'a> {
     pub after: Option<TransportId>,
 }
 
-/// The task of the command `copy` on this disk.
-pub(crate) fn copy_of<'m, 'a>(disk: &'a str, words: &'m ArgMatches<'a>) -> Option<Task<'m, 'a>>
-    ensures { NameWord (rows_of (found_of words.now)) (codes "DISK") disk.now
-        → Finds (IsTask (codes "copy") (rows_of (found_of words.now))) result }
+/// The task of the command `copy`.
+#[tactic(auto, using(crate::proofs::Unasked::copy_needs))]
+pub(crate) fn copy_of<'m, 'a>(words: &'m ArgMatches<'a>) -> Option<Task<'m, 'a>>
+    ensures { Finds (IsTask (codes "copy") (rows_of (found_of words.now))) result }
 {
     Some(Task::Copy(CopyTask {
-        disk,
+        disk: word_of(words, "DISK")?,
         new: word_of(words, "NEW")?,
         sizes: options_of(words)?,
         after: last_id_of(words)?,

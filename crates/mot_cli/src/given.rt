@@ -2,15 +2,16 @@
 ghost use Rattle.std.specs.Prelude.{◌≡◌, codes, option_map};
 ghost use Rattle.std.specs.Borrow.{Bor};
 ghost use Rattle.clap.specs.Words.{Text, first_of, found_of, rows_of};
-ghost use Rattle.mot_cli.specs.Given.{IsGiven, NameWord, NameWords, is_set};
+ghost use Rattle.mot_cli.specs.Given.{IsGiven, NameWords, is_set};
 ghost use Rattle.mot_cli.specs.Inner.Found.{Finds};
 
 use clap::ArgMatches;
 
-/// The word that was given for this one.
+/// The word that was given for this one, or the word of this option, if there is one.
 #[tactic(auto, using(crate::proofs::Values::first_found))]
 pub(crate) fn word_of<'a>(words: &ArgMatches<'a>, name: &str) -> Option<&'a str>
-    ensures { Finds (λ word. NameWord (rows_of (found_of words.now)) name.now word.now) result }
+    ensures { option_map (λ (word : Bor Text). word.now) result
+        ≡ first_of name.now (rows_of (found_of words.now)) }
 {
     words.get_str(name)
 }
@@ -29,10 +30,7 @@ pub(crate) fn number_of(words: &ArgMatches<'_>, name: &str) -> Option<Option<u32
     ensures { Finds (IsGiven (first_of name.now (rows_of (found_of words.now)))) result }
 {
     match words.get_str(name) {
-        Some(text) => match text.parse::<u32>() {
-            Ok(number) => Some(Some(number)),
-            Err(_) => None,
-        },
+        Some(text) => Some(Some(text.parse::<u32>().ok()?)),
         None => Some(None),
     }
 }
@@ -42,10 +40,7 @@ pub(crate) fn number_of(words: &ArgMatches<'_>, name: &str) -> Option<Option<u32
 pub(crate) fn is_set(words: &ArgMatches<'_>, name: &str) -> bool
     ensures { result ≡ is_set (rows_of (found_of words.now)) name.now }
 {
-    match words.get_str(name) {
-        Some(word) => word == "true",
-        None => false,
-    }
+    words.get_str(name) == Some("true")
 }
 
 /// Whether lines of the log are to begin with their level.
@@ -53,13 +48,4 @@ pub fn has_levels(words: &ArgMatches<'_>) -> bool
     ensures { result ≡ is_set (rows_of (found_of words.now)) (codes "levels") }
 {
     is_set(words, "levels")
-}
-
-/// The word of an option, if it was given.
-#[tactic(auto, using(crate::proofs::Values::first_found))]
-pub(crate) fn option_of<'a>(words: &ArgMatches<'a>, name: &str) -> Option<&'a str>
-    ensures { option_map (λ (word : Bor Text). word.now) result
-        ≡ first_of name.now (rows_of (found_of words.now)) }
-{
-    words.get_str(name)
 }

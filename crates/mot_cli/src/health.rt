@@ -1,7 +1,7 @@
 //! What the command is asked for that tells whether a disk on air is well.
 ghost use Rattle.std.specs.Prelude.{◌≡◌, codes};
 ghost use Rattle.clap.specs.Words.{found_of, rows_of};
-ghost use Rattle.mot_cli.specs.Task.{GiveAge, IsTask, is_age};
+ghost use Rattle.mot_cli.specs.Task.{GiveAge, IsTask};
 ghost use Rattle.mot_cli.specs.Inner.Found.{Finds};
 
 use crate::given::{number_of, word_of};
@@ -30,20 +30,12 @@ pub(crate) fn health_of<'m, 'a>(words: &'m ArgMatches<'a>) -> Option<Task<'m, 'a
     }))
 }
 
-/// The age that is given, if one is; `None` if it is out of its range.
+/// The age in seconds that is given, if one is; `None` if it is not 1 to 86,400.
 fn age_of(words: &ArgMatches<'_>) -> Option<Option<u32>>
     ensures { Finds (GiveAge (rows_of (found_of words.now))) result }
 {
-    let age = number_of(words, "max-age")?;
-    if is_age(age) { Some(age) } else { None }
-}
-
-/// Whether a status may be so many seconds old, if a number is given: 1 to 86,400.
-fn is_age(age: Option<u32>) -> bool
-    ensures { result ≡ is_age age }
-{
-    match age {
-        Some(age) => age >= 1 && age <= 86_400,
-        None => true,
+    match number_of(words, "max-age")? {
+        Some(age) if age < 1 || age > 86_400 => None,
+        age => Some(age),
     }
 }

@@ -2,7 +2,6 @@
 ghost use Rattle.std.specs.Prelude.{◌≡◌};
 ghost use Rattle.clap.specs.Words.{found_of, rows_of};
 ghost use Rattle.mot_cli.specs.Options.{AreGiven, GiveDirectory, GiveGeometry, GiveLastId, field_in};
-ghost use Rattle.mot_cli.specs.Options.{last_id};
 ghost use Rattle.mot_cli.specs.Inner.Found.{Finds};
 
 use crate::given::number_of;
@@ -37,6 +36,7 @@ impl Options {
 
     /// The geometry of these numbers, with that of `base` for each that is not given; `None` if one
     /// does not fit its field.
+    #[tactic(auto, unfolding(crate::specs::Options::geometry_over))]
     pub fn over(self, base: &Geometry) -> Option<Geometry>
         ensures { result ≡ geometry_over base.now self }
     {
@@ -61,6 +61,7 @@ fn field(number: Option<u32>, default: u16) -> Option<u16>
 }
 
 /// The geometry that the words give; `None` if a number does not fit its field.
+#[tactic(auto, using(crate::proofs::Unasked::no_geometry))]
 pub(crate) fn geometry_of(matches: &ArgMatches<'_>) -> Option<Geometry>
     ensures { Finds (GiveGeometry (rows_of (found_of matches.now))) result }
 {
@@ -82,18 +83,11 @@ pub(crate) fn directory_of(matches: &ArgMatches<'_>) -> Option<TransportId>
 pub(crate) fn last_id_of(matches: &ArgMatches<'_>) -> Option<Option<TransportId>>
     ensures { Finds (GiveLastId (rows_of (found_of matches.now))) result }
 {
-    last_id(number_of(matches, "after")?)
-}
-
-/// The transport id of this number, if one is given.
-fn last_id(number: Option<u32>) -> Option<Option<TransportId>>
-    ensures { result ≡ last_id number }
-{
-    match number {
-        Some(0) => Some(TransportId::new(65_535)),
-        Some(number) => Some(Some(TransportId::new(u16::try_from(number).ok()?)?)),
-        None => Some(None),
-    }
+    Some(match number_of(matches, "after")? {
+        Some(0) => TransportId::new(65_535),
+        Some(number) => Some(TransportId::new(u16::try_from(number).ok()?)?),
+        None => None,
+    })
 }
 
 /// The numbers of the options that were given; `None` if a word is not a number.

@@ -1,7 +1,7 @@
 //! What the command line is made with.
 ghost use Rattle.std.specs.Prelude.{◌≡◌, false};
 ghost use Rattle.clap.specs.Words.{rule_of};
-ghost use Rattle.mot_cli.specs.Inner.Made.{IsMade, line_app, empty_app, rule_for, verb_app};
+ghost use Rattle.mot_cli.specs.Inner.Made.{IsMade, line_app, rule_for, verb_app};
 
 use clap::{Arg, ArgAction, Command, value_parser};
 use std::alloc::{AllocError, Global};
@@ -51,25 +51,16 @@ pub(crate) const DISK: Argument = Argument {
 pub(crate) fn command_line<'a>(alloc: Global, verbs: &[Verb]) -> Result<Command<'a>, AllocError>
     ensures { IsMade (line_app verbs.now) result }
 {
-    let mut command = top(alloc)?;
+    let mut command = Command::new(alloc, "motcar")
+        .bin_name("motcar")?
+        .about("A data-service server for DAB digital radio")
+        .no_binary_name(true)
+        .subcommand_required(true);
     for verb in verbs {
         let below = verb_of(alloc, verb)?;
         command = command.subcommand(below)?;
     }
     Ok(command)
-}
-
-/// The program, with no command yet.
-fn top<'a>(alloc: Global) -> Result<Command<'a>, AllocError>
-    ensures { IsMade empty_app result }
-{
-    let command = Command::new(alloc, "motcar").bin_name("motcar")?;
-    Ok(
-        command
-            .about("A data-service server for DAB digital radio")
-            .no_binary_name(true)
-            .subcommand_required(true),
-    )
 }
 
 /// The command of a row.

@@ -1,12 +1,10 @@
 //! What the commands on air are asked for.
 ghost use Rattle.std.specs.Prelude.{◌≡◌, codes};
 ghost use Rattle.clap.specs.Words.{found_of, rows_of};
-ghost use Rattle.mot_cli.specs.Given.{NameWord};
-ghost use Rattle.mot_cli.specs.Inner.Played.{ArePlayNumbers};
-ghost use Rattle.mot_cli.specs.Task.{AreRules, GiveRate, IsTask, is_rate};
+ghost use Rattle.mot_cli.specs.Task.{AreRules, GiveRate, IsTask};
 ghost use Rattle.mot_cli.specs.Inner.Found.{Finds};
 
-use crate::given::{is_set, number_of, option_of, word_of};
+use crate::given::{is_set, number_of, word_of};
 use crate::task::Task;
 use crate::whole::is_whole;
 use clap::ArgMatches;
@@ -74,72 +72,39 @@ pub struct PlayTask<'a> {
     pub levels: bool,
 }
 
-/// The numbers that `play` is given, but for the rate.
-#[derive(Clone, Copy)]
-struct PlayNumbers {
-    /// After how many packets lines are read.
-    every: Option<u32>,
-    /// How many whole turns.
-    turns: Option<u32>,
-    /// After how many packets the directory is sent again.
-    directory: Option<u32>,
-    /// After how many packets of a turn the folder is looked at.
-    look: Option<u32>,
-    /// How many changed bodies at most come before the rest of the turn.
-    early: Option<u32>,
-}
-
-/// The task of the command `play` on this disk.
-pub(crate) fn play_of<'m, 'a>(disk: &'a str, words: &'m ArgMatches<'a>) -> Option<Task<'m, 'a>>
-    ensures { NameWord (rows_of (found_of words.now)) (codes "DISK") disk.now
-        → Finds (IsTask (codes "play") (rows_of (found_of words.now))) result }
+/// The task of the command `play`.
+pub(crate) fn play_of<'m, 'a>(words: &'m ArgMatches<'a>) -> Option<Task<'m, 'a>>
+    ensures { Finds (IsTask (codes "play") (rows_of (found_of words.now))) result }
 {
     if !is_whole(words) {
         return None;
     }
-    let rate = rate_of(words)?;
-    let packets = word_of(words, "PACKETS")?;
-    let numbers = numbers_of(words)?;
     Some(Task::Play(PlayTask {
-        disk,
-        packets,
-        folder: option_of(words, "folder"),
-        types: option_of(words, "types"),
+        disk: word_of(words, "DISK")?,
+        packets: word_of(words, "PACKETS")?,
+        folder: word_of(words, "folder"),
+        types: word_of(words, "types"),
         rules: rules_of(words),
-        lines: option_of(words, "lines"),
-        every: numbers.every,
-        turns: numbers.turns,
-        directory: numbers.directory,
-        look: numbers.look,
-        early: numbers.early,
-        rate,
-        status: option_of(words, "status"),
-        levels: is_set(words, "levels"),
-    }))
-}
-
-/// The numbers that `play` is given; `None` if a word is not a number.
-fn numbers_of(words: &ArgMatches<'_>) -> Option<PlayNumbers>
-    ensures { Finds (ArePlayNumbers (rows_of (found_of words.now))) result }
-{
-    Some(PlayNumbers {
+        lines: word_of(words, "lines"),
         every: number_of(words, "every")?,
         turns: number_of(words, "turns")?,
         directory: number_of(words, "directory")?,
         look: number_of(words, "look")?,
         early: number_of(words, "early")?,
-    })
+        rate: rate_of(words)?,
+        status: word_of(words, "status"),
+        levels: is_set(words, "levels"),
+    }))
 }
 
-/// The task of the command `sync` on this disk.
-pub(crate) fn sync_of<'m, 'a>(disk: &'a str, words: &'m ArgMatches<'a>) -> Option<Task<'m, 'a>>
-    ensures { NameWord (rows_of (found_of words.now)) (codes "DISK") disk.now
-        → Finds (IsTask (codes "sync") (rows_of (found_of words.now))) result }
+/// The task of the command `sync`.
+pub(crate) fn sync_of<'m, 'a>(words: &'m ArgMatches<'a>) -> Option<Task<'m, 'a>>
+    ensures { Finds (IsTask (codes "sync") (rows_of (found_of words.now))) result }
 {
     Some(Task::Sync(SyncTask {
-        disk,
+        disk: word_of(words, "DISK")?,
         folder: word_of(words, "DIR")?,
-        types: option_of(words, "types"),
+        types: word_of(words, "types"),
         rules: rules_of(words),
         dry_run: is_set(words, "dry-run"),
     }))
@@ -156,20 +121,13 @@ fn rules_of(words: &ArgMatches<'_>) -> LookRules
     }
 }
 
-/// The rate that is given, if one is; `None` if no sub-channel has it.
+/// The rate in kbit/s that is given, if one is; `None` if no sub-channel has it: each is a multiple
+/// of 8, and at most 1,824.
 pub(crate) fn rate_of(words: &ArgMatches<'_>) -> Option<Option<u32>>
     ensures { Finds (GiveRate (rows_of (found_of words.now))) result }
 {
-    let rate = number_of(words, "rate")?;
-    if is_rate(rate) { Some(rate) } else { None }
-}
-
-/// Whether a sub-channel has this rate in kbit/s, if one is given: a multiple of 8, at most 1,824.
-fn is_rate(rate: Option<u32>) -> bool
-    ensures { result ≡ is_rate rate }
-{
-    match rate {
-        Some(rate) => rate >= 8 && rate <= 1_824 && rate % 8 == 0,
-        None => true,
+    match number_of(words, "rate")? {
+        Some(rate) if rate < 8 || rate > 1_824 || rate % 8 != 0 => None,
+        rate => Some(rate),
     }
 }

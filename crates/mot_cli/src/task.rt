@@ -1,7 +1,6 @@
 //! What the words of the command line ask for.
-ghost use Rattle.std.specs.Prelude.{◌≡◌, ◌≢◌, IfErr, IfOk, codes};
+ghost use Rattle.std.specs.Prelude.{◌≡◌, IfErr, IfOk, codes};
 ghost use Rattle.clap.specs.Words.{found_of, rows_of};
-ghost use Rattle.mot_cli.specs.Given.{NameWord};
 ghost use Rattle.mot_cli.specs.Task.{IsTask, IsWhy, IsWork, form_in};
 ghost use Rattle.mot_cli.specs.declared.task.Task.{Task};
 ghost use Rattle.mot_cli.specs.Inner.Found.{Finds};
@@ -129,31 +128,21 @@ fn why_none(name: &str, words: &ArgMatches<'_>) -> NoTask
 }
 
 /// The task of a command and the words after it, if they ask for one.
+#[tactic(auto, using(crate::proofs::Unasked::memory_needs))]
 fn asked_of<'m, 'a>(name: &str, words: &'m ArgMatches<'a>) -> Option<Task<'m, 'a>>
     ensures { Finds (IsTask name.now (rows_of (found_of words.now))) result }
 {
     match name {
         "memory" => Some(Task::Memory(geometry_of(words)?)),
         "health" => health_of(words),
-        _ => disk_task(name, word_of(words, "DISK")?, words),
-    }
-}
-
-/// The task of a command on this disk.
-fn disk_task<'m, 'a>(name: &str, disk: &'a str, words: &'m ArgMatches<'a>) -> Option<Task<'m, 'a>>
-    ensures { name.now ≢ codes "memory" → name.now ≢ codes "health"
-        → NameWord (rows_of (found_of words.now)) (codes "DISK") disk.now
-        → Finds (IsTask name.now (rows_of (found_of words.now))) result }
-{
-    match name {
-        "format" => format_of(disk, words),
-        "copy" => copy_of(disk, words),
-        "play" => play_of(disk, words),
-        "sync" => sync_of(disk, words),
-        "put" => put_of(disk, words),
-        "withdraw" => withdraw_of(disk, words),
+        "format" => format_of(words),
+        "copy" => copy_of(words),
+        "play" => play_of(words),
+        "sync" => sync_of(words),
+        "put" => put_of(words),
+        "withdraw" => withdraw_of(words),
         _ => Some(Task::OnDisk {
-            disk,
+            disk: word_of(words, "DISK")?,
             work: work_of(name, words)?,
         }),
     }
@@ -186,13 +175,12 @@ pub(crate) fn form_of(words: &ArgMatches<'_>) -> Form
     }
 }
 
-/// The task of the command `format` on this disk.
-fn format_of<'m, 'a>(path: &'a str, words: &'m ArgMatches<'a>) -> Option<Task<'m, 'a>>
-    ensures { NameWord (rows_of (found_of words.now)) (codes "DISK") path.now
-        → Finds (IsTask (codes "format") (rows_of (found_of words.now))) result }
+/// The task of the command `format`.
+fn format_of<'m, 'a>(words: &'m ArgMatches<'a>) -> Option<Task<'m, 'a>>
+    ensures { Finds (IsTask (codes "format") (rows_of (found_of words.now))) result }
 {
     Some(Task::Format {
-        path,
+        path: word_of(words, "DISK")?,
         geometry: geometry_of(words)?,
         directory: directory_of(words)?,
     })

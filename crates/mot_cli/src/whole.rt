@@ -1,9 +1,9 @@
 //! Options that are given with another one.
-ghost use Rattle.std.specs.Prelude.{◌≡◌, false, is_none};
-ghost use Rattle.clap.specs.Words.{first_of, found_of, rows_of};
+ghost use Rattle.std.specs.Prelude.{◌≡◌};
+ghost use Rattle.clap.specs.Words.{found_of, rows_of};
 ghost use Rattle.mot_cli.specs.Whole.{flag_goes_with, goes_with, is_whole};
 
-use crate::given::{is_set, option_of};
+use crate::given::{is_set, word_of};
 use clap::ArgMatches;
 
 /// Whether each option is given with the other of which it says more: `--every` with `--lines`, and
@@ -23,21 +23,14 @@ pub(crate) fn is_whole(words: &ArgMatches<'_>) -> bool
 fn flag_goes_with(words: &ArgMatches<'_>, name: &str, other: &str) -> bool
     ensures { result ≡ flag_goes_with (rows_of (found_of words.now)) name.now other.now }
 {
-    !is_set(words, name) || !is_absent(words, other)
+    !is_set(words, name) || word_of(words, other).is_some()
 }
 
 /// Whether an option is given with another one, or is not given.
 fn goes_with(words: &ArgMatches<'_>, name: &str, other: &str) -> bool
     ensures { result ≡ goes_with (rows_of (found_of words.now)) name.now other.now }
 {
-    is_absent(words, name) || !is_absent(words, other)
-}
-
-/// Whether an option was not given.
-fn is_absent(words: &ArgMatches<'_>, name: &str) -> bool
-    ensures { result ≡ is_none (first_of name.now (rows_of (found_of words.now))) }
-{
-    option_of(words, name).is_none()
+    word_of(words, name).is_none() || word_of(words, other).is_some()
 }
 
 /// The option that is missing among words that are not whole, as help shows it.

@@ -17,14 +17,14 @@ use Rattle.mot_endpoints.specs.Types.{IsTyped}
 use Rattle.mot_events.specs.Events.{event_of}
 use Rattle.mot_events.specs.declared.event.LookEvent.{LookEvent}
 use Rattle.mot_events.specs.declared.event.LookResult.{LookResult}
-use Rattle.mot_events.specs.declared.event.LookResult.TheVariants as met
+use Rattle.mot_events.specs.declared.event.LookResult.TheVariants as outcome
 use Rattle.mot_events.specs.declared.event.LookStep.{LookStep}
 use Rattle.mot_events.specs.declared.event.LookStep.TheVariants.{Put, Withdraw}
 use Rattle.mot_events.specs.declared.event.Why.TheVariants.{Unsaid}
 use Rattle.mot_files.specs.Call.{Call}
 use Rattle.mot_journal.specs.Image.{Standing}
 use Rattle.mot_lines.specs.Text.{done_line, refusal_line}
-use Rattle.mot_log.specs.Text.{met_line}
+use Rattle.mot_log.specs.Text.{look_line}
 use Rattle.mot_numbers.specs.declared.refusal.Refusal.{Refusal}
 use Rattle.mot_objects.specs.declared.command.Command.{Command}
 use Rattle.mot_objects.specs.declared.command.Done.{Done}
@@ -43,8 +43,8 @@ reply_line (Err refusal) = refusal_line refusal
 
 -- what came of a step
 abbrev pub taken_result : LookStep → Result Done Refusal → LookResult
-taken_result step (Ok done) = met.Done step done
-taken_result step (Err refusal) = met.Refused step refusal Unsaid
+taken_result step (Ok done) = outcome.Done step done
+taken_result step (Err refusal) = outcome.Refused step refusal Unsaid
 
 -- what came of a word: a file is put, or an object withdrawn
 abbrev pub taken_event : Words → (word : List ℕ) → Result Done Refusal → LookEvent
@@ -55,7 +55,7 @@ taken_event Objects name end = event_of name (taken_result Withdraw end)
 -- reply alone.
 abbrev pub IsLineOf : Words → (word : List ℕ) → Result Done Refusal → (text : List ℕ) → Type 0
 IsLineOf words word end text =
-    (text ≡ met_line (taken_event words word end)) ⊎ (text ≡ reply_line end)
+    (text ≡ look_line (taken_event words word end)) ⊎ (text ≡ reply_line end)
 
 -- a server, the known bytes of what is printed to, and the calls that were made of the system
 abbrev pub Progress : Type 0 → Type 0

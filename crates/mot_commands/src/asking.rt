@@ -70,10 +70,8 @@ fn file_request<Y: System, E: Write>(
         return Err(refuse(errors, path, Refusal::OutOfMemory));
     };
     let place = carousel.place_of(&name);
-    match body_of_file(system, alloc, path, errors) {
-        Ok(body) => Ok(put_at(place, name, file_type.content, mime, body)),
-        Err(refusal) => Err(refusal),
-    }
+    let body = body_of_file(system, alloc, path, errors)?;
+    Ok(put_at(place, name, file_type.content, mime, body))
 }
 
 /// What follows the last `/` of a path; all of it, if there is none.

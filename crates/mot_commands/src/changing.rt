@@ -9,7 +9,7 @@ ghost use Rattle.mot_endpoints.specs.Opened.{Need, if_given};
 ghost use Rattle.mot_endpoints.specs.Types.{IsUntyped};
 ghost use Rattle.mot_events.specs.Events.{event_of};
 ghost use Rattle.mot_files.specs.Call.{Call};
-ghost use Rattle.mot_log.specs.Text.{met_line};
+ghost use Rattle.mot_log.specs.Text.{look_line};
 ghost use Rattle.mot_numbers.specs.declared.refusal.Refusal.TheVariants.{DeviceFault};
 ghost use Rattle.mot_outcome.specs.Outcome.{Concludes, Opens, OpensAnd, Prints};
 ghost use Rattle.mot_playout.specs.Attempts.{fault_of};
@@ -22,7 +22,7 @@ use mot_endpoints::{Host, Machine, file_types};
 use mot_events::{LookEvent, LookResult, LookStep, Why};
 use mot_files::System;
 use mot_lines::{TextLine, done_text, refusal_text};
-use mot_log::add_met_line;
+use mot_log::add_look_line;
 use mot_numbers::Refusal;
 use mot_objects::{Command, Done};
 use mot_outcome::{TaskEnd, write_last};
@@ -214,21 +214,10 @@ fn print_line<W: Write>(
     ensures right { fault_of result ≡ None → result_unwrap_or result false ≡ is_ok end }
 {
     match line_of(alloc, words, word, end) {
-        Ok(line) => print_text(writer, line.as_slice(), end.is_ok()),
-        Err(AllocError) => print_text(writer, reply_text(end).as_slice(), end.is_ok()),
+        Ok(line) => write_last(writer, line.as_slice())?,
+        Err(AllocError) => write_last(writer, reply_text(end).as_slice())?,
     }
-}
-
-/// Prints a text, and answers this.
-fn print_text<W: Write>(writer: &mut W, text: &[u8], answer: bool) -> Result<bool, Refusal>
-    ensures printed { Prints (fault_of result) text.now
-        (W.contents writer.old) (W.contents writer.new) }
-    ensures right { fault_of result ≡ None → result_unwrap_or result false ≡ answer }
-{
-    match write_last(writer, text) {
-        Ok(()) => Ok(answer),
-        Err(refusal) => Err(refusal),
-    }
+    Ok(end.is_ok())
 }
 
 /// The line that tells what came of a word, as the log tells it of a look.
@@ -238,11 +227,11 @@ fn line_of(
     word: &str,
     end: Result<Done, Refusal>,
 ) -> Result<Vec<u8>, AllocError>
-    ensures { IfOk result (λ line. line.items ≡ met_line (taken_event words.now word.now end)) }
+    ensures { IfOk result (λ line. line.items ≡ look_line (taken_event words.now word.now end)) }
 {
     let event = event_of(alloc, words, word, end)?;
     let mut line = Vec::new(alloc);
-    add_met_line(&mut line, &event)?;
+    add_look_line(&mut line, &event)?;
     Ok(line)
 }
 
@@ -271,11 +260,11 @@ fn named(
     ensures { IfOk result (λ event. event ≡ event_of name.now (taken_result step end)) }
 {
     let name = mot_events::Words::new(Vec::from_slice(alloc, name)?);
-    let met = match end {
+    let outcome = match end {
         Ok(done) => LookResult::Done(step, done),
         Err(refusal) => LookResult::Refused(step, refusal, Why::Unsaid),
     };
-    Ok(LookEvent { name, met })
+    Ok(LookEvent { name, outcome })
 }
 
 /// The reply to a command that ended so.

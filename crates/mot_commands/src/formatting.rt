@@ -117,8 +117,6 @@ pub(crate) fn format_disk<D: Disk, W: Write>(
     ensures { Formats geometry.now directory (fault_of result)
         (W.contents writer.old) (W.contents writer.new) (D.state disk.old) (D.state disk.new) }
 {
-    match format_from(disk, geometry, directory) {
-        Ok(()) => write_number(writer, b"formatted ", geometry.length()),
-        Err(refusal) => Err(refusal),
-    }
+    format_from(disk, geometry, directory)?;
+    write_number(writer, b"formatted ", geometry.length())
 }

@@ -60,10 +60,7 @@ fn read_named<D: Disk>(
     ensures why { IfErr result (MissesBody repository.old.view
         (D.state repository.old.disk).failures (D.state repository.new.disk).failures name.now) }
 {
-    let name = match name_of(alloc, name.as_bytes()) {
-        Ok(name) => name,
-        Err(refusal) => return Err(refusal),
-    };
+    let name = name_of(alloc, name.as_bytes())?;
     match repository.carousel().place_of(&name) {
         Some(place) => read_whole(alloc, repository, place),
         None => Err(Refusal::NoSuchName),
@@ -103,8 +100,6 @@ fn read_whole<D: Disk>(
     let Ok(mut body) = Vec::from_elem(alloc, 0u8, length) else {
         return Err(Refusal::OutOfMemory);
     };
-    match repository.read_body(place, 0, &mut body) {
-        Ok(()) => Ok(body),
-        Err(refusal) => Err(refusal),
-    }
+    repository.read_body(place, 0, &mut body)?;
+    Ok(body)
 }

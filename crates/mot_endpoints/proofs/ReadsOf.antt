@@ -5,7 +5,9 @@ use Rattle.std.proofs.Math.Seq.{take-append-add}
 use lib.Seq.{length-take-le, take-append-le, take-take}
 use Rattle.std.proofs.lemmas.Slice.{take-put_mid}
 use borrow.Rule.Slice.PartMut.{put_mid}
+use Rattle.mot_endpoints.specs.Inner.{Extends}
 use Rattle.mot_endpoints.specs.Texts.{IsReadToEnd}
+use Rattle.mot_files.proofs.Laws.{step}
 use Rattle.mot_files.specs.Call.{Call, read_of}
 use Rattle.mot_files.specs.Reading.{joined, reads}
 use Rattle.mot_files.specs.declared.system.Handle.{Handle}
@@ -34,8 +36,7 @@ pub one_more : (h : Handle) (old mid new : List Call) (chunks : List (List ℕ))
     → mid ≡ old ++ reads h chunks → new ≡ mid ++ read_of h chunk ∷ []
     → new ≡ old ++ reads h (chunks ++ chunk ∷ [])
 one_more h old mid new chunks chunk before here =
-    here ∙ ap (λ l. l ++ read_of h chunk ∷ []) before
-    ∙ append_assoc old (reads h chunks) (read_of h chunk ∷ [])
+    step _ here before ∙ append_assoc old (reads h chunks) (read_of h chunk ∷ [])
     ∙ ap (λ l. old ++ l) (sym (reads_one_more h chunks chunk))
 
 pub none_of : (chunk : List ℕ) → length chunk ≡ 0 → chunk ≡ []
@@ -48,8 +49,7 @@ pub ends : (h : Handle) (old mid new : List Call) (chunks : List (List ℕ)) (ch
 ends h old mid new chunks chunk text bytes before none here = record {
   chunks = chunks;
   given = bytes;
-  calls = here ∙ ap (λ l. mid ++ read_of h l ∷ []) (none_of chunk none)
-      ∙ ap (λ l. l ++ read_of h [] ∷ []) before;
+  calls = rw (none_of chunk none) at (step _ here before);
 }
 
 -- a read of nothing leaves what was read before it
@@ -72,3 +72,9 @@ kept_of h len total room rest text old new is few size whole reads =
     (sym (is ∙ take-take len total (room ++ rest) (omega arith)
     ∙ take-append-le len room rest (omega arith)))
     (reads (omega arith))
+
+-- more calls after one
+pub further : (one : Call) (old mid new : List Call) → mid ≡ old ++ one ∷ [] → Extends mid new
+    → Extends old new
+further one old mid new first more =
+    (one ∷ more.0, more.1 ∙ ap (λ l. l ++ more.0) first ∙ append_assoc old (one ∷ []) more.0)

@@ -23,8 +23,7 @@ IsRefused (System error) told = told ≡ LinesFault.System error
 -- what is not there leads nowhere; of any other fault it is not known where a path leads
 abbrev pub IsUnresolved : Fault → Result (Unit {0}) LinesFault → Type 0
 IsUnresolved (Absent error) result = result ≡ Ok tt
-IsUnresolved Busy result = (error : Error) × (result ≡ Err (LinesFault.System error))
-IsUnresolved (System error) result = result ≡ Err (LinesFault.System error)
+IsUnresolved fault result = (told : LinesFault) × IsRefused fault told × (result ≡ Err told)
 
 -- what calls check
 abbrev pub Check : Type 1

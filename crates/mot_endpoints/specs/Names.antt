@@ -18,13 +18,6 @@ or_working (Some (first ∷ rest)) = first ∷ rest
 abbrev pub folder_of : List ℕ → List ℕ
 folder_of path = or_working (path_parent path)
 
--- Whether both paths lead to one folder.
-pub data IsSameFolder (path other : List ℕ) (result : Bool) (old new : List Call) : Type 0 where
-  unseen : (fault : Fault) → result ≡ false → new ≡ old ++ followed path (Err fault) ∷ []
-      → IsSameFolder path other result old new
-  seen : (folder : FileStat) → LeadsTo other folder result (old ++ followed path (Ok folder) ∷ []) new
-      → IsSameFolder path other result old new
-
 -- whether the name of a file is one that the disk's store may have beside the disk
 abbrev pub is_store_name : (name disk : Option (List ℕ)) → Bool
 is_store_name None disk = false
@@ -32,11 +25,14 @@ is_store_name (Some name) None = false
 is_store_name (Some name) (Some disk) =
     bytes_eq (take (length disk) name) disk && is_store_end (drop (length disk) name)
 
--- Whether the path names a file of the disk: its name is one of these, and it stands in the folder
--- of the disk.
+-- Whether the path names a file of the disk: its name is one of these, and its folder and that of the
+-- disk lead to one.
 pub data IsOfDisk (path disk : List ℕ) (result : Bool) (old new : List Call) : Type 0 where
   other : is_store_name (path_file_name path) (path_file_name disk) ≡ false → result ≡ false
       → new ≡ old → IsOfDisk path disk result old new
-  named : is_store_name (path_file_name path) (path_file_name disk) ≡ true
-      → IsSameFolder (folder_of path) (folder_of disk) result old new
+  unseen : (fault : Fault) → is_store_name (path_file_name path) (path_file_name disk) ≡ true
+      → result ≡ false → new ≡ old ++ followed (folder_of path) (Err fault) ∷ []
       → IsOfDisk path disk result old new
+  seen : (folder : FileStat) → is_store_name (path_file_name path) (path_file_name disk) ≡ true
+      → LeadsTo (folder_of disk) folder result
+      (old ++ followed (folder_of path) (Ok folder) ∷ []) new → IsOfDisk path disk result old new

@@ -5,13 +5,12 @@ use Rattle.std.specs.Prelude.{Bool, true, false, Result, Ok, Err, nat_eq, nat_lt
 use Rattle.std.specs.Prelude.{if◌then◌else◌, string_bytes}
 use Rattle.mot_endpoints.specs.Names.{IsOfDisk, folder_of}
 use Rattle.mot_endpoints.specs.Placing.{Begins, IsOfMemory, LeadsTo, Steps, TakesAway, Then}
-use Rattle.mot_endpoints.specs.Placing.{told_as, told_of}
+use Rattle.mot_endpoints.specs.Placing.{told_as, told_of, unless_absent}
 use Rattle.mot_endpoints.specs.declared.fault.Cause.{Cause}
 use Rattle.mot_endpoints.specs.declared.fault.PacketsFault.{PacketsFault}
 use Rattle.mot_endpoints.specs.declared.new_file.NewPlace.{NewPlace}
 use Rattle.mot_endpoints.specs.declared.packets.Destination.{Destination}
 use Rattle.mot_endpoints.specs.declared.packets.OpenPackets.{OpenPackets}
-use Rattle.mot_endpoints.specs.declared.packets.Opening.{Opening}
 use Rattle.mot_endpoints.specs.declared.packets.PacketWriter.{PacketWriter}
 use Rattle.mot_endpoints.specs.declared.packets.Place.{Place}
 use Rattle.mot_endpoints.specs.declared.packets.Target.{Target}
@@ -22,7 +21,6 @@ use Rattle.mot_files.specs.Placing.{Places}
 use Rattle.mot_files.specs.declared.system.Event.{Event}
 use Rattle.mot_files.specs.declared.system.Event.TheVariants.{Wrote}
 use Rattle.mot_files.specs.declared.system.Fault.{Fault}
-use Rattle.mot_files.specs.declared.system.Fault.TheVariants.{Absent, Busy, System}
 use Rattle.mot_files.specs.declared.system.Handle.{Handle}
 use Rattle.mot_files.specs.declared.system.How.TheVariants as How
 use Rattle.mot_files.specs.declared.system.How.{How as Way}
@@ -120,10 +118,7 @@ OpensStream path = Then (OpensPath path How.Stream) IsStream
 abbrev pub place_for : Option ℕ → Kind → Result Place PacketsFault
 place_for (Some number) kind = Err PacketsFault.BlockDevice
 place_for None Kind.File = Ok Place.File
-place_for None Kind.Folder = Ok Place.Stream
-place_for None Kind.Link = Ok Place.Stream
-place_for None Kind.Pipe = Ok Place.Stream
-place_for None Kind.Special = Ok Place.Stream
+place_for None kind = Ok Place.Stream
 
 abbrev pub place_of : FileStat → Result Place PacketsFault
 place_of found = place_for found.block found.kind
@@ -131,9 +126,7 @@ place_of found = place_for found.block found.kind
 -- nothing stands at a path that has a name; any other fault is handed on
 abbrev pub place_without : (path : List ℕ) → Fault → Result Place PacketsFault
 place_without [] fault = Err (told_as fault)
-place_without (first ∷ rest) (Absent error) = Ok Place.Nothing
-place_without (first ∷ rest) Busy = Err PacketsFault.InUse
-place_without (first ∷ rest) (System error) = Err (PacketsFault.System error)
+place_without (first ∷ rest) fault = unless_absent Place.Nothing fault
 
 -- What stands at the path, or where a link there leads. The disk and its files are refused, and so
 -- is a block device: it is not opened.
@@ -180,17 +173,6 @@ pub data OpensInto (path disk : List ℕ) (handle : Handle) (old new : List Call
   file : (inner : List Call) (found : Place) (place : NewPlace) → found ≢ Place.Stream
       → IsPlace path disk (Ok found) old inner → BeginsBeside path disk handle place inner new
       → OpensInto path disk handle old new (Destination.File place)
-
--- what was opened, and where packets go that are written to it
-abbrev pub opening_handle : Opening → Handle
-opening_handle opening = opening.handle
-
-abbrev pub opening_destination : Opening → Destination
-opening_destination opening = opening.destination
-
-abbrev pub opening_parts : Result Opening Cause → Result (Handle × Destination) Cause
-opening_parts (Ok opening) = Ok (opening_handle opening, opening_destination opening)
-opening_parts (Err cause) = Err cause
 
 -- What a path names is opened to take packets of so many turns; or it is refused: by what the
 -- system said, or by what stands there, or because no turns are asked for that end.
@@ -261,12 +243,10 @@ pub data TellsWhy (handle : Handle) (fault result : PacketsFault) (old new : Lis
 -- the reason by the path that was written, which for a new file is the one beside
 abbrev pub TellsReason : Destination → Handle → PacketsFault → Option Cause → (old new : List Call)
     → Type 0
-TellsReason Destination.Output handle fault result old new =
-    (result ≡ Some (Cause.Packets fault)) × (new ≡ old)
-TellsReason Destination.Stream handle fault result old new =
-    (result ≡ Some (Cause.Packets fault)) × (new ≡ old)
 TellsReason (Destination.File place) handle fault result old new =
     (why : PacketsFault) × (result ≡ Some (Cause.NewFile why)) × TellsWhy handle fault why old new
+TellsReason destination handle fault result old new =
+    (result ≡ Some (Cause.Packets fault)) × (new ≡ old)
 
 -- only of a packet that was not taken is a reason told
 abbrev pub IsReason : Destination → Handle → Option PacketsFault → Option Cause

@@ -32,11 +32,10 @@ abbrev pub told_of : {A : Type 0} → Result A Fault → Result A PacketsFault
 told_of (Ok value) = Ok value
 told_of (Err fault) = Err (told_as fault)
 
--- what is not there is no file, and any other fault is handed on
-abbrev pub unless_absent : Fault → Result Bool PacketsFault
-unless_absent (Absent error) = Ok false
-unless_absent Busy = Err PacketsFault.InUse
-unless_absent (System error) = Err (PacketsFault.System error)
+-- the answer if nothing is there, and any other fault is handed on
+abbrev pub unless_absent : {A : Type 0} → A → Fault → Result A PacketsFault
+unless_absent answer (Absent error) = Ok answer
+unless_absent answer fault = Err (told_as fault)
 
 -- whether the file that was seen is what a path leads to, by what the system says of that
 abbrev pub is_answer_of : FileStat → Result FileStat Fault → Bool
@@ -64,7 +63,7 @@ pub data Then {A B E : Type 0} (First : Steps A E) (Second : A → Steps B E) (r
 -- is the disk.
 pub data Finds (path disk : List ℕ) (result : Result Bool PacketsFault) (old new : List Call) :
     Type 0 where
-  unseen : (fault : Fault) → result ≡ unless_absent fault
+  unseen : (fault : Fault) → result ≡ unless_absent false fault
       → new ≡ old ++ looked path (Err fault) ∷ [] → Finds path disk result old new
   no_file : (named : FileStat) → result ≡ Err PacketsFault.NoFile → named.kind ≢ File
       → new ≡ old ++ looked path (Ok named) ∷ [] → Finds path disk result old new

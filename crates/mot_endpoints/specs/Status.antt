@@ -10,7 +10,7 @@ use Rattle.mot_endpoints.specs.declared.status_file.StatusFile.{StatusFile}
 use Rattle.mot_files.specs.Call.{Call, closed, locked, opened}
 use Rattle.mot_files.specs.Placing.{Replaces}
 use Rattle.mot_files.specs.declared.system.Fault.{Fault}
-use Rattle.mot_files.specs.declared.system.Fault.TheVariants.{Absent, Busy, System}
+use Rattle.mot_files.specs.declared.system.Fault.TheVariants.{Busy}
 use Rattle.mot_files.specs.declared.system.Handle.{Handle}
 use Rattle.mot_files.specs.declared.system.How.TheVariants as How
 
@@ -28,10 +28,8 @@ status_beside file = option_map (string_bytes {Z = Global}) file.beside
 
 -- what the system says of a lock: only one that is held is a fault
 abbrev pub unless_busy : Result (Unit {0}) Fault → Result (Unit {0}) PacketsFault
-unless_busy (Ok done) = Ok tt
-unless_busy (Err (Absent error)) = Ok tt
 unless_busy (Err Busy) = Err PacketsFault.InUse
-unless_busy (Err (System error)) = Ok tt
+unless_busy answer = Ok tt
 
 -- The lock of the file of the path is asked for, and given back.
 pub data AsksLock (path : List ℕ) (result : Result (Unit {0}) PacketsFault) (old new : List Call) :

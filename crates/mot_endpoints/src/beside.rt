@@ -1,7 +1,7 @@
 //! What the names of files beside others are, and whether a path leads to one file.
 ghost use Rattle.std.specs.Prelude.{◌≡◌};
 ghost use Rattle.std.specs.Path.{path_file_name};
-ghost use Rattle.mot_endpoints.specs.Names.{IsOfDisk, IsSameFolder, folder_of, is_store_name};
+ghost use Rattle.mot_endpoints.specs.Names.{IsOfDisk, folder_of, is_store_name};
 ghost use Rattle.mot_endpoints.specs.Placing.{LeadsTo};
 ghost use Rattle.mot_devices.specs.Beside.{is_store_end};
 
@@ -29,22 +29,22 @@ pub(crate) fn is_of_disk<S: System>(system: &mut S, path: &str, disk: &str) -> b
     if !is_store_name(path, disk) {
         return false;
     }
-    is_same_folder(system, folder_of(path), folder_of(disk))
+    match system.follow(folder_of(path)) {
+        Ok(folder) => leads_to(system, folder_of(disk), &folder),
+        Err(_) => false,
+    }
 }
 
 /// Whether the name of the file is that of the disk, with one of the ends behind it.
 fn is_store_name(path: &str, disk: &str) -> bool
     ensures { result ≡ is_store_name (path_file_name path.now) (path_file_name disk.now) }
 {
-    let Some(name) = Path::new(path).file_name() else {
-        return false;
-    };
-    let Some(disk_name) = Path::new(disk).file_name() else {
-        return false;
-    };
-    match name.as_bytes().strip_prefix(disk_name.as_bytes()) {
-        Some(end) => is_store_end(end),
-        None => false,
+    match (Path::new(path).file_name(), Path::new(disk).file_name()) {
+        (Some(name), Some(disk)) => match name.as_bytes().strip_prefix(disk.as_bytes()) {
+            Some(end) => is_store_end(end),
+            None => false,
+        },
+        _ => false,
     }
 }
 
@@ -53,16 +53,6 @@ fn is_store_end(end: &[u8]) -> bool
     ensures { result ≡ is_store_end end.now }
 {
     end == b"-journal".as_slice() || end == b"-wal".as_slice() || end == b"-shm".as_slice()
-}
-
-/// Whether both paths lead to one folder.
-fn is_same_folder<S: System>(system: &mut S, path: &str, other: &str) -> bool
-    ensures { IsSameFolder path.now other.now result (S.calls system.old) (S.calls system.new) }
-{
-    match system.follow(path) {
-        Ok(found) => leads_to(system, other, &found),
-        Err(_) => false,
-    }
 }
 
 /// Whether the path leads to the file that was seen.

@@ -116,10 +116,7 @@ pub enum Cause {
 impl Cause {
     /// The cause, if the folder was not opened at the last look.
     pub fn of_folder(fault: Option<io::Error>) -> Option<Cause> {
-        match fault {
-            Some(error) => Some(Cause::Folder(error)),
-            None => None,
-        }
+        fault.map(Cause::Folder)
     }
 }
 
@@ -266,16 +263,6 @@ impl Display for LinesFault {
     }
 }
 
-impl From<io::Error> for TypesFault {
-    ghost use Rattle.mot_endpoints.specs.declared.fault.TypesFault.TheVariants.{System};
-
-    ghost from_gives = { λ error fault. fault ≡ System error };
-
-    fn from(error: io::Error) -> TypesFault {
-        TypesFault::System(error)
-    }
-}
-
 impl From<Fault> for TypesFault {
     fn from(fault: Fault) -> TypesFault {
         TypesFault::System(fault.error())
@@ -288,13 +275,16 @@ impl From<AllocError> for TypesFault {
     }
 }
 
-impl From<io::Error> for LinesFault {
-    ghost use Rattle.mot_endpoints.specs.declared.fault.LinesFault.TheVariants.{System};
+impl From<Fault> for LinesFault {
+    ghost use Rattle.mot_endpoints.specs.LinePlaces.{IsRefused};
 
-    ghost from_gives = { λ error fault. fault ≡ System error };
+    ghost from_gives = { λ fault told. IsRefused fault told };
 
-    fn from(error: io::Error) -> LinesFault {
-        LinesFault::System(error)
+    fn from(fault: Fault) -> LinesFault {
+        match fault {
+            Fault::Absent(error) | Fault::System(error) => LinesFault::System(error),
+            Fault::Busy => LinesFault::System(io::Error::from(io::ErrorKind::WouldBlock)),
+        }
     }
 }
 
@@ -316,8 +306,7 @@ impl From<Fault> for PacketsFault {
     fn from(fault: Fault) -> PacketsFault {
         match fault {
             Fault::Busy => PacketsFault::InUse,
-            Fault::Absent(error) => PacketsFault::System(error),
-            Fault::System(error) => PacketsFault::System(error),
+            Fault::Absent(error) | Fault::System(error) => PacketsFault::System(error),
         }
     }
 }

@@ -139,11 +139,7 @@ impl<M: Machine + Drop> Host<M> {
             Some(side) => side.take_away(&self.machine, path),
             None => Ok(()),
         };
-        let answer = match answer {
-            Ok(()) => Ok(()),
-            Err(error) => Err(Fault::System(error)),
-        };
-        self.note(Event::Removed(answer), path);
+        self.note(Event::Removed(answer.map_err(Fault::System)), path);
     }
 
     /// Opens what the path names, to write packets to it. A pipe or a device is opened for reading
@@ -171,9 +167,9 @@ impl<M: Machine + Drop> Host<M> {
     {
         let mut system = self.machine.system();
         match open_packets(&mut system, self.machine.heap(), path, disk, turns) {
-            Ok(opening) => {
+            Ok((handle, destination)) => {
                 self.note(Event::Apart(Part::Packets), path);
-                Ok(OpenPackets::new(system, opening))
+                Ok(OpenPackets::new(system, handle, destination))
             }
             Err(cause) => {
                 self.system.take_in(system.into_calls());

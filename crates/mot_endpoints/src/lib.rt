@@ -18,6 +18,6 @@ pub use fault::{Cause, LinesFault, NewDiskFault, PacketsFault, StartError, Types
 pub use host::{Host, Machine};
 pub use lines::{OtherFiles, line_folder};
 pub use new_file::NewPlace;
-pub use packets::{Destination, OUTPUT, OpenPackets, Opening, PacketWriter, Target, open_packets};
+pub use packets::{Destination, OUTPUT, OpenPackets, PacketWriter, Target, open_packets};
 pub use status_file::StatusFile;
 pub use types::file_types;

@@ -69,14 +69,11 @@ pub fn line_folder<'a, M: Machine + Drop>(
         Ok(place) => place,
         Err(fault) => return Err(StartError::unread(Cause::Lines(fault))),
     };
-    match Hand::new(alloc) {
-        Ok(hand) => Ok(Some(LineFolder {
-            place,
-            hand,
-            every: every.unwrap_or(EVERY),
-        })),
-        Err(_) => Err(StartError::no_memory()),
-    }
+    let Ok(hand) = Hand::new(alloc) else {
+        return Err(StartError::no_memory());
+    };
+    let every = every.unwrap_or(EVERY);
+    Ok(Some(LineFolder { place, hand, every }))
 }
 
 /// Why no lines can come from the path.
@@ -87,68 +84,14 @@ pub(crate) fn check_folder<S: System>(
 ) -> Result<(), LinesFault>
     ensures { ChecksLines path.now others.entry result (S.calls system.old) (S.calls system.new) }
 {
-    let found = match system.follow(path) {
-        Ok(found) => found,
-        Err(fault) => return Err(refused(fault)),
-    };
-    if !is_folder(&found) {
+    let folder = system.follow(path)?;
+    let Kind::Folder = folder.kind else {
         return Err(LinesFault::NoFolder);
-    }
-    check_others(system, &found, others)
-}
-
-/// What a call comes to that the system refused.
-fn refused(fault: Fault) -> LinesFault
-    ensures { IsRefused fault result }
-{
-    match fault {
-        Fault::Absent(error) => LinesFault::System(error),
-        Fault::Busy => LinesFault::System(io::Error::from(ErrorKind::WouldBlock)),
-        Fault::System(error) => LinesFault::System(error),
-    }
-}
-
-/// Whether it is a folder.
-fn is_folder(found: &FileStat) -> bool
-    ensures { IsTrue result ↔ (found.now.kind ≡ Folder) }
-{
-    found.kind == Kind::Folder
-}
-
-/// Refuses the folder if it is that of the objects, or if another file stands in it.
-fn check_others<S: System>(
-    system: &mut S,
-    folder: &FileStat,
-    others: OtherFiles<'_>,
-) -> Result<(), LinesFault>
-    ensures { IsApartFrom others.entry folder.now result (S.calls system.old)
-        (S.calls system.new) }
-{
-    if let Err(why) = check_objects(system, folder, others.objects) {
-        return Err(why);
-    }
-    if let Err(why) = check_apart(system, folder, others.disk, LinesFault::HasDisk) {
-        return Err(why);
-    }
-    if let Err(why) = check_packets(system, folder, others.packets) {
-        return Err(why);
-    }
-    check_types(system, folder, others.types)
-}
-
-/// Refuses the folder if it is that of the objects, if one is given.
-fn check_objects<S: System>(
-    system: &mut S,
-    folder: &FileStat,
-    objects: Option<&str>,
-) -> Result<(), LinesFault>
-    ensures { IfGiven (IsElsewhere folder.now LinesFault.HasObjects) objects.entry result
-        (S.calls system.old) (S.calls system.new) }
-{
-    match objects {
-        Some(objects) => check_elsewhere(system, folder, objects, LinesFault::HasObjects),
-        None => Ok(()),
-    }
+    };
+    check_elsewhere(system, &folder, others.objects, LinesFault::HasObjects)?;
+    check_apart(system, &folder, Some(others.disk), LinesFault::HasDisk)?;
+    check_packets(system, &folder, others.packets)?;
+    check_apart(system, &folder, others.types, LinesFault::HasTypes)
 }
 
 /// Refuses what takes the packets if it stands in the folder. Standard output stands nowhere.
@@ -162,56 +105,48 @@ fn check_packets<S: System>(
     if packets == OUTPUT {
         return Ok(());
     }
-    check_apart(system, folder, packets, LinesFault::HasPackets)
+    check_apart(system, folder, Some(packets), LinesFault::HasPackets)
 }
 
-/// Refuses the file that adds suffixes, if one is given, if it stands in the folder.
-fn check_types<S: System>(
-    system: &mut S,
-    folder: &FileStat,
-    types: Option<&str>,
-) -> Result<(), LinesFault>
-    ensures { IfGiven (IsApart folder.now LinesFault.HasTypes) types.entry result
-        (S.calls system.old) (S.calls system.new) }
-{
-    match types {
-        Some(types) => check_apart(system, folder, types, LinesFault::HasTypes),
-        None => Ok(()),
-    }
-}
-
-/// Refuses a path if what it names stands in the folder, or would; or, of a link, what it leads to.
+/// Refuses a path, if one is given, if what it names stands in the folder, or would; or, of a link,
+/// what it leads to.
 fn check_apart<S: System>(
     system: &mut S,
     folder: &FileStat,
-    path: &str,
+    path: Option<&str>,
     why: LinesFault,
 ) -> Result<(), LinesFault>
-    ensures { IsApart folder.now why path.now result (S.calls system.old) (S.calls system.new) }
+    ensures { IfGiven (IsApart folder.now why) path.entry result (S.calls system.old)
+        (S.calls system.new) }
 {
-    if let Err(why) = check_elsewhere(system, folder, folder_of(path), why) {
-        return Err(why);
-    }
+    let Some(path) = path else {
+        return Ok(());
+    };
+    check_elsewhere(system, folder, Some(folder_of(path)), why)?;
     let mut room = [0u8; PATH];
     let count = match system.resolve(path, &mut room) {
         Ok(count) => count,
         Err(fault) => return unresolved(fault),
     };
     match from_utf8(&room[..count]) {
-        Ok(place) => check_elsewhere(system, folder, folder_of(place), why),
+        Ok(place) => check_elsewhere(system, folder, Some(folder_of(place)), why),
         Err(_) => Err(LinesFault::System(io::Error::from(ErrorKind::InvalidData))),
     }
 }
 
-/// Refuses a path that leads to the folder.
+/// Refuses a path, if one is given, if it leads to the folder.
 fn check_elsewhere<S: System>(
     system: &mut S,
     folder: &FileStat,
-    path: &str,
+    path: Option<&str>,
     why: LinesFault,
 ) -> Result<(), LinesFault>
-    ensures { IsElsewhere folder.now why path.now result (S.calls system.old) (S.calls system.new) }
+    ensures { IfGiven (IsElsewhere folder.now why) path.entry result (S.calls system.old)
+        (S.calls system.new) }
 {
+    let Some(path) = path else {
+        return Ok(());
+    };
     if leads_to(system, path, folder) {
         return Err(why);
     }
@@ -224,7 +159,6 @@ fn unresolved(fault: Fault) -> Result<(), LinesFault>
 {
     match fault {
         Fault::Absent(_) => Ok(()),
-        Fault::Busy => Err(LinesFault::System(io::Error::from(ErrorKind::WouldBlock))),
-        Fault::System(error) => Err(LinesFault::System(error)),
+        _ => Err(LinesFault::from(fault)),
     }
 }

@@ -24,13 +24,8 @@ pub(crate) fn begin<S: System>(
 ) -> Result<Handle, PacketsFault>
     ensures { Begins beside.now disk.now result (S.calls system.old) (S.calls system.new) }
 {
-    if let Err(fault) = clear(system, beside, disk) {
-        return Err(fault);
-    }
-    let handle = match system.open(beside, How::New) {
-        Ok(handle) => handle,
-        Err(fault) => return Err(PacketsFault::from(fault)),
-    };
+    clear(system, beside, disk)?;
+    let handle = system.open(beside, How::New)?;
     match hold(system, handle, beside) {
         Ok(()) => Ok(handle),
         Err(fault) => {
@@ -77,7 +72,7 @@ pub(crate) fn find<S: System>(system: &mut S, path: &str, disk: &str) -> Result<
 {
     let named = match system.look(path) {
         Ok(named) => named,
-        Err(fault) => return unless_absent(fault),
+        Err(fault) => return unless_absent(fault, false),
     };
     if !is_regular(&named) {
         return Err(PacketsFault::NoFile);
@@ -88,14 +83,13 @@ pub(crate) fn find<S: System>(system: &mut S, path: &str, disk: &str) -> Result<
     Ok(true)
 }
 
-/// What is not there is no file, and any other fault is handed on.
-fn unless_absent(fault: Fault) -> Result<bool, PacketsFault>
-    ensures { result ≡ unless_absent fault }
+/// The answer if nothing is there, and any other fault is handed on.
+pub(crate) fn unless_absent<T: Copy>(fault: Fault, answer: T) -> Result<T, PacketsFault>
+    ensures { result ≡ unless_absent answer fault }
 {
     match fault {
-        Fault::Absent(_) => Ok(false),
-        Fault::Busy => Err(PacketsFault::InUse),
-        Fault::System(error) => Err(PacketsFault::System(error)),
+        Fault::Absent(_) => Ok(answer),
+        _ => Err(PacketsFault::from(fault)),
     }
 }
 
@@ -103,18 +97,12 @@ fn unless_absent(fault: Fault) -> Result<bool, PacketsFault>
 fn remove_unused<S: System>(system: &mut S, path: &str) -> Result<(), PacketsFault>
     ensures { RemovesUnused path.now result (S.calls system.old) (S.calls system.new) }
 {
-    let handle = match system.open(path, How::Read) {
-        Ok(handle) => handle,
-        Err(fault) => return Err(PacketsFault::from(fault)),
-    };
+    let handle = system.open(path, How::Read)?;
     if let Err(fault) = system.lock(handle) {
         system.close(handle);
         return Err(PacketsFault::from(fault));
     }
     let answer = system.remove(path);
     system.close(handle);
-    match answer {
-        Ok(()) => Ok(()),
-        Err(fault) => Err(PacketsFault::from(fault)),
-    }
+    Ok(answer?)
 }

@@ -5,21 +5,19 @@ ghost use Rattle.mot_endpoints.specs.Packets.{BeginsBeside, BeginsNone, IsAnswer
 ghost use Rattle.mot_endpoints.specs.Packets.{IsReason, IsTakenAway, OpensPackets, OpensPath};
 ghost use Rattle.mot_endpoints.specs.Packets.{OpensStream, TakesItsPlace, TakesPlace, TellsWhy};
 ghost use Rattle.mot_endpoints.specs.Packets.{destination_of, fault_after, fault_of_turns};
-ghost use Rattle.mot_endpoints.specs.Packets.{opening_destination, opening_handle};
-ghost use Rattle.mot_endpoints.specs.Packets.{opening_parts, place_of, place_without, target_of};
-ghost use Rattle.mot_endpoints.specs.Packets.{writer_handle, writer_system, writes_to};
+ghost use Rattle.mot_endpoints.specs.Packets.{place_of, place_without, target_of, writer_handle};
+ghost use Rattle.mot_endpoints.specs.Packets.{writer_system, writes_to};
 ghost use Rattle.mot_endpoints.specs.declared.packets.Target.{Target};
 ghost use Rattle.mot_files.specs.Call.{wrote};
 ghost use Rattle.mot_files.specs.declared.system.Fault.{Fault};
-ghost use Rattle.mot_files.specs.declared.system.Kind.TheVariants.{Pipe};
 ghost use Rattle.mot_packets.specs.Outlet.{Grows};
 
 use crate::beside::{SUFFIX, folder_of, is_of_disk, leads_to};
 use crate::fault::{Cause, PacketsFault};
-use crate::new_file::{NewPlace, begin, take_away};
+use crate::new_file::{NewPlace, begin, take_away, unless_absent};
 use mot_files::{CallLog, Fault, FileStat, Handle, How, Kind, System, take_place};
 use mot_packets::Outlet;
-use std::alloc::{AllocError, Global};
+use std::alloc::Global;
 use std::io;
 
 /// The word that names standard output.
@@ -59,15 +57,6 @@ pub enum Destination<'a> {
     File(NewPlace<'a>),
 }
 
-/// What a path names, as it was opened to take packets. Only `open_packets` makes one.
-#[derive(Drop)]
-pub struct Opening<'a> {
-    /// What is written to.
-    handle: Handle,
-    /// Where the packets go.
-    destination: Destination<'a>,
-}
-
 /// What was opened to take packets.
 #[derive(Drop)]
 pub struct OpenPackets<'a, S: System + Drop> {
@@ -78,16 +67,12 @@ pub struct OpenPackets<'a, S: System + Drop> {
 }
 
 impl<'a, S: System + Drop> OpenPackets<'a, S> {
-    /// What was opened, in this system of files. Nothing was written to it.
-    pub fn new(system: S, opening: Opening<'a>) -> OpenPackets<'a, S>
-        ensures destination { destination_of result ≡ opening_destination opening.entry }
-        ensures handle { writer_handle result.writer ≡ opening_handle opening.entry }
+    /// What `open_packets` opened, in this system of files. Nothing was written to it.
+    pub(crate) fn new(system: S, handle: Handle, destination: Destination<'a>) -> OpenPackets<'a, S>
+        ensures destination { destination_of result ≡ destination.entry }
+        ensures handle { writer_handle result.writer ≡ handle }
         ensures system { writer_system result.writer ≡ system }
     {
-        let Opening {
-            handle,
-            destination,
-        } = opening;
         OpenPackets {
             writer: PacketWriter {
                 system,
@@ -123,9 +108,13 @@ impl<'a, S: System + Drop> OpenPackets<'a, S> {
             return Ok(());
         };
         let PacketWriter { system, handle, .. } = &mut self.writer;
-        match put_in_place(system, *handle, place) {
+        let beside = place.beside.as_str();
+        match take_place(system, *handle, beside, place.path, folder_of(place.path)) {
             Ok(()) => Ok(()),
-            Err(fault) => Err(PacketsFault::from(fault)),
+            Err(fault) => {
+                take_away(system, *handle, beside);
+                Err(PacketsFault::from(fault))
+            }
         }
     }
 
@@ -161,31 +150,10 @@ impl<'a, S: System + Drop> OpenPackets<'a, S> {
             self.old.writer.fault result (S.calls (writer_system self.old.writer))
             (S.calls (writer_system self.new.writer)) }
     {
-        let fault = match self.writer.fault {
-            Some(fault) => fault,
-            None => return None,
-        };
+        let fault = self.writer.fault?;
         match &self.destination {
             Destination::File(_) => Some(Cause::NewFile(self.writer.why(fault))),
             Destination::Output | Destination::Stream => Some(Cause::Packets(fault)),
-        }
-    }
-}
-
-/// Gives a new file its place. If that fails, it is taken away.
-fn put_in_place<S: System>(
-    system: &mut S,
-    handle: Handle,
-    place: &NewPlace<'_>,
-) -> Result<(), Fault>
-    ensures { TakesPlace handle place.now result (S.calls system.old) (S.calls system.new) }
-{
-    let beside = place.beside.as_str();
-    match take_place(system, handle, beside, place.path, folder_of(place.path)) {
-        Ok(()) => Ok(()),
-        Err(fault) => {
-            take_away(system, handle, beside);
-            Err(fault)
         }
     }
 }
@@ -201,47 +169,32 @@ pub fn open_packets<'a, S: System>(
     path: &'a str,
     disk: &str,
     turns: Option<u32>,
-) -> Result<Opening<'a>, Cause>
-    ensures calls { OpensPackets path.now disk.now turns (opening_parts result)
-        (S.calls system.old) (S.calls system.new) }
+) -> Result<(Handle, Destination<'a>), Cause>
+    ensures calls { OpensPackets path.now disk.now turns result (S.calls system.old)
+        (S.calls system.new) }
 {
     if path == OUTPUT {
-        return match open_path(system, path, How::Output) {
-            Ok(handle) => Ok(Opening {
-                handle,
-                destination: Destination::Output,
-            }),
-            Err(fault) => Err(Cause::Packets(fault)),
-        };
+        let handle = open_path(system, path, How::Output)?;
+        return Ok((handle, Destination::Output));
     }
-    let place = match place_at(system, path, disk) {
-        Ok(place) => place,
-        Err(fault) => return Err(Cause::Packets(fault)),
-    };
+    let place = place_at(system, path, disk)?;
     if let Place::Stream = place {
-        return match open_stream(system, path) {
-            Ok(handle) => Ok(Opening {
-                handle,
-                destination: Destination::Stream,
-            }),
-            Err(fault) => Err(Cause::Packets(fault)),
-        };
+        let handle = open_stream(system, path)?;
+        return Ok((handle, Destination::Stream));
     }
     if let Some(fault) = fault_of_turns(place, turns) {
         return Err(Cause::Packets(fault));
     }
     match new_file(system, alloc, path, disk) {
-        Ok((handle, place)) => Ok(Opening {
-            handle,
-            destination: Destination::File(place),
-        }),
+        Ok((handle, place)) => Ok((handle, Destination::File(place))),
         Err(fault) => Err(Cause::NewFile(fault)),
     }
 }
 
 /// Why no file is written at a place that is none of a stream, by the turns that are asked for.
 fn fault_of_turns(place: Place, turns: Option<u32>) -> Option<PacketsFault>
-    ensures { result ≡ fault_of_turns place turns }
+    ensures fault { result ≡ fault_of_turns place turns }
+    ensures asked { result ≡ None → (turns ≢ None) × (turns ≢ Some 0) }
 {
     match (place, turns) {
         (Place::Nothing, None) => Some(PacketsFault::NoPipe),
@@ -263,23 +216,16 @@ fn new_file<'a, S: System>(
         (S.calls system.old) (S.calls system.new))
         (λ fault. BeginsNone path.now disk.now fault (S.calls system.old) (S.calls system.new)) }
 {
-    let Ok(beside) = format!(in alloc; "{path}{SUFFIX}") else {
-        return Err(PacketsFault::from(AllocError));
-    };
-    match begin(system, beside.as_str(), disk) {
-        Ok(handle) => Ok((handle, NewPlace { path, beside })),
-        Err(fault) => Err(fault),
-    }
+    let beside = format!(in alloc; "{path}{SUFFIX}")?;
+    let handle = begin(system, beside.as_str(), disk)?;
+    Ok((handle, NewPlace { path, beside }))
 }
 
 /// Opens what the path names so, if it is no terminal.
 fn open_path<S: System>(system: &mut S, path: &str, how: How) -> Result<Handle, PacketsFault>
     ensures { OpensPath path.now how result (S.calls system.old) (S.calls system.new) }
 {
-    let handle = match system.open(path, how) {
-        Ok(handle) => handle,
-        Err(fault) => return Err(PacketsFault::from(fault)),
-    };
+    let handle = system.open(path, how)?;
     if system.is_terminal(handle) {
         return Err(PacketsFault::Terminal);
     }
@@ -291,31 +237,16 @@ fn open_path<S: System>(system: &mut S, path: &str, how: How) -> Result<Handle, 
 fn open_stream<S: System>(system: &mut S, path: &str) -> Result<Handle, PacketsFault>
     ensures { OpensStream path.now result (S.calls system.old) (S.calls system.new) }
 {
-    let handle = match open_path(system, path, How::Stream) {
-        Ok(handle) => handle,
-        Err(fault) => return Err(fault),
-    };
-    let found = match system.look_at(handle) {
-        Ok(found) => found,
-        Err(fault) => return Err(PacketsFault::from(fault)),
-    };
+    let handle = open_path(system, path, How::Stream)?;
+    let found = system.look_at(handle)?;
     if found.block.is_some() {
         return Err(PacketsFault::BlockDevice);
     }
-    if !is_pipe(&found) {
+    let Kind::Pipe = found.kind else {
         return Ok(handle);
-    }
-    match system.lock(handle) {
-        Ok(()) => Ok(handle),
-        Err(fault) => Err(PacketsFault::from(fault)),
-    }
-}
-
-/// Whether it is a named pipe.
-fn is_pipe(found: &FileStat) -> bool
-    ensures { IsTrue result ↔ (found.now.kind ≡ Pipe) }
-{
-    found.kind == Kind::Pipe
+    };
+    system.lock(handle)?;
+    Ok(handle)
 }
 
 /// What is at the path, to which a link may lead. The disk itself is refused, and so are a name of a
@@ -343,11 +274,7 @@ fn place_without(path: &str, fault: Fault) -> Result<Place, PacketsFault>
     if path == "" {
         return Err(PacketsFault::from(fault));
     }
-    match fault {
-        Fault::Absent(_) => Ok(Place::Nothing),
-        Fault::Busy => Err(PacketsFault::InUse),
-        Fault::System(error) => Err(PacketsFault::System(error)),
-    }
+    unless_absent(fault, Place::Nothing)
 }
 
 /// What it is, as far as it takes packets: a block device takes none.
@@ -397,15 +324,11 @@ impl<S: System + Drop> Outlet for PacketWriter<S> {
     #[inline(always)]
     fn write_once(&mut self, bytes: &[u8]) -> io::Result<usize>
         ensures bound { IfOk result (λ count. count ≤ length bytes.now) }
-        ensures one { MatchResult result
-            (λ count. Grows
-            (Some (writes_to (writer_handle self.old) (S.calls (writer_system self.old))))
-            (Some (writes_to (writer_handle self.new) (S.calls (writer_system self.new))))
-            (take count bytes.now ∷ []))
-            (λ _. Grows
-            (Some (writes_to (writer_handle self.old) (S.calls (writer_system self.old))))
-            (Some (writes_to (writer_handle self.new) (S.calls (writer_system self.new))))
-            ([] ∷ [])) }
+        ensures one { let old = Some (writes_to (writer_handle self.old)
+            (S.calls (writer_system self.old))) in
+            let new = Some (writes_to (writer_handle self.new) (S.calls (writer_system self.new))) in
+            MatchResult result (λ count. Grows old new (take count bytes.now ∷ []))
+            (λ _. Grows old new ([] ∷ [])) }
         ensures handle { writer_handle self.new ≡ writer_handle self.old }
 
         // The packet was offered in one write to what was opened, and nothing else was done.
@@ -415,35 +338,16 @@ impl<S: System + Drop> Outlet for PacketWriter<S> {
             × (self.new.fault ≡ fault_after self.old.fault (length bytes.now) answer)
             × IsAnswer answer result }
     {
-        let answer = self.system.write(self.handle, bytes);
-        note_fault(&mut self.fault, bytes.len(), &answer);
-        told(answer)
-    }
-}
-
-/// Notes why a packet of this length was not taken whole. What was known before stays, if it was
-/// taken: so nothing is written then.
-#[inline(always)]
-fn note_fault(fault: &mut Option<PacketsFault>, len: usize, answer: &Result<usize, Fault>)
-    ensures { fault.new ≡ fault_after fault.old len answer.now }
-{
-    match answer {
-        Ok(count) => {
-            if *count < len {
-                *fault = Some(PacketsFault::Cut);
+        match self.system.write(self.handle, bytes) {
+            Ok(count) if count < bytes.len() => {
+                self.fault = Some(PacketsFault::Cut);
+                Ok(count)
+            }
+            Ok(count) => Ok(count),
+            Err(refused) => {
+                self.fault = Some(PacketsFault::from(refused));
+                Err(refused.error())
             }
         }
-        Err(refused) => *fault = Some(PacketsFault::from(*refused)),
-    }
-}
-
-/// The answer as that of an outlet.
-#[inline(always)]
-fn told(answer: Result<usize, Fault>) -> io::Result<usize>
-    ensures { IsAnswer answer result }
-{
-    match answer {
-        Ok(count) => Ok(count),
-        Err(fault) => Err(fault.error()),
     }
 }

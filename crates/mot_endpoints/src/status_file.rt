@@ -34,7 +34,7 @@ impl<'a, S: System + Drop> StatusFile<'a, S> {
             system,
             path,
             disk,
-            beside: path_beside(alloc, path),
+            beside: format!(in alloc; "{path}{SUFFIX}").ok(),
         }
     }
 
@@ -63,13 +63,12 @@ impl<'a, S: System + Drop> StatusFile<'a, S> {
         let Some(beside) = &self.beside else {
             return Err(PacketsFault::from(AllocError));
         };
-        put(
-            &mut self.system,
-            self.path,
-            beside.as_str(),
-            self.disk,
-            text,
-        )
+        let beside = beside.as_str();
+        check_place(&mut self.system, self.path, self.disk)?;
+        if let Err(fault) = clear(&mut self.system, beside, self.disk) {
+            return Err(fault_of_beside(fault));
+        }
+        Ok(replace(&mut self.system, beside, self.path, text)?)
     }
 }
 
@@ -112,29 +111,6 @@ fn unless_busy(answer: Result<(), Fault>) -> Result<(), PacketsFault>
     }
 }
 
-/// Writes the text beside the path, and puts it in its place.
-fn put<S: System>(
-    system: &mut S,
-    path: &str,
-    beside: &str,
-    disk: &str,
-    text: &[u8],
-) -> Result<(), PacketsFault>
-    ensures { WritesStatus path.now beside.now disk.now text.now result (S.calls system.old)
-        (S.calls system.new) }
-{
-    if let Err(fault) = check_place(system, path, disk) {
-        return Err(fault);
-    }
-    if let Err(fault) = clear(system, beside, disk) {
-        return Err(fault_of_beside(fault));
-    }
-    match replace(system, beside, path, text) {
-        Ok(()) => Ok(()),
-        Err(fault) => Err(PacketsFault::from(fault)),
-    }
-}
-
 /// A fault of the file beside the path, as one of the path.
 fn fault_of_beside(fault: PacketsFault) -> PacketsFault
     ensures { result ≡ beside_fault fault }
@@ -142,15 +118,5 @@ fn fault_of_beside(fault: PacketsFault) -> PacketsFault
     match fault {
         PacketsFault::NoFile => PacketsFault::NoNewFile,
         _ => fault,
-    }
-}
-
-/// The path of the file that is written; none if there is no memory for it.
-fn path_beside(alloc: Global, path: &str) -> Option<String>
-    ensures { IfSome result (λ beside. string_bytes beside ≡ path.now ++ codes ".new") }
-{
-    match format!(in alloc; "{path}{SUFFIX}") {
-        Ok(beside) => Some(beside),
-        Err(_) => None,
     }
 }

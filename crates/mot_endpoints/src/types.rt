@@ -4,7 +4,7 @@ ghost use Rattle.std.specs.Prelude.{IfErr, IfOk, MatchResult, Ok, length, take};
 ghost use Rattle.mot_endpoints.specs.Opened.{AreMet, BeginsTo, if_given};
 ghost use Rattle.mot_endpoints.specs.Opened.Need.{types as types_at};
 ghost use Rattle.mot_endpoints.specs.Inner.{Extends};
-ghost use Rattle.mot_endpoints.specs.Texts.{AsksFirst, IsOpened, IsReadToEnd, IsTextOf};
+ghost use Rattle.mot_endpoints.specs.Texts.{AsksFirst, IsReadToEnd, IsTextOf};
 ghost use Rattle.mot_endpoints.specs.Types.{IsTyped, IsUntyped};
 ghost use Rattle.mot_files.specs.Call.{looked_at, read_of};
 ghost use Rattle.mot_files.specs.Reading.{IsSame};
@@ -15,7 +15,7 @@ use crate::{Cause, StartError, TypesFault};
 use mot_files::{Fault, FileStat, Handle, How, System, is_regular, is_same};
 use mot_numbers::Refusal;
 use mot_suffixes::{FileTypes, RefusedLine};
-use std::alloc::{AllocError, Global};
+use std::alloc::Global;
 
 /// The most bytes of a file that adds suffixes.
 const MOST: usize = 65_536;
@@ -35,9 +35,8 @@ pub fn file_types<M: Machine + Drop>(
         (λ unbegun. BeginsTo (if_given types_at path.entry) unbegun.refusal
         (M.System.calls host.old.system) (M.System.calls host.new.system)) }
 {
-    let mut types = match FileTypes::new(alloc) {
-        Ok(types) => types,
-        Err(AllocError) => return Err(StartError::no_memory()),
+    let Ok(mut types) = FileTypes::new(alloc) else {
+        return Err(StartError::no_memory());
     };
     let Some(path) = path else {
         return Ok(types);
@@ -76,76 +75,36 @@ pub(crate) fn read_text<S: System>(
         (S.calls system.new)) }
     ensures asked { AsksFirst path.now (S.calls system.old) (S.calls system.new) }
 {
-    let handle = match open_regular(system, path) {
-        Ok(handle) => handle,
-        Err(fault) => return Err(fault),
-    };
-    let text = read_open(system, alloc, handle);
+    let named = system.follow(path)?;
+    // A pipe, whose opening would wait, is not opened.
+    if !is_regular(&named) {
+        return Err(TypesFault::NoFile);
+    }
+    let handle = system.open(path, How::Read)?;
+    let text = read_open(system, alloc, handle, &named);
     system.close(handle);
     text
 }
 
-/// Opens the regular file at the path: a pipe, whose opening would wait, is not opened.
-fn open_regular<S: System>(system: &mut S, path: &str) -> Result<Handle, TypesFault>
-    ensures asked { AsksFirst path.now (S.calls system.old) (S.calls system.new) }
-    ensures opened { IfOk result (λ handle. IsOpened path.now handle (S.calls system.old)
-        (S.calls system.new)) }
-{
-    let named = match system.follow(path) {
-        Ok(named) => named,
-        Err(fault) => return Err(TypesFault::from(fault)),
-    };
-    if !is_regular(&named) {
-        return Err(TypesFault::NoFile);
-    }
-    let handle = match system.open(path, How::Read) {
-        Ok(handle) => handle,
-        Err(fault) => return Err(TypesFault::from(fault)),
-    };
-    match check_same(system, handle, &named) {
-        Ok(()) => Ok(handle),
-        Err(fault) => {
-            system.close(handle);
-            Err(fault)
-        }
-    }
-}
-
-/// Whether what was opened is the file that was seen at its path.
-fn check_same<S: System>(system: &mut S, handle: Handle, named: &FileStat) -> Result<(), TypesFault>
-    ensures more { Extends (S.calls system.old) (S.calls system.new) }
-    ensures same { IfOk result (λ _. (held : FileStat) × IsSame held named.now × (S.calls system.new
-        ≡ S.calls system.old ++ looked_at handle (Ok held) ∷ [])) }
-{
-    let held = match system.look_at(handle) {
-        Ok(held) => held,
-        Err(fault) => return Err(TypesFault::from(fault)),
-    };
-    if is_same(&held, named) {
-        Ok(())
-    } else {
-        Err(TypesFault::NoFile)
-    }
-}
-
-/// The bytes of an open file, if it has not too many.
+/// The bytes of an open file, if it is the one that was seen at its path, and has not too many.
 fn read_open<S: System>(
     system: &mut S,
     alloc: Global,
     handle: Handle,
+    named: &FileStat,
 ) -> Result<Vec<u8>, TypesFault>
     ensures short { IfOk result (λ text. length text.items ≤ 65536) }
     ensures more { Extends (S.calls system.old) (S.calls system.new) }
-    ensures calls { IfOk result (λ text. IsReadToEnd handle text.items (S.calls system.old)
+    ensures calls { IfOk result (λ text. (held : FileStat) × IsSame held named.now × IsReadToEnd
+        handle text.items (S.calls system.old ++ looked_at handle (Ok held) ∷ [])
         (S.calls system.new)) }
 {
-    let Ok(mut text) = Vec::from_elem(alloc, 0u8, MOST + 1) else {
-        return Err(TypesFault::from(AllocError));
-    };
-    let len = match fill(system, handle, &mut text) {
-        Ok(len) => len,
-        Err(fault) => return Err(TypesFault::from(fault)),
-    };
+    let held = system.look_at(handle)?;
+    if !is_same(&held, named) {
+        return Err(TypesFault::NoFile);
+    }
+    let mut text = Vec::from_elem(alloc, 0u8, MOST + 1)?;
+    let len = fill(system, handle, &mut text)?;
     if len > MOST {
         return Err(TypesFault::Long);
     }
@@ -155,7 +114,6 @@ fn read_open<S: System>(
 
 /// Reads until the file ends, or the room is full; how many bytes came.
 fn fill<S: System>(system: &mut S, handle: Handle, room: &mut [u8]) -> Result<usize, Fault>
-    ensures fits { IfOk result (λ count. count ≤ length room.new) }
     ensures more { Extends (S.calls system.old) (S.calls system.new) }
     ensures ended { IfOk result (λ count. count < length room.new
         → IsReadToEnd handle (take count room.new) (S.calls system.old) (S.calls system.new)) }

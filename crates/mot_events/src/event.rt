@@ -146,7 +146,7 @@ pub struct LookEvent {
     /// The name, as it is.
     pub name: Words,
     /// What was met.
-    pub met: LookResult,
+    pub outcome: LookResult,
 }
 
 impl LookEvent {

@@ -9,7 +9,7 @@ pub fn is_listed(events: &[LookEvent]) -> bool
     ensures { result ≡ is_listed events.now }
 {
     for event in events {
-        if is_of_folder(&event.met) {
+        if is_of_folder(&event.outcome) {
             return false;
         }
     }
@@ -17,11 +17,11 @@ pub fn is_listed(events: &[LookEvent]) -> bool
 }
 
 /// Whether the whole look went wrong.
-fn is_of_folder(met: &LookResult) -> bool
-    ensures { result ≡ is_of_folder met.now }
+fn is_of_folder(outcome: &LookResult) -> bool
+    ensures { result ≡ is_of_folder outcome.now }
 {
-    match met {
-        LookResult::Refused(deed, _, _) => deed.is_look(),
+    match outcome {
+        LookResult::Refused(step, _, _) => step.is_look(),
         LookResult::Kept | LookResult::KeptMost(_, _) => true,
         _ => false,
     }

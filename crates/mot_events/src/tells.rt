@@ -6,7 +6,4 @@ use crate::event::Event;
 pub trait Tells {
     /// This happened.
     fn tell(&mut self, event: &Event<'_>);
-
-    /// Something that happened is left out.
-    fn leave_out(&mut self);
 }

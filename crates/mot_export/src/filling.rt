@@ -6,7 +6,7 @@ ghost use Rattle.mot_numbers.specs.declared.geometry.TheConstants.{MAX_OBJECTS};
 ghost use Rattle.mot_objects.specs.declared.body.TheConstants.{MAX_BODY};
 ghost use Rattle.mot_objects.specs.declared.object.Object.{Object};
 ghost use Rattle.mot_export.specs.Filling.{frames_of, no_frames, with_packet};
-ghost use Rattle.mot_export.specs.Inner.Filled.{followed_by, frame_with};
+ghost use Rattle.mot_export.specs.Inner.Filled.{AreRight, followed_by, frame_with};
 ghost use Rattle.mot_listening.specs.Entities.{entity_lengths, group_lengths, packet_length};
 ghost use Rattle.mot_listening.specs.Entities.{turn_lengths};
 
@@ -68,43 +68,64 @@ impl Frames {
 /// How many steps are kept.
 const STEPS: usize = 64;
 
-/// What a group makes of a frame.
+/// What a group of so many bytes makes of a frame with so many left.
 #[derive(Clone, Copy)]
-struct Step {
-    /// The bytes of a frame.
-    size: usize,
-    /// The data bytes of a full packet.
-    room: usize,
-    /// The bytes of the group.
+pub(crate) struct Step {
     len: usize,
-    /// How many bytes of the frame are left in front of it.
     left: usize,
     /// That frame behind it, or those that were begun.
     frames: Frames,
-    ghost right: { frames ≡ fold (with_packet size) (frame_with left) (group_lengths room len) },
-    ghost few: { frames.begun < 2 ^ 20 },
 }
 
-impl Step {
-    /// What a group of so many bytes makes of a frame with so many left.
-    fn new(size: usize, full_length: PacketLength, len: usize, left: usize) -> Self
-        requires { len < 2 ^ 20 }
-        ensures { result.frames ≡ fold (with_packet size) (frame_with left)
-            (group_lengths (room_of full_length) len) }
+/// The steps of a turn, in which most groups are as long as the one before, and frames end in few
+/// ways.
+#[derive(Drop)]
+struct Steps {
+    /// The bytes of a frame.
+    size: usize,
+    full_length: PacketLength,
+    kept: [Option<Step>; STEPS],
+}
+
+impl Steps {
+    /// None is kept.
+    fn new(size: usize, full_length: PacketLength) -> Self
+        ensures same { (result.size ≡ size) × (result.full_length ≡ full_length) }
+        ensures right { AreRight result }
     {
+        Steps {
+            size,
+            full_length,
+            kept: [None; STEPS],
+        }
+    }
+
+    /// What a group of so many bytes makes of a frame with so many left.
+    fn behind(&mut self, len: usize, left: usize) -> Frames
+        requires short { len < 2 ^ 20 }
+        requires right { AreRight self.old }
+        ensures right { AreRight self.new }
+        ensures same { (self.new.size ≡ self.old.size)
+            × (self.new.full_length ≡ self.old.full_length) }
+        ensures filled { result ≡ fold (with_packet self.old.size) (frame_with left)
+            (group_lengths (room_of self.old.full_length) len) }
+        ensures few { result.begun < 2 ^ 20 }
+    {
+        let place = (left / 8 + len) % STEPS;
+        if let Some(kept) = &self.kept[place]
+            && kept.left == left
+            && kept.len == len
+        {
+            return kept.frames;
+        }
         let mut frames = Frames {
             begun: 0,
             left,
             fits: true,
         };
-        fill_group(&mut frames, size, full_length, len);
-        Step {
-            size,
-            room: full_length.room(),
-            len,
-            left,
-            frames,
-        }
+        fill_group(&mut frames, self.size, self.full_length, len);
+        self.kept[place] = Some(Step { len, left, frames });
+        frames
     }
 }
 
@@ -124,42 +145,25 @@ pub(crate) fn turn_frames(
     ensures few { result.begun < 2 ^ 50 }
 {
     let mut frames = Frames::none();
-    let mut steps = [None; STEPS];
-    fill_entity(
-        &mut frames,
-        &mut steps,
-        size,
-        full_length,
-        segment_size,
-        directory,
-    );
+    let mut steps = Steps::new(size, full_length);
+    fill_entity(&mut frames, &mut steps, segment_size, directory);
     for object in objects {
         let len = object.length.get() as usize;
-        fill_entity(
-            &mut frames,
-            &mut steps,
-            size,
-            full_length,
-            segment_size,
-            len,
-        );
+        fill_entity(&mut frames, &mut steps, segment_size, len);
     }
     frames
 }
 
 /// Fills frames with the packets of a directory or body of so many bytes.
-fn fill_entity(
-    frames: &mut Frames,
-    steps: &mut [Option<Step>; STEPS],
-    size: usize,
-    full_length: PacketLength,
-    segment_size: SegmentSize,
-    len: usize,
-)
+fn fill_entity(frames: &mut Frames, steps: &mut Steps, segment_size: SegmentSize, len: usize)
     requires few { frames.old.begun < 2 ^ 50 }
     requires short { len ≤ MAX_BODY }
-    ensures filled { frames.new ≡ fold (with_packet size) frames.old
-        (entity_lengths (room_of full_length) segment_size len) }
+    requires right { AreRight steps.old }
+    ensures right { AreRight steps.new }
+    ensures same { (steps.new.size ≡ steps.old.size)
+        × (steps.new.full_length ≡ steps.old.full_length) }
+    ensures filled { frames.new ≡ fold (with_packet steps.old.size) frames.old
+        (entity_lengths (room_of steps.old.full_length) segment_size len) }
     ensures few { frames.new.begun ≤ frames.old.begun + 2 ^ 40 }
 {
     let count = segment_count(len, segment_size);
@@ -167,36 +171,9 @@ fn fill_entity(
     let mut rest = len;
     for _ in 0..count {
         let group = full.min(rest) + GROUP_FRAME;
-        let behind = frames_behind(steps, size, full_length, group, frames.left);
-        frames.add(behind);
+        frames.add(steps.behind(group, frames.left));
         rest = rest.saturating_sub(full);
     }
-}
-
-/// What a group of so many bytes makes of a frame with so many left. It is kept, since most groups
-/// are as long as the one before, and frames end in few ways.
-fn frames_behind(
-    steps: &mut [Option<Step>; STEPS],
-    size: usize,
-    full_length: PacketLength,
-    len: usize,
-    left: usize,
-) -> Frames
-    requires { len < 2 ^ 20 }
-    ensures filled { result ≡ fold (with_packet size) (frame_with left)
-        (group_lengths (room_of full_length) len) }
-    ensures few { result.begun < 2 ^ 20 }
-{
-    let place = (left / 8 + len) % STEPS;
-    let room = full_length.room();
-    if let Some(kept) = &steps[place]
-        && (kept.left == left && kept.len == len && kept.room == room && kept.size == size)
-    {
-        return kept.frames;
-    }
-    let step = Step::new(size, full_length, len, left);
-    steps[place] = Some(step);
-    step.frames
 }
 
 /// Fills frames with the packets of a group of so many bytes.

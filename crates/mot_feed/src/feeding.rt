@@ -15,6 +15,7 @@ use crate::manner::Manner;
 use crate::sending::send_one;
 use disk_model::Disk;
 use mot_numbers::Refusal;
+use mot_packets::Packet;
 use mot_playout::Server;
 use mot_update::{Update, UpdatePoint};
 use std::alloc::Global;
@@ -56,6 +57,7 @@ pub fn feed<D: Disk, O: Outlet, U: Update>(
     let mut between_turns = true;
     let mut until = 0;
     let mut rest = 0;
+    let mut packet = Packet::new();
     for _ in 0..u64::MAX {
         if left == 0 {
             return Ok(());
@@ -64,7 +66,7 @@ pub fn feed<D: Disk, O: Outlet, U: Update>(
         update.update(server, alloc, moment)?;
         let due = is_due(how, between_turns, until);
         ask(server, due);
-        between_turns = send_one(server, outlet)?;
+        between_turns = send_one(server, outlet, &mut packet)?;
         until = until_after(server, how, due, until);
         rest = rest_after(server, how, moment.may_look(), rest);
         if between_turns {

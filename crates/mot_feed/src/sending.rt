@@ -13,13 +13,14 @@ use mot_numbers::Refusal;
 use mot_packets::Packet;
 use mot_playout::Server;
 
-/// Sends the next packet by the order of sending, in one write; whether it ends a turn. It is
-/// refused by `WriteFault`, if the outlet failed or took less than the packet, and as
-/// `Server::next_packet` is. The disk is only read.
+/// Sends the next packet by the order of sending, in one write, from the room of `packet`; whether it
+/// ends a turn. It is refused by `WriteFault`, if the outlet failed or took less than the packet, and
+/// as `Server::next_packet` is. The disk is only read.
 #[inline(always)]
 pub(crate) fn send_one<D: Disk, O: Outlet>(
     server: &mut Server<D>,
     outlet: &mut O,
+    packet: &mut Packet,
 ) -> Result<bool, Refusal>
     ensures only_reads { OnlyReads (D.state server.old.disk) (D.state server.new.disk) }
     ensures calm { OnOk result
@@ -32,8 +33,7 @@ pub(crate) fn send_one<D: Disk, O: Outlet>(
         → SendsPacket result (place_in server.old s) (place_in server.new s)
         (O.writes outlet.old) (O.writes outlet.new) }
 {
-    let mut packet = Packet::new();
-    let ends_turn = server.next_into(&mut packet)?;
+    let ends_turn = server.next_into(packet)?;
     let bytes = packet.as_slice();
     match outlet.write_once(bytes) {
         Ok(count) => {

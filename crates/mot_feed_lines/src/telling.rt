@@ -79,10 +79,7 @@ fn show_text<T: Tells, D: Disk>(
     let mut text = Vec::new(alloc);
     match answer_reading(alloc, request, &mut text, server) {
         Ok(()) => show_lines(intake, log, text.as_slice()),
-        Err(_) => {
-            tell_refused(intake, log, Refusal::OutOfMemory, &Why::Unsaid);
-            log.leave_out();
-        }
+        Err(_) => tell_refused(intake, log, Refusal::OutOfMemory, &Why::Unsaid),
     }
 }
 

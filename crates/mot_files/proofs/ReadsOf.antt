@@ -5,12 +5,9 @@ use Rattle.std.proofs.Math.Seq.{take-append-add}
 use lib.Seq.{length-take-le, take-take}
 use Rattle.std.proofs.lemmas.Slice.{take-put_mid}
 use borrow.Rule.Slice.PartMut.{put_mid}
-use Rattle.mot_files.specs.Call.{Call, call, failed_read, read, read_of}
+use Rattle.mot_files.specs.Call.{Call, call, read, read_of}
 use Rattle.mot_files.specs.declared.system.Event.TheVariants.{Read}
-use Rattle.mot_files.specs.Reading.{IsUnfilled, joined, reads}
-use Rattle.mot_files.specs.Reading.IsUnfilled.{ended, failed}
-use Rattle.mot_files.specs.declared.reading.ReadFailure.TheVariants.{Changed, System}
-use Rattle.mot_files.specs.declared.system.Fault.{Fault}
+use Rattle.mot_files.specs.Reading.{joined, reads}
 use Rattle.mot_files.specs.declared.system.Handle.{Handle}
 
 pub reads_one_more : (h : Handle) (chunks : List (List ℕ)) (chunk : List ℕ)
@@ -41,35 +38,12 @@ one_more h old mid new chunks chunk before here =
     ∙ append_assoc old (reads h chunks) (read_of h chunk ∷ [])
     ∙ ap (λ l. old ++ l) (sym (reads_one_more h chunks chunk))
 
-pub none_of : (chunk : List ℕ) → length chunk ≡ 0 → chunk ≡ []
-none_of [] e = refl
-none_of (x ∷ xs) e = cc
-
 pub shorter : (chunks : List (List ℕ)) (room : List ℕ) (len at : ℕ) → length room ≡ len
     → at < length room → take at room ≡ joined chunks → length (joined chunks) < len
 shorter chunks room len at same few bytes =
     let size : at ≡ length (joined chunks) =
     sym (length-take-le at room (omega arith)) ∙ ap length bytes in
     omega arith
-
-pub ends : (h : Handle) (old mid new : List Call) (chunks : List (List ℕ)) (chunk room : List ℕ)
-    → (len at : ℕ) → length room ≡ len → at < length room → take at room ≡ joined chunks
-    → mid ≡ old ++ reads h chunks → length chunk ≡ 0 → new ≡ mid ++ read_of h chunk ∷ []
-    → IsUnfilled h Changed len old new
-ends h old mid new chunks chunk room len at same few bytes before none here =
-    ended chunks refl
-    (shorter chunks room len at same few bytes)
-    (here ∙ ap (λ l. mid ++ read_of h l ∷ []) (none_of chunk none)
-    ∙ ap (λ l. l ++ read_of h [] ∷ []) before)
-
-pub fails : (h : Handle) (old mid new : List Call) (chunks : List (List ℕ)) (room : List ℕ)
-    → (fault : Fault) (len at : ℕ) → length room ≡ len → at < length room → take at room ≡ joined chunks
-    → mid ≡ old ++ reads h chunks → new ≡ mid ++ failed_read h fault ∷ []
-    → IsUnfilled h (System fault) len old new
-fails h old mid new chunks room fault len at same few bytes before here =
-    failed chunks fault refl
-    (shorter chunks room len at same few bytes)
-    (here ∙ ap (λ l. l ++ failed_read h fault ∷ []) before)
 
 -- a read that gave so many bytes
 pub given_is : (h : Handle) (count : ℕ) (room : List ℕ) (old new : List Call)

@@ -1,7 +1,6 @@
 pub mod Call
 pub mod Holding
 pub mod Host
-pub mod Inner
 pub mod Lasting
 pub mod Listing
 pub mod Looking

@@ -1,9 +1,5 @@
 //! What the answers of the system's calls mean.
-ghost use Rattle.std.specs.Prelude.{◌≡◌, ◌≤◌, ◌+◌, ◌*◌, ◌^◌, IfOk, IsErrAnd, IsOkAnd, IsSomeAnd, MatchResult};
-ghost use Rattle.std.specs.Prelude.{None, Ok, length, take, unsigned_abs};
-ghost use Rattle.std.specs.Time.{system_time_nanos};
-ghost use Rattle.std.specs.Path.{path_buf_bytes};
-ghost use Rattle.mot_files.specs.Inner.Answers.{IsFaultOf, IsKindOf, IsLockFaultOf, IsSeenOf, seconds_of};
+ghost use Rattle.std.specs.Prelude.{◌≡◌, ◌≤◌, IfOk, IsErr, MatchResult, Ok, length};
 
 use crate::system::{Fault, FileStat, Kind, Time};
 use std::fs::{Metadata, TryLockError};
@@ -18,7 +14,7 @@ const EPOCH: u128 = 1 << 63;
 /// What the system said of a call.
 #[inline(always)]
 pub(crate) fn told<A>(answer: io::Result<A>) -> Result<A, Fault>
-    ensures { MatchResult answer (λ value. result ≡ Ok value) (λ error. IsErrAnd result (IsFaultOf error)) }
+    ensures { MatchResult answer (λ value. result ≡ Ok value) (λ _. IsErr result) }
 {
     match answer {
         Ok(value) => Ok(value),
@@ -27,9 +23,7 @@ pub(crate) fn told<A>(answer: io::Result<A>) -> Result<A, Fault>
 }
 
 /// Why a call was refused.
-fn fault(error: io::Error) -> Fault
-    ensures { IsFaultOf error result }
-{
+fn fault(error: io::Error) -> Fault {
     match error.kind() {
         ErrorKind::NotFound => Fault::Absent(error),
         _ => Fault::System(error),
@@ -41,49 +35,31 @@ pub(crate) fn closed() -> io::Error {
     io::Error::from(ErrorKind::InvalidInput)
 }
 
-/// What the system said of a lock.
-pub(crate) fn locked(answer: Result<(), TryLockError>) -> Result<(), Fault>
-    ensures { MatchResult answer (λ value. result ≡ Ok value) (λ refused. IsErrAnd result (IsLockFaultOf refused)) }
-{
+/// What the system said of a lock. That another has it is no error of the system.
+pub(crate) fn locked(answer: Result<(), TryLockError>) -> Result<(), Fault> {
     match answer {
-        Ok(value) => Ok(value),
-        Err(refused) => Err(lock_fault(refused)),
-    }
-}
-
-/// Why a lock was not taken.
-fn lock_fault(refused: TryLockError) -> Fault
-    ensures { IsLockFaultOf refused result }
-{
-    match refused {
-        TryLockError::WouldBlock => Fault::Busy,
-        TryLockError::Error(error) => fault(error),
+        Ok(()) => Ok(()),
+        Err(TryLockError::WouldBlock) => Err(Fault::Busy),
+        Err(TryLockError::Error(error)) => Err(fault(error)),
     }
 }
 
 /// What the system said of a file.
-pub(crate) fn seen(answer: io::Result<Metadata>) -> Result<FileStat, Fault>
-    ensures { MatchResult answer (λ found. IsOkAnd result (IsSeenOf found))
-        (λ error. IsErrAnd result (IsFaultOf error)) }
-{
-    match answer {
-        Ok(found) => Ok(FileStat {
-            kind: kind(&found),
-            device: found.dev(),
-            number: found.ino(),
-            len: found.len(),
-            written: time(found.mtime(), found.mtime_nsec()),
-            changed: time(found.ctime(), found.ctime_nsec()),
-            block: block(&found),
-        }),
-        Err(error) => Err(fault(error)),
-    }
+pub(crate) fn seen(answer: io::Result<Metadata>) -> Result<FileStat, Fault> {
+    let found = told(answer)?;
+    Ok(FileStat {
+        kind: kind(&found),
+        device: found.dev(),
+        number: found.ino(),
+        len: found.len(),
+        written: time(found.mtime(), found.mtime_nsec()),
+        changed: time(found.ctime(), found.ctime_nsec()),
+        block: block(&found),
+    })
 }
 
 /// What it is.
-fn kind(found: &Metadata) -> Kind
-    ensures { IsKindOf found.now result }
-{
+fn kind(found: &Metadata) -> Kind {
     match found.file_type() {
         it if it.is_file() => Kind::File,
         it if it.is_dir() => Kind::Folder,
@@ -95,60 +71,32 @@ fn kind(found: &Metadata) -> Kind
 
 /// The number of the block device that it stands for.
 fn block(found: &Metadata) -> Option<u64> {
-    if !found.file_type().is_block_device() {
-        return None;
-    }
-    Some(found.rdev())
+    let is_block = found.file_type().is_block_device();
+    is_block.then_some(found.rdev())
 }
 
 /// The time of day, if it is known.
-pub(crate) fn time_of_day(answer: io::Result<SystemTime>) -> Option<Time>
-    ensures { MatchResult answer
-        (λ now. IsSomeAnd result (λ time. time.nanos ≡ 2 ^ 63 * 1_000_000_000 + system_time_nanos now))
-        (λ _. result ≡ None) }
-{
-    match answer {
-        Ok(now) => match now.duration_since(UNIX_EPOCH) {
-            Ok(since) => Some(Time {
-                nanos: EPOCH * 1_000_000_000 + since.as_nanos(),
-            }),
-            Err(_) => None,
-        },
-        Err(_) => None,
-    }
+pub(crate) fn time_of_day(answer: io::Result<SystemTime>) -> Option<Time> {
+    let since = answer.ok()?.duration_since(UNIX_EPOCH).ok()?;
+    Some(Time {
+        nanos: EPOCH * 1_000_000_000 + since.as_nanos(),
+    })
 }
 
 /// The moment so many seconds and nanoseconds after the beginning of 1970.
-fn time(seconds: i64, nanos: i64) -> Time
-    ensures { result.nanos ≡ seconds_of seconds * 1_000_000_000 + unsigned_abs nanos }
-{
-    let far = seconds.unsigned_abs() as u128;
-    let seconds = if seconds < 0 {
-        EPOCH - far
-    } else {
-        EPOCH + far
-    };
+fn time(seconds: i64, nanos: i64) -> Time {
+    let seconds = (EPOCH as i128 + seconds as i128) as u128;
     Time {
         nanos: seconds * 1_000_000_000 + nanos.unsigned_abs() as u128,
     }
 }
 
-/// Copies the path of a path without links into the room.
+/// Copies all of the path of a path without links into the room, if it fits.
 pub(crate) fn real_path(answer: io::Result<PathBuf>, room: &mut [u8]) -> io::Result<usize>
-    ensures fits { IfOk result (λ count. count ≤ length room.new) }
-    ensures path { IfOk result (λ count. IsOkAnd answer (λ whole. take count room.new ≡ path_buf_bytes whole)) }
+    ensures { IfOk result (λ count. count ≤ length room.new) }
 {
-    match answer {
-        Ok(whole) => copy(whole.as_path().as_str().as_bytes(), room),
-        Err(error) => Err(error),
-    }
-}
-
-/// Copies all these bytes into the room, if they fit.
-fn copy(bytes: &[u8], room: &mut [u8]) -> io::Result<usize>
-    ensures fits { IfOk result (λ count. count ≤ length room.new) }
-    ensures bytes { IfOk result (λ count. take count room.new ≡ bytes.now) }
-{
+    let whole = answer?;
+    let bytes = whole.as_path().as_str().as_bytes();
     let count = bytes.len();
     if count > room.len() {
         return Err(io::Error::from(ErrorKind::InvalidFilename));

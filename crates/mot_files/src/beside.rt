@@ -10,17 +10,9 @@ use crate::writing::write_all;
 pub fn hold<S: System>(system: &mut S, handle: Handle, beside: &str) -> Result<(), Fault>
     ensures { Holds handle beside.now result (S.calls system.old) (S.calls system.new) }
 {
-    if let Err(fault) = system.lock(handle) {
-        return Err(fault);
-    }
-    let named = match system.look(beside) {
-        Ok(named) => named,
-        Err(fault) => return Err(fault),
-    };
-    let held = match system.look_at(handle) {
-        Ok(held) => held,
-        Err(fault) => return Err(fault),
-    };
+    system.lock(handle)?;
+    let named = system.look(beside)?;
+    let held = system.look_at(handle)?;
     if is_same(&held, &named) {
         Ok(())
     } else {
@@ -40,16 +32,9 @@ pub fn take_place<S: System>(
     ensures { Places handle beside.now path.now folder.now result (S.calls system.old)
         (S.calls system.new) }
 {
-    if let Err(fault) = system.sync(handle) {
-        return Err(fault);
-    }
-    if let Err(fault) = system.rename(beside, path) {
-        return Err(fault);
-    }
-    let inside = match system.open(folder, How::Read) {
-        Ok(inside) => inside,
-        Err(fault) => return Err(fault),
-    };
+    system.sync(handle)?;
+    system.rename(beside, path)?;
+    let inside = system.open(folder, How::Read)?;
     let answer = system.sync(inside);
     system.close(inside);
     answer
@@ -67,10 +52,7 @@ pub fn replace<S: System>(
     ensures { Replaces beside.now path.now text.now result (S.calls system.old)
         (S.calls system.new) }
 {
-    let handle = match system.open(beside, How::New) {
-        Ok(handle) => handle,
-        Err(fault) => return Err(fault),
-    };
+    let handle = system.open(beside, How::New)?;
     let written = write_all(system, handle, text);
     system.close(handle);
     if let Err(fault) = written {

@@ -1,5 +1,5 @@
 //! A list of calls that only clauses read. It takes no memory.
-ghost use Rattle.std.specs.Prelude.{◌≡◌, ◌≤◌, ℕ, List, [], ◌∷◌, ◌++◌, IfOk, length};
+ghost use Rattle.std.specs.Prelude.{◌≡◌, ◌≤◌, List, [], ◌∷◌, ◌++◌, IfOk, length};
 ghost use Rattle.std.specs.Borrow.{ftrue};
 ghost use Rattle.mot_files.specs.Call.{Call, call, given};
 

@@ -59,17 +59,10 @@ impl<'a> HostSystem<'a> {
     fn open_at_place(&mut self, path: &str, how: How) -> Result<Handle, Fault>
         ensures calls { self.new.calls ≡ self.old.calls }
     {
-        let handle = match self.open.vacate() {
-            Ok(handle) => handle,
-            Err(fault) => return Err(fault),
-        };
-        match told(self.open_path(path, how)) {
-            Ok(open) => {
-                self.open.put(handle, open);
-                Ok(handle)
-            }
-            Err(fault) => Err(fault),
-        }
+        let handle = self.open.vacate()?;
+        let opened = told(self.open_path(path, how))?;
+        self.open.put(handle, opened);
+        Ok(handle)
     }
 
     /// Reads of what the handle stands for.
@@ -97,20 +90,11 @@ impl<'a> HostSystem<'a> {
         }
     }
 
-    /// Whether the handle stands for a terminal.
-    fn is_terminal_at(&self, handle: Handle) -> bool {
-        match self.open.get(handle) {
-            Some(Open::File(file)) => file.is_terminal(),
-            Some(Open::Output(output)) => output.is_terminal(),
-            _ => false,
-        }
-    }
-
     /// The file that the handle stands for.
-    fn file(&self, handle: Handle) -> Option<&File> {
+    fn file(&self, handle: Handle) -> io::Result<&File> {
         match self.open.get(handle) {
-            Some(Open::File(file)) => Some(file),
-            _ => None,
+            Some(Open::File(file)) => Ok(file),
+            _ => Err(closed()),
         }
     }
 }
@@ -147,16 +131,17 @@ impl<'a> System for HostSystem<'a> {
     }
 
     fn look_at(&mut self, handle: Handle) -> Result<FileStat, Fault> {
-        let answer = match self.file(handle) {
-            Some(file) => seen(file.metadata()),
-            None => told(Err(closed())),
-        };
+        let answer = seen(self.file(handle).and_then(|file| file.metadata()));
         self.calls.note(&Event::LookedAt(handle, answer), &[], &[]);
         answer
     }
 
     fn is_terminal(&mut self, handle: Handle) -> bool {
-        let answer = self.is_terminal_at(handle);
+        let answer = match self.open.get(handle) {
+            Some(Open::File(file)) => file.is_terminal(),
+            Some(Open::Output(output)) => output.is_terminal(),
+            _ => false,
+        };
         self.calls
             .note(&Event::IsTerminal(handle, answer), &[], &[]);
         answer
@@ -171,10 +156,7 @@ impl<'a> System for HostSystem<'a> {
 
     fn peek(&mut self, handle: Handle, room: &mut [u8]) -> Result<usize, Fault> {
         let asked = room.len();
-        let answer = told(match self.file(handle) {
-            Some(file) => file.read_at(room, 0),
-            None => Err(closed()),
-        });
+        let answer = told(self.file(handle).and_then(|file| file.read_at(room, 0)));
         self.calls
             .note_given(&Event::Peeked(handle, asked, answer), room, answer, &[]);
         answer
@@ -189,18 +171,15 @@ impl<'a> System for HostSystem<'a> {
 
     fn lock(&mut self, handle: Handle) -> Result<(), Fault> {
         let answer = locked(match self.file(handle) {
-            Some(file) => file.try_lock(),
-            None => Err(TryLockError::Error(closed())),
+            Ok(file) => file.try_lock(),
+            Err(error) => Err(TryLockError::Error(error)),
         });
         self.calls.note(&Event::Locked(handle, answer), &[], &[]);
         answer
     }
 
     fn sync(&mut self, handle: Handle) -> Result<(), Fault> {
-        let answer = told(match self.file(handle) {
-            Some(file) => file.sync_all(),
-            None => Err(closed()),
-        });
+        let answer = told(self.file(handle).and_then(|file| file.sync_all()));
         self.calls.note(&Event::Synced(handle, answer), &[], &[]);
         answer
     }

@@ -14,10 +14,7 @@ pub fn is_file<S: System>(system: &mut S, path: &str) -> Result<bool, Fault>
         ≡ S.calls system.old ++ looked path.now answer ∷ []) × (result ≡ file_of answer) }
 {
     match system.look(path) {
-        Ok(named) => match named.kind {
-            Kind::File => Ok(true),
-            _ => Ok(false),
-        },
+        Ok(named) => Ok(matches!(named.kind, Kind::File)),
         Err(Fault::Absent(_)) => Ok(false),
         Err(fault) => Err(fault),
     }

@@ -1,19 +1,15 @@
 //! Reading one file of a folder.
-ghost use Rattle.std.specs.Prelude.{◌≡◌, ◌≢◌, ◌<◌, ◌≤◌, ◌+◌, ◌++◌, ◌∷◌, [], ℕ, List, MatchResult};
-ghost use Rattle.std.specs.Prelude.{IfErr, IfOk, IsTrue, Ok, ◌↔◌, length, take, true};
-ghost use Rattle.mot_files.specs.declared.reading.ReadFailure.TheVariants.{TooLong, Young};
-ghost use Rattle.mot_files.specs.Call.{Call, failed_read, looked, read_of};
-ghost use Rattle.mot_files.specs.Reading.{AgeIs, IsRead, IsReadOpen, is_recent, IsSame, IsTaken, IsUnchanged};
+ghost use Rattle.std.specs.Prelude.{◌≡◌, ◌≢◌, ◌<◌, ◌++◌, ◌↔◌, ℕ, List, MatchResult};
+ghost use Rattle.std.specs.Prelude.{IfErr, IsTrue, length, true};
+ghost use Rattle.mot_files.specs.declared.reading.ReadFailure.TheVariants.{System, TooLong, Young};
+ghost use Rattle.mot_files.specs.Reading.{AgeIs, IsRead, IsReadOpen, IsSame, IsTaken, IsUnchanged};
 ghost use Rattle.mot_files.specs.Reading.{IsUnfilled, IsUnread, IsUnreadOpen, IsUntaken, joined, reads};
 ghost use Rattle.mot_files.specs.Stamping.{IsReadStamped, IsUnreadStamped};
 ghost use Rattle.mot_files.specs.declared.system.Kind.TheVariants.{File};
 
-use crate::stamping::stamp_at;
+use crate::stamping::{OLD, stamp_at};
 use crate::system::{Fault, FileStat, Handle, How, Kind, Stamp, System, Time};
 use std::alloc::{AllocError, Global};
-
-/// How many nanoseconds ago the last change of a file has to be.
-const OLD: u128 = 2_000_000_000;
 
 /// Why a file was not read.
 #[derive(Clone, Copy)]
@@ -28,6 +24,14 @@ pub enum ReadFailure {
     System(Fault),
     /// There was no memory for its bytes.
     NoMemory,
+}
+
+impl From<Fault> for ReadFailure {
+    ghost from_gives = { λ fault unread. unread ≡ System fault };
+
+    fn from(fault: Fault) -> ReadFailure {
+        ReadFailure::System(fault)
+    }
 }
 
 /// A file that was read.
@@ -55,10 +59,8 @@ pub fn read_file<S: System>(
         (λ unread. IsUnread path.now most at_once unread (S.calls system.old)
         (S.calls system.new)) }
 {
-    match system.look(path) {
-        Ok(named) => read_named(system, alloc, path, &named, most, at_once),
-        Err(fault) => Err(ReadFailure::System(fault)),
-    }
+    let (_, bytes) = read_seen(system, alloc, path, most, at_once)?;
+    Ok(bytes)
 }
 
 /// The same, with the file's stamp. So the time of day is asked before.
@@ -78,47 +80,36 @@ pub fn read_stamped<S: System>(
         (S.calls system.new)) }
 {
     let now = system.now();
-    let named = match system.look(path) {
-        Ok(named) => named,
-        Err(fault) => return Err(ReadFailure::System(fault)),
-    };
-    match read_named(system, alloc, path, &named, most, at_once) {
-        Ok(bytes) => {
-            let stamp = stamp_at(&named, now);
-            Ok(FileRead { bytes, stamp })
-        }
-        Err(unread) => Err(unread),
-    }
+    let (named, bytes) = read_seen(system, alloc, path, most, at_once)?;
+    let stamp = stamp_at(&named, now);
+    Ok(FileRead { bytes, stamp })
 }
 
-/// The bytes of the file that was just seen at this path.
-fn read_named<S: System>(
+/// The bytes of the file at the path, behind what the system said of it before it was opened.
+fn read_seen<S: System>(
     system: &mut S,
     alloc: Global,
     path: &str,
-    named: &FileStat,
     most: u64,
     at_once: bool,
-) -> Result<Vec<u8>, ReadFailure>
+) -> Result<(FileStat, Vec<u8>), ReadFailure>
     ensures young { at_once ≡ true → IfErr result (λ unread. unread ≢ Young) }
     ensures long { IfErr result (λ unread. (count : ℕ) → unread ≡ TooLong count → most < count) }
-    ensures calls { (old : List Call)
-        → S.calls system.old ≡ old ++ looked path.now (Ok named.now) ∷ [] → MatchResult result
-        (λ bytes. (is : IsRead path.now most at_once bytes.items old (S.calls system.new))
-        × (is.named ≡ named.now))
-        (λ unread. IsUnread path.now most at_once unread old (S.calls system.new)) }
+    ensures calls { MatchResult result
+        (λ read. (is : IsRead path.now most at_once read.1.items (S.calls system.old)
+        (S.calls system.new)) × (is.named ≡ read.0))
+        (λ unread. IsUnread path.now most at_once unread (S.calls system.old)
+        (S.calls system.new)) }
 {
+    let named = system.look(path)?;
     // What is none is not opened: a pipe would wait for its writer.
-    if !is_regular(named) {
+    if !is_regular(&named) {
         return Err(ReadFailure::Changed);
     }
-    let handle = match system.open(path, How::Read) {
-        Ok(handle) => handle,
-        Err(fault) => return Err(ReadFailure::System(fault)),
-    };
-    let bytes = read_open(system, alloc, handle, named, most, at_once);
+    let handle = system.open(path, How::Read)?;
+    let bytes = read_open(system, alloc, handle, &named, most, at_once);
     system.close(handle);
-    bytes
+    Ok((named, bytes?))
 }
 
 /// The bytes of an open file, if it is the one that was seen at its path, and stays as it is.
@@ -138,10 +129,7 @@ fn read_open<S: System>(
         (λ unread. IsUnreadOpen handle named.now most at_once unread (S.calls system.old)
         (S.calls system.new)) }
 {
-    let held = match system.look_at(handle) {
-        Ok(held) => held,
-        Err(fault) => return Err(ReadFailure::System(fault)),
-    };
+    let held = system.look_at(handle)?;
     if !is_same(&held, named) {
         return Err(ReadFailure::Changed);
     }
@@ -168,13 +156,8 @@ fn take_all<S: System>(
     let Ok(mut bytes) = Vec::from_elem(alloc, 0u8, held.len as usize) else {
         return Err(ReadFailure::NoMemory);
     };
-    if let Err(unread) = fill(system, handle, &mut bytes) {
-        return Err(unread);
-    }
-    let after = match system.look_at(handle) {
-        Ok(after) => after,
-        Err(fault) => return Err(ReadFailure::System(fault)),
-    };
+    fill(system, handle, &mut bytes)?;
+    let after = system.look_at(handle)?;
     if !is_unchanged(held, &after) {
         return Err(ReadFailure::Changed);
     }
@@ -188,16 +171,9 @@ fn is_young<S: System>(system: &mut S, held: &FileStat, at_once: bool) -> bool
     if at_once {
         return false;
     }
-    let now = system.now();
-    is_recent(held.written, now)
-}
-
-/// Whether it is less than two seconds ago.
-fn is_recent(written: Time, now: Option<Time>) -> bool
-    ensures { result ≡ is_recent written now }
-{
-    match now {
-        Some(now) => written.nanos <= now.nanos && now.nanos - written.nanos < OLD,
+    let written = held.written.nanos;
+    match system.now() {
+        Some(now) => written <= now.nanos && now.nanos - written < OLD,
         None => false,
     }
 }
@@ -233,32 +209,10 @@ fn fill<S: System>(system: &mut S, handle: Handle, room: &mut [u8]) -> Result<()
 {
     let mut at = 0;
     while at < room.len() {
-        match read_some(system, handle, room, at) {
-            Ok(0) => return Err(ReadFailure::Changed),
-            Ok(count) => at += count,
-            Err(fault) => return Err(ReadFailure::System(fault)),
+        match system.read(handle, &mut room[at..])? {
+            0 => return Err(ReadFailure::Changed),
+            count => at += count,
         }
     }
     Ok(())
-}
-
-/// Reads bytes into the room, from this place on.
-fn read_some<S: System>(
-    system: &mut S,
-    handle: Handle,
-    room: &mut [u8],
-    at: usize,
-) -> Result<usize, Fault>
-    requires { at ≤ length room.old }
-    ensures fits { IfOk result (λ count. at + count ≤ length room.new) }
-    ensures noted { MatchResult result
-        (λ count. (chunk : List ℕ) × (length chunk ≡ count)
-        × (S.calls system.new ≡ S.calls system.old ++ read_of handle chunk ∷ [])
-        × (take (at + count) room.new ≡ take at room.old ++ chunk))
-        (λ fault. S.calls system.new ≡ S.calls system.old ++ failed_read handle fault ∷ []) }
-{
-    match system.read(handle, &mut room[at..]) {
-        Ok(count) => Ok(count),
-        Err(fault) => Err(fault),
-    }
 }

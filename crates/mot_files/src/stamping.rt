@@ -1,26 +1,23 @@
 //! By what it is told that a file has the bytes that it had.
 ghost use Rattle.std.specs.Prelude.{◌≡◌, ◌∷◌, ◌++◌, [], Result, true};
 ghost use Rattle.mot_files.specs.Call.{looked};
-ghost use Rattle.mot_files.specs.Listing.{is_file_kind};
 ghost use Rattle.mot_files.specs.Stamping.{HasStamp, is_past, stamp_at};
 ghost use Rattle.mot_files.specs.declared.system.Fault.{Fault};
 ghost use Rattle.mot_files.specs.declared.system.FileStat.{FileStat};
 
-use crate::system::{FileStat, Kind, Stamp, System, Time};
+use crate::reading::is_regular;
+use crate::system::{FileStat, Stamp, System, Time};
 
 /// How many nanoseconds ago the last change of a file has to be.
-const PAST: u128 = 2_000_000_000;
+pub(crate) const OLD: u128 = 2_000_000_000;
 
 /// The stamp of a file of which the system said this, if its last change was two seconds before this
 /// time of day, or longer.
 pub(crate) fn stamp_at(seen: &FileStat, now: Option<Time>) -> Option<Stamp>
     ensures { result ≡ stamp_at seen.now now }
 {
-    if is_past(seen.written, now) && is_past(seen.changed, now) {
-        Some(Stamp::of(seen))
-    } else {
-        None
-    }
+    let is_old = is_past(seen.written, now) && is_past(seen.changed, now);
+    is_old.then_some(Stamp::of(seen))
 }
 
 /// Whether the file at the path is a regular one that has this stamp.
@@ -31,18 +28,8 @@ pub fn has_stamp<S: System>(system: &mut S, path: &str, stamp: &Stamp) -> bool
         ≡ S.calls system.old ++ looked path.now answer ∷ []) }
 {
     match system.look(path) {
-        Ok(seen) => is_file(seen.kind) && Stamp::of(&seen) == *stamp,
+        Ok(seen) => is_regular(&seen) && Stamp::of(&seen) == *stamp,
         Err(_) => false,
-    }
-}
-
-/// Whether it is a regular file.
-fn is_file(kind: Kind) -> bool
-    ensures { result ≡ is_file_kind kind }
-{
-    match kind {
-        Kind::File => true,
-        _ => false,
     }
 }
 
@@ -51,7 +38,7 @@ fn is_past(time: Time, now: Option<Time>) -> bool
     ensures { result ≡ is_past time now }
 {
     match now {
-        Some(now) => time.nanos <= now.nanos && now.nanos - time.nanos >= PAST,
+        Some(now) => time.nanos <= now.nanos && now.nanos - time.nanos >= OLD,
         None => false,
     }
 }

@@ -1,5 +1,5 @@
 //! What a system has open, by the numbers that it handed out.
-ghost use Rattle.std.specs.Prelude.{◌≡◌, ◌≢◌, ℕ, IfOk, IfSome, MatchResult, None, Some, slice_get};
+ghost use Rattle.std.specs.Prelude.{◌≡◌, ◌≢◌, ℕ, IfOk, MatchResult, None, Some, slice_get};
 ghost use Rattle.std.specs.Option.{option_copied, option_copied_mut};
 ghost use Rattle.mot_files.specs.Holding.{held};
 
@@ -32,13 +32,9 @@ impl<T: Drop> Table<T> {
             × ((other : ℕ) → other ≢ handle.slot → held self.new other ≡ held self.old other))
             (λ _. (other : ℕ) → held self.new other ≡ held self.old other) }
     {
-        match self.vacate() {
-            Ok(handle) => {
-                self.put(handle, opened);
-                Ok(handle)
-            }
-            Err(fault) => Err(fault),
-        }
+        let handle = self.vacate()?;
+        self.put(handle, opened);
+        Ok(handle)
     }
 
     /// A handle that stands for nothing, and a place for it. The other handles stay as they are.
@@ -47,7 +43,7 @@ impl<T: Drop> Table<T> {
             ≡ Some None) }
         ensures same { (place : ℕ) → held self.new place ≡ held self.old place }
     {
-        if let Some(at) = self.free() {
+        if let Some(at) = self.places.iter().position(|place| place.is_none()) {
             return Ok(Handle { slot: at as u64 });
         }
         let slot = self.places.len() as u64;
@@ -67,26 +63,11 @@ impl<T: Drop> Table<T> {
         self.places[handle.slot as usize] = Some(opened);
     }
 
-    /// The first place at which nothing is open.
-    fn free(&self) -> Option<usize>
-        ensures { IfSome result (λ at. slice_get self.now.places.items at ≡ Some None) }
-    {
-        for (at, place) in self.places.iter().enumerate() {
-            if place.is_none() {
-                return Some(at);
-            }
-        }
-        None
-    }
-
     /// What the handle stands for.
     pub fn get(&self, handle: Handle) -> Option<&T>
         ensures { option_copied result ≡ held self.now handle.slot }
     {
-        match self.places.get(handle.slot as usize) {
-            Some(Some(open)) => Some(open),
-            _ => None,
-        }
+        self.places.get(handle.slot as usize)?.as_ref()
     }
 
     /// What the handle stands for.
@@ -94,10 +75,7 @@ impl<T: Drop> Table<T> {
     pub fn get_mut(&mut self, handle: Handle) -> Option<&mut T>
         ensures { option_copied_mut result ≡ held self.old handle.slot }
     {
-        match self.places.get_mut(handle.slot as usize) {
-            Some(Some(open)) => Some(open),
-            _ => None,
-        }
+        self.places.get_mut(handle.slot as usize)?.as_mut()
     }
 
     /// The handle stands for nothing.

@@ -1,5 +1,4 @@
 //! Writing all bytes of a text.
-ghost use Rattle.std.specs.Prelude.{◌≡◌, ◌≤◌, drop, length};
 ghost use Rattle.mot_files.specs.Writing.{Writes};
 
 use crate::system::{Fault, Handle, System};
@@ -11,19 +10,10 @@ pub fn write_all<S: System>(system: &mut S, handle: Handle, bytes: &[u8]) -> Res
 {
     let mut rest = bytes;
     while !rest.is_empty() {
-        match system.write(handle, rest) {
-            Ok(0) => return Err(Fault::System(io::Error::from(ErrorKind::WriteZero))),
-            Ok(count) => rest = rest_of(rest, count),
-            Err(fault) => return Err(fault),
+        match system.write(handle, rest)? {
+            0 => return Err(Fault::System(io::Error::from(ErrorKind::WriteZero))),
+            count => rest = &rest[count..],
         }
     }
     Ok(())
-}
-
-/// What is left of these bytes after so many.
-fn rest_of(bytes: &[u8], count: usize) -> &[u8]
-    requires { count ≤ length bytes.now }
-    ensures { result.now ≡ drop count bytes.now }
-{
-    &bytes[count..]
 }

@@ -4,6 +4,7 @@ use Rattle.std.proofs.Common.{◌++◌, Option, None, Some, ap, refl, subst, sym
 use Rattle.std.proofs.Common.{◌<◌, append-nil, arith, slice_index_or, zero}
 use Rattle.std.specs.Prelude.{bytes_eq}
 use Rattle.std.specs.List.{AllByRecursion, list_any}
+use Rattle.std.proofs.lemmas.Bool.{not-false, or_left, or_right}
 use Rattle.std.proofs.lemmas.Slice.Eq.{bytes_eq-Decides}
 use Rattle.mot_files.specs.declared.system.Stamp.{Stamp}
 use Rattle.mot_folder.specs.Inner.Knowing.{IsKept, IsKnownWith, IsNoted, IsNotedFor, KnowsFiles}
@@ -22,13 +23,12 @@ use Rattle.mot_objects.specs.declared.object.Object.{Object}
 use Rattle.mot_playout.specs.declared.running.Attempt.{Attempt}
 use Rattle.mot_shelf.specs.Given.{Given, and_kept, and_missed, and_read, and_stamp, and_unchanged}
 use Rattle.mot_suffixes.specs.Types.{SuffixType}
-use Rattle.mot_update.specs.Told.{Answer, Put, Replaced, TellsBoth, Withdrew, answers_of}
+use Rattle.mot_update.specs.Told.{Answer, Put, Replaced, Withdrew, answers_of}
 use Rattle.mot_update.specs.Told.{was_accepted}
 use Rattle.mot_update.specs.Looking.{was_settled}
 use Rattle.mot_update.specs.Updating.{is_known}
 use Rattle.mot_update.specs.declared.settling.SettleOutcome.{SettleOutcome}
 use Rattle.mot_update.specs.declared.settling.SettleOutcome.TheVariants as settles
-use Rattle.mot_update.specs.declared.wanted.Wanted.{Wanted}
 
 -- ---- lists
 
@@ -75,10 +75,6 @@ has_it_there k (o ∷ os) (b ∷ bodies) e =
 
 -- ---- what is noted
 
-or_true : (b : Bool) → (b || true) ≡ true
-or_true true = refl
-or_true false = refl
-
 noted_for : (old new : KnownFiles) (one name : List ℕ) (refused accepted : Bool)
     → NotesName old new one refused → IsNotedFor old name accepted → IsNotedFor new name accepted
 noted_for old new one name refused accepted more (inl is) = inl is
@@ -86,7 +82,7 @@ noted_for old new one name refused accepted (inl lost) (inr is) = inr (inr lost)
 noted_for old new one name refused accepted (inr (same, inl none)) (inr (inl is)) =
     inr (inl (ap (λ l. is_known l name) none.1 ∙ is))
 noted_for old new one name refused accepted (inr (same, inr more)) (inr (inl is)) =
-    inr (inl (more name ∙ ap (λ (b : Bool). bytes_eq name one || b) is ∙ or_true (bytes_eq name one)))
+    inr (inl (more name ∙ or_right (bytes_eq name one) _ is))
 noted_for old new one name refused accepted (inr (same, how)) (inr (inr lost)) =
     inr (inr (same ∙ lost))
 
@@ -98,17 +94,12 @@ noted_on old new one refused more (Put name came) is =
 noted_on old new one refused more (Replaced name came) is =
     noted_for old new one name refused (was_accepted came) more is
 
-unrefused : (b : Bool) → not b ≡ false → b ≡ true
-unrefused true e = refl
-unrefused false e = absurd (cc (e))
-
 noted_now : (old new : KnownFiles) (name : List ℕ) (accepted : Bool)
     → NotesName old new name (not accepted) → IsNotedFor new name accepted
 noted_now old new name accepted (inl lost) = inr (inr lost)
-noted_now old new name accepted (inr (same, inl none)) = inl (unrefused accepted none.0)
+noted_now old new name accepted (inr (same, inl none)) = inl (not-false accepted none.0)
 noted_now old new name accepted (inr (same, inr more)) =
-    inr (inl (more name ∙ ap (λ (b : Bool). b || is_known old.refused.names.items name)
-    ((bytes_eq-Decides name name).1 refl)))
+    inr (inl (more name ∙ or_left (bytes_eq name name) _ ((bytes_eq-Decides name name).1 refl)))
 
 -- the answers to what was done for one object
 noted_of : (old new : KnownFiles) (name : List ℕ) (settled : SettleOutcome)
@@ -262,15 +253,6 @@ knows_withdrew g files told name came was = record {
   refused = all_push (IsNoted files) told (Withdrew name came) was.refused tt;
 }
 
--- both of them go on
-pub with_files : (P Q : List Answer → List Wanted → Type 0) (R S : List Answer → Type 0)
-    (answers : List Answer) (more : List Wanted) → TellsBoth P Q answers more
-    → ((told : List Answer) → R told → S (told ++ answers))
-    → TellsBoth (λ told given. P told given × R told) (λ told given. Q told given × S told) answers
-    more
-with_files P Q R S answers more first second = λ given told was.
-    (first given told was.0, second told was.1)
-
 -- ---- whether a look is fine
 
 -- where a file is passed over it is not
@@ -281,19 +263,6 @@ passed_is false = refl
 pub fine_unrefused : (any passed : Bool) → is_fine_look any passed ≡ true → any ≡ false
 fine_unrefused true passed is = absurd (cc (is))
 fine_unrefused false passed is = refl
-
--- nothing more was told or given
-pub plain : (P : List Answer → List Wanted → Type 0) (told : List Answer) (gave : List Wanted)
-    → P (told ++ []) (gave ++ []) → P told gave
-plain P told gave was =
-    subst (λ (l : List Wanted). P told l) (append-nil gave)
-    (subst (λ (l : List Answer). P l (gave ++ [])) (append-nil told) was)
-
-pub unplain : (P : List Answer → List Wanted → Type 0) (told : List Answer) (gave : List Wanted)
-    → P told gave → P (told ++ []) (gave ++ [])
-unplain P told gave was =
-    subst (λ (l : List Wanted). P (told ++ []) l) (sym (append-nil gave))
-    (subst (λ (l : List Answer). P l gave) (sym (append-nil told)) was)
 
 -- ---- behind a look
 

@@ -1,13 +1,14 @@
 -- What is told of a look, one thing after the other.
-use Rattle.std.proofs.Common.{◌≡◌, ◌∙◌, ◌++◌, ◌||◌, Bool, true, false, not, ℕ, List, [], ◌∷◌, ap}
+use Rattle.std.proofs.Common.{◌≡◌, ◌∙◌, ◌++◌, ◌&&◌, ◌||◌, Bool, true, false, not, ℕ, List, [], ◌∷◌, ap}
 use Rattle.std.proofs.Common.{append-nil, cond, map, refl, subst, sym}
 use Rattle.std.specs.Prelude.{filter}
+use Rattle.std.proofs.lemmas.Bool.{or_parts}
 use Rattle.std.proofs.lemmas.List.{map-append}
 use Rattle.std.proofs.lemmas.List.Elements.{filter-append}
 use Rattle.mot_events.specs.Events.{event_of}
 use Rattle.mot_events.specs.declared.event.LookEvent.{LookEvent}
 use Rattle.mot_events.specs.declared.event.LookResult.{LookResult}
-use Rattle.mot_events.specs.declared.event.LookResult.TheVariants as met
+use Rattle.mot_events.specs.declared.event.LookResult.TheVariants as outcome
 use Rattle.mot_folder.specs.Log.{ReportTells, TellsAnswers, TellsOne, images_noted, is_note}
 use Rattle.mot_folder.specs.Log.{is_of_file, is_of_image, is_of_look, names_read, of_look}
 use Rattle.mot_folder.specs.Log.{unreasoned}
@@ -24,9 +25,15 @@ look-more entries more =
 -- and of more entries those that note an image type
 pub images-more : (entries more : List LookEvent)
     → images_noted (entries ++ more) ≡ images_noted entries ++ images_noted more
-images-more entries more = filter-append (λ (e : LookEvent). is_of_image e.met) entries more
+images-more entries more = filter-append (λ (e : LookEvent). is_of_image e.outcome) entries more
 
--- one more that notes none
+-- more that are told of none
+pub look_same : (entries more : List LookEvent) → of_look more ≡ []
+    → of_look (entries ++ more) ≡ of_look entries
+look_same entries more none =
+    look-more entries more ∙ ap (λ l. of_look entries ++ l) none ∙ append-nil (of_look entries)
+
+-- and that note none
 pub images_same : (entries : List LookEvent) (last : LookEvent) → images_noted (last ∷ []) ≡ []
     → images_noted (entries ++ last ∷ []) ≡ images_noted entries
 images_same entries last none =
@@ -49,40 +56,34 @@ tells_beside old new last none no_image one = λ answers told.
     subst (TellsAnswers new) (sym (append-nil answers)) (record {
       entries = told.entries ++ last ∷ [];
       told = one told.entries told.told;
-      are = look-more told.entries (last ∷ [])
-          ∙ ap (λ l. of_look told.entries ++ l) none
-          ∙ append-nil (of_look told.entries) ∙ told.are;
+      are = look_same told.entries (last ∷ []) none ∙ told.are;
       images = images_same told.entries last no_image ∙ told.images;
     })
 
--- what is told of a file, and a note, notes no image type
-file_image_cases : (m : LookResult) → is_of_file m ≡ true → is_of_image m ≡ false
-file_image_cases (met.Done what done) is = refl
-file_image_cases (met.Refused what refusal why) is = refl
-file_image_cases met.Young is = refl
-file_image_cases met.Changed is = refl
-file_image_cases (met.Skipped skip) is = refl
-file_image_cases (met.Going unknown all) is = refl
-file_image_cases (met.Gap gap) is = refl
-file_image_cases (met.Waiting most files) is = refl
-file_image_cases met.Kept is = refl
-file_image_cases (met.KeptMost going all) is = refl
-file_image_cases met.Listed is = refl
-file_image_cases (met.OtherImage other) is = absurd (cc (is))
+-- nothing is told of a file and of an image, and a note is neither
+apart : (m : LookResult) → ((is_of_image m && is_of_file m) ≡ false)
+    × ((is_note m && (is_of_file m || is_of_image m)) ≡ false)
+apart (outcome.Done what done) = (refl, refl)
+apart (outcome.Refused what refusal why) = (refl, refl)
+apart outcome.Young = (refl, refl)
+apart outcome.Changed = (refl, refl)
+apart (outcome.Skipped skip) = (refl, refl)
+apart (outcome.Going unknown all) = (refl, refl)
+apart (outcome.Gap gap) = (refl, refl)
+apart (outcome.Waiting most files) = (refl, refl)
+apart outcome.Kept = (refl, refl)
+apart (outcome.KeptMost going all) = (refl, refl)
+apart outcome.Listed = (refl, refl)
+apart (outcome.OtherImage other) = (refl, refl)
 
-note_image_cases : (m : LookResult) → is_note m ≡ true → is_of_image m ≡ false
-note_image_cases (met.Done what done) is = refl
-note_image_cases (met.Refused what refusal why) is = refl
-note_image_cases met.Young is = refl
-note_image_cases met.Changed is = refl
-note_image_cases (met.Skipped skip) is = refl
-note_image_cases (met.Going unknown all) is = refl
-note_image_cases (met.Gap gap) is = refl
-note_image_cases (met.Waiting most files) is = refl
-note_image_cases met.Kept is = refl
-note_image_cases (met.KeptMost going all) is = refl
-note_image_cases met.Listed is = refl
-note_image_cases (met.OtherImage other) is = absurd (cc (is))
+file_image : (image file : Bool) → (image && file) ≡ false → file ≡ true → image ≡ false
+file_image true file none is = absurd (cc (none, is))
+file_image false file none is = refl
+
+note_only : (note file image : Bool) → (note && (file || image)) ≡ false → note ≡ true
+    → (file ≡ false) × (image ≡ false)
+note_only true file image none is = or_parts file image none
+note_only false file image none is = absurd (cc (is))
 
 module _ (name : List ℕ) (m : LookResult) where
   -- what is told of a file is told of no command, and of its name
@@ -98,7 +99,8 @@ module _ (name : List ℕ) (m : LookResult) where
   -- and notes no image type
   pub file_no_image : is_of_file m ≡ true → images_noted (event_of name m ∷ []) ≡ []
   file_no_image is =
-      ap (λ (b : Bool). cond b (event_of name m ∷ []) []) (file_image_cases m is)
+      ap (λ (b : Bool). cond b (event_of name m ∷ []) [])
+      (file_image (is_of_image m) (is_of_file m) (apart m).0 is)
 
   -- a file that was not taken is told
   pub tells_unread : (old new : Report) → is_of_file m ≡ true
@@ -107,23 +109,12 @@ module _ (name : List ℕ) (m : LookResult) where
       tells_beside old new (event_of name m) (file_beside is) (file_no_image is) one
 
 -- a note is told of no file
-note_cases : (m : LookResult) → is_note m ≡ true → is_of_file m ≡ false
-note_cases (met.Done what done) is = refl
-note_cases (met.Refused what refusal why) is = absurd (cc (is))
-note_cases met.Young is = absurd (cc (is))
-note_cases met.Changed is = absurd (cc (is))
-note_cases (met.Skipped skip) is = refl
-note_cases (met.Going unknown all) is = refl
-note_cases (met.Gap gap) is = refl
-note_cases (met.Waiting most files) is = refl
-note_cases met.Kept is = refl
-note_cases (met.KeptMost going all) is = refl
-note_cases met.Listed is = refl
-note_cases (met.OtherImage other) is = absurd (cc (is))
-
 module _ (name : List ℕ) (m : LookResult) (is : is_note m ≡ true) where
+  none : (is_of_file m ≡ false) × (is_of_image m ≡ false)
+  none = note_only (is_note m) (is_of_file m) (is_of_image m) (apart m).1 is
+
   pub note_unread : is_of_file m ≡ false
-  note_unread = note_cases m is
+  note_unread = none.0
 
   -- and of no command
   pub note_beside : of_look (event_of name m ∷ []) ≡ []
@@ -139,8 +130,7 @@ module _ (name : List ℕ) (m : LookResult) (is : is_note m ≡ true) where
       note_unread
 
   pub note_no_image : images_noted (event_of name m ∷ []) ≡ []
-  note_no_image =
-      ap (λ (b : Bool). cond b (event_of name m ∷ []) []) (note_image_cases m is)
+  note_no_image = ap (λ (b : Bool). cond b (event_of name m ∷ []) []) none.1
 
 -- a note is told
 pub tells_note : (old new : Report) (name : List ℕ) (m : LookResult) → is_note m ≡ true

@@ -6,9 +6,9 @@ use Rattle.std.specs.Str.{chars, is_utf8}
 use lib.Utf8.{encode}
 use Rattle.mot_folder.specs.Listed.{and_in_order, names_in, object_names, with_type}
 use Rattle.mot_events.specs.Events.{event_of}
-use Rattle.mot_log.specs.Text.{met_line}
-use Rattle.mot_events.specs.declared.event.LookStep.TheVariants as deed
-use Rattle.mot_events.specs.declared.event.LookResult.TheVariants as met
+use Rattle.mot_log.specs.Text.{look_line}
+use Rattle.mot_events.specs.declared.event.LookStep.TheVariants as step
+use Rattle.mot_events.specs.declared.event.LookResult.TheVariants as outcome
 use Rattle.mot_events.specs.declared.event.Skip.TheVariants as skip
 use Rattle.mot_events.specs.declared.event.Why.TheVariants.{Bytes, Control, NotUtf8, Space, Unsaid}
 use Rattle.mot_events.specs.declared.event.Why.TheVariants.{Words}
@@ -28,26 +28,26 @@ use Rattle.mot_playout.specs.declared.running.Attempt.TheVariants.{Accepted, Ref
 use Rattle.mot_suffixes.specs.Types.{known_types}
 use Rattle.mot_update.specs.Told.{Answer, Put, Replaced, Withdrew}
 
-put_line : met_line (event_of_answer
+put_line : look_line (event_of_answer
     (Put (codes "a.png") (Accepted (record { object = Some 2; directory = 3 }))))
     ≡ codes "put a.png done object 2 directory 3\n"
 unfolding digits is_utf8 chars encode
 put_line = refl
 
-withdrawn_line : met_line
+withdrawn_line : look_line
     (event_of_answer (Withdrew (codes "a") (Accepted (record { object = None; directory = 4 }))))
     ≡ codes "withdraw a done directory 4\n"
 unfolding digits is_utf8 chars encode
 withdrawn_line = refl
 
-refused_line : met_line (event_of_answer (Replaced (codes "a") (Refused NoRoom)))
+refused_line : look_line (event_of_answer (Replaced (codes "a") (Refused NoRoom)))
     ≡ codes "replace a refused 12 NoRoom\n"
 unfolding digits is_utf8 chars encode
 refused_line = refl
 
 -- for want of room the reason is how many bytes an object has, and else how many there may be
 refused_put : Refusal → List ℕ
-refused_put refusal = met_line (event_of (codes "a") (result_for deed.Put (Refused refusal)
+refused_put refusal = look_line (event_of (codes "a") (result_for step.Put (Refused refusal)
     (why_not_stored (record { length = 20; most = 40; waiting = 0 }) (Refused refusal))))
 
 no_room_line : refused_put NoRoom ≡ codes "put a refused 12 NoRoom: 20 bytes\n"
@@ -62,17 +62,17 @@ halted_line : refused_put Halted ≡ codes "put a refused 16 Halted\n"
 unfolding digits is_utf8 chars encode refused_put
 halted_line = refl
 
-unlisted_for_line : met_line (unlisted_for (codes "d") ReadFault (Words (codes "a\nb")))
+unlisted_for_line : look_line (unlisted_for (codes "d") ReadFault (Words (codes "a\nb")))
     ≡ codes "look d refused 22 ReadFault: a?b\n"
 unfolding digits is_utf8 chars encode
 unlisted_for_line = refl
 
 -- what is told of the look is the same with a reason and without
-reason_beside : of_look (event_of (codes "a") (result_for deed.Put (Refused NoRoom) (Bytes 20)) ∷ [])
+reason_beside : of_look (event_of (codes "a") (result_for step.Put (Refused NoRoom) (Bytes 20)) ∷ [])
     ≡ event_of_answer (Put (codes "a") (Refused NoRoom)) ∷ []
 reason_beside = refl
 
-unread_line : met_line (unread_for (codes "b.xml") EmptyBody Unsaid)
+unread_line : look_line (unread_for (codes "b.xml") EmptyBody Unsaid)
     ≡ codes "read b.xml refused 6 EmptyBody\n"
 unfolding digits is_utf8 chars encode
 unread_line = refl
@@ -92,20 +92,20 @@ unfolding is_utf8 chars encode
 of_no_text = refl
 
 -- a name that is not UTF-8 is left out, with `?` for each byte that is no printed one of ASCII
-skipped_line : met_line (event_of (codes "caf" ++ 233 ∷ codes ".png") (met.Skipped skip.NotUtf8))
+skipped_line : look_line (event_of (codes "caf" ++ 233 ∷ codes ".png") (outcome.Skipped skip.NotUtf8))
     ≡ codes "skip caf?.png not UTF-8\n"
 unfolding digits is_utf8 chars encode
 skipped_line = refl
 
-listed_line : met_line (event_of (codes "d") met.Listed) ≡ codes "look d listed\n"
+listed_line : look_line (event_of (codes "d") outcome.Listed) ≡ codes "look d listed\n"
 unfolding digits is_utf8 chars encode
 listed_line = refl
 
-kept_line : met_line (event_of (codes "d") met.Kept) ≡ codes "look d empty, kept\n"
+kept_line : look_line (event_of (codes "d") outcome.Kept) ≡ codes "look d empty, kept\n"
 unfolding digits is_utf8 chars encode
 kept_line = refl
 
-kept_most_line : met_line (event_of (codes "d") (met.KeptMost 7 8))
+kept_most_line : look_line (event_of (codes "d") (outcome.KeptMost 7 8))
     ≡ codes "look d 7 of 8 objects would go, kept\n"
 unfolding digits is_utf8 chars encode
 kept_most_line = refl
@@ -137,8 +137,8 @@ all_three_stay : is_kept Most [] 3 3 ≡ true
 all_three_stay = refl
 
 -- a note is told of no command, nor is a file that was not taken
-beside : of_look (event_of (codes "d") (met.Going 2 3) ∷ unread_for (codes "b") EmptyBody Unsaid
-    ∷ event_of (codes "c") met.Young ∷ event_of_answer (Put (codes "a") (Refused NoRoom)) ∷ [])
+beside : of_look (event_of (codes "d") (outcome.Going 2 3) ∷ unread_for (codes "b") EmptyBody Unsaid
+    ∷ event_of (codes "c") outcome.Young ∷ event_of_answer (Put (codes "a") (Refused NoRoom)) ∷ [])
     ≡ event_of_answer (Put (codes "a") (Refused NoRoom)) ∷ []
 beside = refl
 
@@ -156,14 +156,14 @@ three_counted : waiting_in three_wait ≡ 3
 unfolding three_wait
 three_counted = refl
 
-waiting_line : met_line (event_of (codes "d") (met.Waiting 40 3))
+waiting_line : look_line (event_of (codes "d") (outcome.Waiting 40 3))
     ≡ codes "note d 40 objects at most, 3 files wait\n"
 unfolding digits is_utf8 chars encode
 waiting_line = refl
 
 -- only of a file that was not taken the name is one of these
-read_names : names_read (event_of (codes "d") (met.Gap 2) ∷ unread_for (codes "b") EmptyBody Unsaid
-    ∷ event_of (codes "c") met.Young ∷ event_of_answer (Put (codes "a") (Refused NoRoom)) ∷ [])
+read_names : names_read (event_of (codes "d") (outcome.Gap 2) ∷ unread_for (codes "b") EmptyBody Unsaid
+    ∷ event_of (codes "c") outcome.Young ∷ event_of_answer (Put (codes "a") (Refused NoRoom)) ∷ [])
     ≡ codes "b" ∷ codes "c" ∷ []
 read_names = refl
 

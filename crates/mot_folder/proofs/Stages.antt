@@ -8,6 +8,7 @@ use Rattle.mot_folder.specs.Inner.Listing.{TellsFurther, TellsNameless, stage}
 use Rattle.mot_folder.specs.Listed.{IsListing, names_in}
 use Rattle.mot_folder.specs.Log.{TellsAnswers}
 use Rattle.mot_folder.proofs.Log.{tells_same}
+use Rattle.mot_folder.proofs.Taken.{SameNames, still_listing}
 use Rattle.mot_folder.proofs.FileStat.{all_given, goes_nowhere, goes_on, is_listing, is_unlisted}
 use Rattle.mot_folder.proofs.FileStat.{is_unopened, no_more, no_piece, some_more, some_none}
 use Rattle.mot_folder.proofs.FileStat.{stops_behind, unread_failed, unread_listed, unread_on}
@@ -219,12 +220,8 @@ module _ (types : List SuffixType) where
             (record { read = refl; missed = refl; unchanged = refl })) refl);
         further = λ was.
             subst (λ (n : Given). TellsNameless n.files t.report) (sym is) (lists.further was);
-        listing = subst (λ (n : Given). IsListing types s.path n t.names) (sym is) (record {
-          pieces = lists.listing.pieces;
-          whole = lists.listing.whole;
-          asked = lists.listing.asked;
-          are = lists.listing.are;
-        });
+        listing = still_listing types s.path t.given given t.names
+            (subst (λ (n : Given). SameNames t.given n) (sym is) (refl, refl, refl)) lists.listing;
       }
 
   -- a folder that was listed in a look that begins

@@ -3,16 +3,16 @@ use Rattle.std.proofs.Common.{◌≡◌, ◌∙◌, ℕ, ◌+◌, ◌<◌, lengt
 use Rattle.std.proofs.Common.{append_assoc}
 use Rattle.std.proofs.Common.{append-nil, map, refl, subst, sym, take, arith}
 use Rattle.std.proofs.Common.{None, Some, Option, Bool, true, false, not, ◌||◌, cond, inl, inr}
-use Rattle.std.specs.List.{list_any}
+use Rattle.std.specs.List.{flat_map, list_any}
 use Rattle.std.specs.Prelude.{◌&&◌, ◌⊎◌, ◌↔◌, bytes_eq, slice_get, filter, nat_lt}
-use Rattle.std.proofs.lemmas.Bool.{or_parts}
+use Rattle.std.proofs.lemmas.Bool.{not-false, not-true, or_from, or_left, or_parts, or_right}
 use Rattle.std.proofs.lemmas.Slice.Eq.{bytes_eq-Decides}
 use Rattle.std.proofs.lemmas.Grind.{flat_map-append}
 use Rattle.std.proofs.lemmas.List.Folds.{list_any-append}
 use Rattle.std.proofs.lemmas.List.{map-append}
 use Rattle.std.proofs.lemmas.List.Elements.{filter-append}
 use Rattle.mot_events.specs.Events.{event_of}
-use Rattle.mot_events.specs.declared.event.LookStep.TheVariants as deed
+use Rattle.mot_events.specs.declared.event.LookStep.TheVariants as step
 use Rattle.mot_events.specs.declared.event.LookEvent.{LookEvent}
 use Rattle.mot_events.specs.declared.event.LookResult.{LookResult}
 use Rattle.mot_events.specs.declared.event.Why.{Why}
@@ -23,10 +23,11 @@ use Rattle.mot_folder.specs.Inner.Reading.Misses.{was_refused, was_unkept, was_u
 use Rattle.mot_folder.specs.Inner.Listing.{TellsNameless}
 use Rattle.mot_folder.specs.Inner.Reasons.{TellsNoMore, TellsUnless, and_waiting}
 use Rattle.mot_folder.proofs.Waiting.{told_more, told_same, waiting_more}
-use Rattle.mot_folder.specs.Listed.{IsListing, nameless}
+use Rattle.mot_folder.specs.Listed.{AreEither, IsListing, nameless, names_in, object_names, with_type}
 use Rattle.mot_folder.specs.Looked.{EachIsTold}
 use Rattle.mot_folder.proofs.Log.{file_beside, file_named, file_no_image, images-more, images_same}
-use Rattle.mot_folder.proofs.Log.{look-more, note_beside, note_no_image, note_unnamed, note_unread}
+use Rattle.mot_folder.proofs.Log.{look-more, look_same, note_beside, note_no_image, note_unnamed}
+use Rattle.mot_folder.proofs.Log.{note_unread}
 use Rattle.mot_folder.specs.Log.{AreKept, IsKept}
 use Rattle.mot_folder.specs.Log.{TellsOf, TellsOne, event_of_answer, is_note, is_read, is_waiting, result_for}
 use Rattle.mot_folder.specs.Log.{all_image_notes, image_note, image_notes, images_noted}
@@ -39,7 +40,7 @@ use Rattle.mot_folder.specs.declared.report.Report.{Report}
 use Rattle.mot_playout.specs.declared.running.Attempt.TheVariants.{Accepted, Refused as WasRefused}
 use Rattle.mot_files.specs.declared.system.Stamp.{Stamp}
 use Rattle.mot_folder.specs.declared.known.Known.{Known}
-use Rattle.mot_shelf.specs.Given.{Given, and_kept, and_missed, and_read, and_unchanged}
+use Rattle.mot_shelf.specs.Given.{Given, and_kept, and_missed, and_unchanged}
 use Rattle.mot_suffixes.specs.Images.{other_image}
 use Rattle.mot_suffixes.specs.Types.{SuffixType}
 use Rattle.mot_suffixes.specs.declared.images.OtherImage.{OtherImage}
@@ -61,14 +62,14 @@ read-more entries more =
     (filter-append is_read entries more)
     ∙ map-append (λ (e : LookEvent). e.name) (filter is_read entries) (filter is_read more)
 
--- ---- whether anything was refused
+-- where none of the further ones was
+pub read_same : (entries more : List LookEvent) → names_read more ≡ []
+    → names_read (entries ++ more) ≡ names_read entries
+read_same entries more none =
+    read-more entries more ∙ ap (λ l. names_read entries ++ l) none
+    ∙ append-nil (names_read entries)
 
-or_answer : (a b r : Bool) → ((a || b) || r) ≡ ((a || (r || false)) || (b || false))
-or_answer true b r = refl
-or_answer false true true = refl
-or_answer false true false = refl
-or_answer false false true = refl
-or_answer false false false = refl
+-- ---- whether anything was refused
 
 or_counted : (a b r : Bool) → ((a || b) || r) ≡ ((a || (r || false)) || b)
 or_counted true b r = refl
@@ -76,16 +77,6 @@ or_counted false true true = refl
 or_counted false true false = refl
 or_counted false false true = refl
 or_counted false false false = refl
-
-or_read : (a b : Bool) → true ≡ (a || (b || (true || false)))
-or_read true b = refl
-or_read false true = refl
-or_read false false = refl
-
-or_note : (a b : Bool) → (a || b) ≡ (a || (b || (false || false)))
-or_note true b = refl
-or_note false true = refl
-or_note false false = refl
 
 -- behind a further answer that is only counted
 any_counted : (answers : List Answer) (entries : List LookEvent) (old new : Bool) (answer : Answer)
@@ -99,43 +90,30 @@ any_counted answers entries old new answer one was =
     one ∙ ap (λ (x : Bool). x || r) was ∙ or_counted a b r
     ∙ ap (λ (x : Bool). x || b) (sym (list_any-append not_accepted answers (answer ∷ [])))
 
-module _ (answers : List Answer) (entries : List LookEvent) (last : LookEvent) (old new : Bool) where
-  -- behind a further answer
-  any_answered : (answer : Answer) → is_read last ≡ false → new ≡ (old || not_accepted answer)
-      → old ≡ (list_any not_accepted answers || list_any is_read entries)
-      → new ≡ (list_any not_accepted (answers ++ answer ∷ [])
-      || list_any is_read (entries ++ last ∷ []))
-  any_answered answer none one was =
-      let a = list_any not_accepted answers in
-      let b = list_any is_read entries in
-      let r = not_accepted answer in
-      one ∙ ap (λ (x : Bool). x || r) was ∙ or_answer a b r
-      ∙ ap (λ (x : Bool). (a || (r || false)) || (b || (x || false))) (sym none)
-      ∙ ap (λ (x : Bool). x || (b || (is_read last || false)))
-      (sym (list_any-append not_accepted answers (answer ∷ [])))
-      ∙ ap (λ (x : Bool). list_any not_accepted (answers ++ answer ∷ []) || x)
-      (sym (list_any-append is_read entries (last ∷ [])))
+or_none : (b : Bool) → b ≡ (b || false)
+or_none true = refl
+or_none false = refl
 
-  -- behind a file that was not taken
-  pub any_read : is_read last ≡ true → new ≡ true
-      → new ≡ (list_any not_accepted answers || list_any is_read (entries ++ last ∷ []))
-  any_read one refused =
-      let a = list_any not_accepted answers in
-      let b = list_any is_read entries in
-      refused ∙ or_read a b
-      ∙ ap (λ (x : Bool). a || (b || (x || false))) (sym one)
-      ∙ ap (λ (x : Bool). a || x) (sym (list_any-append is_read entries (last ∷ [])))
+-- behind entries of no file
+pub any_beside : (answers : List Answer) (entries more : List LookEvent) (old new : Bool)
+    → list_any is_read more ≡ false → new ≡ old
+    → old ≡ (list_any not_accepted answers || list_any is_read entries)
+    → new ≡ (list_any not_accepted answers || list_any is_read (entries ++ more))
+any_beside answers entries more old new none same was =
+    let a = list_any not_accepted answers in
+    let b = list_any is_read entries in
+    same ∙ was ∙ ap (λ (x : Bool). a || x) (or_none b)
+    ∙ ap (λ (x : Bool). a || (b || x)) (sym none)
+    ∙ ap (λ (x : Bool). a || x) (sym (list_any-append is_read entries more))
 
-  -- behind a note
-  pub any_noted : is_read last ≡ false → new ≡ old
-      → old ≡ (list_any not_accepted answers || list_any is_read entries)
-      → new ≡ (list_any not_accepted answers || list_any is_read (entries ++ last ∷ []))
-  any_noted none same was =
-      let a = list_any not_accepted answers in
-      let b = list_any is_read entries in
-      same ∙ was ∙ or_note a b
-      ∙ ap (λ (x : Bool). a || (b || (x || false))) (sym none)
-      ∙ ap (λ (x : Bool). a || x) (sym (list_any-append is_read entries (last ∷ [])))
+-- behind a file that was not taken
+pub any_read : (answers : List Answer) (entries : List LookEvent) (last : LookEvent) (new : Bool)
+    → is_read last ≡ true → new ≡ true
+    → new ≡ (list_any not_accepted answers || list_any is_read (entries ++ last ∷ []))
+any_read answers entries last new one refused =
+    refused ∙ sym (or_right (list_any not_accepted answers) _
+    (list_any-append is_read entries (last ∷ [])
+    ∙ or_right (list_any is_read entries) _ (or_left (is_read last) false one)))
 
 read-cases : (b : Bool) (e : LookEvent) (entries : List LookEvent) → is_read e ≡ b
     → (list_any is_read entries ≡ false → names_read entries ≡ [])
@@ -159,10 +137,6 @@ read_none : (entries : List LookEvent) → names_read entries ≡ [] → list_an
 read_none [] none = refl
 read_none (e ∷ entries) none = unread-cases (is_read e) e entries refl (read_none entries) none
 
-unrefused : (m : Bool) → not m ≡ false → m ≡ true
-unrefused true e = refl
-unrefused false e = absurd (cc (e))
-
 accepted_of : (answers : List Answer) (commands : List Command) (marks : List Bool)
     → AreAnswers answers commands marks → list_any not_accepted answers ≡ false → AreAccepted marks
 accepted_of answers commands [] are none = tt
@@ -170,7 +144,7 @@ accepted_of [] commands (mark ∷ marks) are none = absurd are
 accepted_of (answer ∷ answers) [] (mark ∷ marks) are none = absurd are
 accepted_of (answer ∷ answers) (c ∷ commands) (mark ∷ marks) are none =
     let parts = or_parts (not_accepted answer) (list_any not_accepted answers) none in (
-      sym are.1 ∙ unrefused (was_accepted (came_of answer)) parts.0,
+      sym are.1 ∙ not-false (was_accepted (came_of answer)) parts.0,
       accepted_of answers commands marks are.2 parts.1,
     )
 
@@ -183,10 +157,6 @@ refused_none (answer ∷ answers) (c ∷ commands) (mark ∷ marks) are all =
     ap (λ (m : Bool). not m || list_any not_accepted answers) (are.1 ∙ all.0)
     ∙ refused_none answers commands marks are.2 all.1
 
-not_any : (b : Bool) → not b ≡ true → b ≡ false
-not_any true e = absurd (cc (e))
-not_any false e = refl
-
 -- a look is fine exactly where no file is told and each command was accepted
 pub fine_is : (entries : List LookEvent) (answers : List Answer) (commands : List Command)
     (marks : List Bool) (any : Bool) → AreAnswers answers commands marks
@@ -195,7 +165,7 @@ pub fine_is : (entries : List LookEvent) (answers : List Answer) (commands : Lis
 fine_is entries answers commands marks any are is = (
   λ fine.
       let parts = or_parts (list_any not_accepted answers) (list_any is_read entries)
-      (sym is ∙ not_any any fine) in
+      (sym is ∙ not-true any fine) in
       (none_read entries parts.1, accepted_of answers commands marks are parts.0),
   λ all. ap not (is
       ∙ ap (λ (b : Bool). b || list_any is_read entries)
@@ -205,9 +175,9 @@ fine_is entries answers commands marks any are is = (
 
 -- what is told of a command, with this reason of a refusal
 abbrev pub event_for : Answer → Why → LookEvent
-event_for (Withdrew name came) why = event_of name (result_for deed.Withdraw came why)
-event_for (Put name came) why = event_of name (result_for deed.Put came why)
-event_for (Replaced name came) why = event_of name (result_for deed.Replace came why)
+event_for (Withdrew name came) why = event_of name (result_for step.Withdraw came why)
+event_for (Put name came) why = event_of name (result_for step.Put came why)
+event_for (Replaced name came) why = event_of name (result_for step.Replace came why)
 
 -- of the look, and of no file
 answer_told : (answer : Answer) (why : Why) → (names_read (event_for answer why ∷ []) ≡ [])
@@ -240,22 +210,6 @@ image_noted : (name : List ℕ) (o : Option OtherImage)
     → images_noted (image_note name o) ≡ image_note name o
 image_noted name None = refl
 image_noted name (Some other) = refl
-
-or_none : (b : Bool) → b ≡ (b || false)
-or_none true = refl
-or_none false = refl
-
--- behind entries of no file
-any_beside : (answers : List Answer) (entries more : List LookEvent) (old new : Bool)
-    → list_any is_read more ≡ false → new ≡ old
-    → old ≡ (list_any not_accepted answers || list_any is_read entries)
-    → new ≡ (list_any not_accepted answers || list_any is_read (entries ++ more))
-any_beside answers entries more old new none same was =
-    let a = list_any not_accepted answers in
-    let b = list_any is_read entries in
-    same ∙ was ∙ ap (λ (x : Bool). a || x) (or_none b)
-    ∙ ap (λ (x : Bool). a || (b || x)) (sym none)
-    ∙ ap (λ (x : Bool). a || x) (sym (list_any-append is_read entries more))
 
 -- what is noted of one object more
 notes_more : (wanted : List Wanted) (w : Wanted)
@@ -301,16 +255,11 @@ kept_on kept more (Replaced name came ∷ answers) are =
     (λ stored. known_on kept more name (are.0 stored), kept_on kept more answers are.1)
 
 -- the last of them is one of them
-or_true : (b : Bool) → (b || (true || false)) ≡ true
-or_true true = refl
-or_true false = refl
-
 pub known_last : (kept : List (List ℕ)) (name : List ℕ) → is_known (kept ++ name ∷ []) name ≡ true
 known_last kept name =
     list_any-append (bytes_eq name) kept (name ∷ [])
-    ∙ ap (λ (b : Bool). list_any (bytes_eq name) kept || (b || false))
-    ((bytes_eq-Decides name name).1 refl)
-    ∙ or_true (list_any (bytes_eq name) kept)
+    ∙ or_right (list_any (bytes_eq name) kept) _
+    (or_left (bytes_eq name name) false ((bytes_eq-Decides name name).1 refl))
 
 -- what was done for an object, whose file was made to last if it was stored
 pub answers_kept : (kept : List (List ℕ)) (name : List ℕ) (settled : SettleOutcome)
@@ -335,7 +284,24 @@ why_so : {P E F : Type 0} → (E → F) → P ⊎ E → P ⊎ F
 why_so on (inl untakable) = inl untakable
 why_so on (inr none) = inr (on none)
 
+-- the names that a folder gave are those that it gave before
+abbrev pub SameNames : Given → Given → Type 0
+SameNames g h = (h.listed ≡ g.listed) × (h.files ≡ g.files) × (h.others ≡ g.others)
+
 module _ (types : List SuffixType) where
+  -- so they are still those of a listing
+  pub still_listing : (path : List ℕ) (g h : Given) (names : List (List ℕ)) → SameNames g h
+      → IsListing types path g names → IsListing types path h names
+  still_listing path g h names same is =
+      let typed = with_type types (flat_map names_in is.pieces) in
+      record {
+        pieces = is.pieces;
+        whole = same.0 ∙ is.whole;
+        asked = subst (λ l. AreEither typed l h.others) (sym same.1)
+            (subst (AreEither typed g.files) (sym same.2) is.asked);
+        are = is.are ∙ ap object_names (sym same.1);
+      }
+
   -- what came of files, where memory may have been wanted for the one or for the other
   pub taken_so : {E F : Type 0} → (E → F) → {names : List (List ℕ)}
       {read : List (List ℕ × List ℕ)} {unchanged : List (List ℕ × Stamp)}
@@ -362,17 +328,16 @@ module _ (types : List SuffixType) where
 
   -- an answer to a command is told
   told_one : (g : Given) (old new : Report) (waiting : ℕ) (names : List (List ℕ)) (answer : Answer)
-      (last : LookEvent) → names_read (last ∷ []) ≡ [] → is_read last ≡ false
-      → of_look (last ∷ []) ≡ event_of_answer answer ∷ [] → images_noted (last ∷ []) ≡ []
-      → new.any_refused ≡ (old.any_refused || not_accepted answer)
+      (why : Why) → new.any_refused ≡ (old.any_refused || not_accepted answer)
       → (old.any_without_memory ≡ true → new.any_without_memory ≡ true)
       → (is_waiting answer && nat_lt 0 waiting) ≡ false → IsKept g.kept answer
-      → TellsOne old new last
+      → TellsOne old new (event_for answer why)
       → TellsBoth (TellsOf types g old waiting names)
       (TellsOf types g new (and_waiting waiting (is_waiting answer)) names) (answer ∷ []) []
-  told_one g old new waiting names answer last none_read unread is no_image any stays told is_kept
-      one =
+  told_one g old new waiting names answer why any stays told is_kept one =
       let after = and_waiting waiting (is_waiting answer) in
+      let last = event_for answer why in
+      let is = answer_told answer why in
       λ given answers was.
       subst (λ (l : List Wanted). TellsOf types g new after names (answers ++ answer ∷ []) l)
       (sym (append-nil given)) (record {
@@ -380,19 +345,18 @@ module _ (types : List SuffixType) where
         told = one was.entries was.told;
         are = look-more was.entries (last ∷ [])
             ∙ ap (λ l. l ++ of_look (last ∷ [])) was.are
-            ∙ ap (λ l. map event_of_answer (told_of answers) ++ l) is
+            ∙ ap (λ l. map event_of_answer (told_of answers) ++ l) is.2
             ∙ sym (map-append event_of_answer (told_of answers) (answer ∷ []))
             ∙ ap (map event_of_answer) (sym (told_more answers answer waiting was.waits told));
         waits = waiting_more answers answer waiting was.waits;
         lasting = kept_more g.kept answers answer was.lasting is_kept;
-        any = any_answered answers was.entries last old.any_refused new.any_refused answer unread
-            any was.any;
+        any = any_beside (answers ++ answer ∷ []) was.entries (last ∷ []) new.any_refused
+            new.any_refused (or_from _ false is.1 refl) refl
+            (any_counted answers was.entries old.any_refused new.any_refused answer any was.any);
         missed = was.missed;
-        read = read-more was.entries (last ∷ [])
-            ∙ ap (λ l. names_read was.entries ++ l) none_read
-            ∙ append-nil (names_read was.entries) ∙ was.read;
+        read = read_same was.entries (last ∷ []) is.0 ∙ was.read;
         taken = taken_so stays was.taken;
-        images = images_same was.entries last no_image ∙ was.images;
+        images = images_same was.entries last is.3 ∙ was.images;
       })
 
   -- or is only counted
@@ -422,21 +386,17 @@ module _ (types : List SuffixType) where
       })
 
   told_or_counted : (g : Given) (old new : Report) (waiting : ℕ) (names : List (List ℕ))
-      (answer : Answer) (last : LookEvent) (b : Bool) → names_read (last ∷ []) ≡ []
-      → is_read last ≡ false → of_look (last ∷ []) ≡ event_of_answer answer ∷ []
-      → images_noted (last ∷ []) ≡ []
+      (answer : Answer) (why : Why) (b : Bool)
       → new.any_refused ≡ (old.any_refused || not_accepted answer)
       → (old.any_without_memory ≡ true → new.any_without_memory ≡ true)
       → (is_waiting answer && nat_lt 0 waiting) ≡ b → IsKept g.kept answer
-      → TellsUnless b old new last
+      → TellsUnless b old new (event_for answer why)
       → TellsBoth (TellsOf types g old waiting names)
       (TellsOf types g new (and_waiting waiting (is_waiting answer)) names) (answer ∷ []) []
-  told_or_counted g old new waiting names answer last true none_read unread is no_image any stays e
-      is_kept one =
+  told_or_counted g old new waiting names answer why true any stays e is_kept one =
       counted_one g old new waiting names answer any stays e is_kept one
-  told_or_counted g old new waiting names answer last false none_read unread is no_image any stays e
-      is_kept one =
-      told_one g old new waiting names answer last none_read unread is no_image any stays e is_kept one
+  told_or_counted g old new waiting names answer why false any stays e is_kept one =
+      told_one g old new waiting names answer why any stays e is_kept one
 
   -- whatever the reason of a refusal
   pub of_answer : (g : Given) (old new : Report) (waiting : ℕ) (names : List (List ℕ))
@@ -446,9 +406,7 @@ module _ (types : List SuffixType) where
       → TellsBoth (TellsOf types g old waiting names)
       (TellsOf types g new (and_waiting waiting (is_waiting answer)) names) (answer ∷ []) []
   of_answer g old new waiting names answer why any stays is_kept one =
-      let is = answer_told answer why in
-      told_or_counted g old new waiting names answer (event_for answer why) _ is.0 is.1 is.2 is.3 any
-      stays refl is_kept one
+      told_or_counted g old new waiting names answer why _ any stays refl is_kept one
 
   -- a file of this name is gone over that is not taken
   more_missed : {E : Type 0} (old new : Given) (names missed : List (List ℕ)) (given : List Wanted)
@@ -469,19 +427,15 @@ module _ (types : List SuffixType) where
       AreTaken types E (names ++ name ∷ []) n.read n.unchanged n.missed given (missed ++ name ∷ []))
       (sym is) (one_unkept names old.missed missed old.read old.unchanged given name bytes was)
 
-  -- and the folder has the files that it had
-  files_missed : {E : Type 0} (old new : Given) (name : List ℕ) → Misses types name old new E
-      → new.files ≡ old.files
-  files_missed old new name (was_unread is) = ap (λ (n : Given). n.files) is
-  files_missed old new name (was_refused bytes stamp is why) = ap (λ (n : Given). n.files) is
-  files_missed old new name (was_unkept bytes stamp is) = ap (λ (n : Given). n.files) is
-
-  -- and the same files were made to last
-  kept_missed : {E : Type 0} (old new : Given) (name : List ℕ) → Misses types name old new E
-      → new.kept ≡ old.kept
-  kept_missed old new name (was_unread is) = ap (λ (n : Given). n.kept) is
-  kept_missed old new name (was_refused bytes stamp is why) = ap (λ (n : Given). n.kept) is
-  kept_missed old new name (was_unkept bytes stamp is) = ap (λ (n : Given). n.kept) is
+  -- and the folder has the names that it had, and the same files were made to last
+  still_missed : {E : Type 0} (old new : Given) (name : List ℕ) → Misses types name old new E
+      → SameNames old new × (new.kept ≡ old.kept)
+  still_missed old new name (was_unread is) =
+      subst (λ (n : Given). SameNames old n × (n.kept ≡ old.kept)) (sym is) ((refl, refl, refl), refl)
+  still_missed old new name (was_refused bytes stamp is why) =
+      subst (λ (n : Given). SameNames old n × (n.kept ≡ old.kept)) (sym is) ((refl, refl, refl), refl)
+  still_missed old new name (was_unkept bytes stamp is) =
+      subst (λ (n : Given). SameNames old n × (n.kept ≡ old.kept)) (sym is) ((refl, refl, refl), refl)
 
   -- one that is
   more_taken : {E : Type 0} (old new : Given) (names missed : List (List ℕ)) (given : List Wanted)
@@ -512,18 +466,16 @@ module _ (types : List SuffixType) where
       (sym (append-nil answers)) (record {
         entries = was.entries ++ last ∷ [];
         told = one.2 was.entries was.told;
-        are = look-more was.entries (last ∷ [])
-            ∙ ap (λ l. of_look was.entries ++ l) (file_beside name one.0 one.1)
-            ∙ append-nil (of_look was.entries) ∙ was.are;
+        are = look_same was.entries (last ∷ []) (file_beside name one.0 one.1) ∙ was.are;
         waits = was.waits;
-        lasting = subst (λ l. AreKept l answers) (sym (kept_missed g h name is)) was.lasting;
-        any = any_read answers was.entries last old.any_refused new.any_refused one.1 any;
+        lasting = subst (λ l. AreKept l answers) (sym (still_missed g h name is).1) was.lasting;
+        any = any_read answers was.entries last new.any_refused one.1 any;
         missed = was.missed ++ name ∷ [];
         read = read-more was.entries (last ∷ [])
             ∙ ap (λ l. names_read was.entries ++ l) (file_named name one.0 one.1)
             ∙ ap (λ l. l ++ name ∷ []) was.read
             ∙ append_assoc (nameless g.files) was.missed (name ∷ [])
-            ∙ ap (λ l. nameless l ++ (was.missed ++ name ∷ [])) (sym (files_missed g h name is));
+            ∙ ap (λ l. nameless l ++ (was.missed ++ name ∷ [])) (sym (still_missed g h name is).0.1);
         taken = more_missed g h names was.missed given name is (taken_so stays was.taken);
         images = images_same was.entries last (file_no_image name one.0 one.1) ∙ was.images;
       }))
@@ -541,17 +493,13 @@ module _ (types : List SuffixType) where
       (sym (append-nil answers)) (record {
         entries = was.entries ++ more;
         told = notes.told was.entries was.told;
-        are = look-more was.entries more
-            ∙ ap (λ l. of_look was.entries ++ l) (image_look w.name other)
-            ∙ append-nil (of_look was.entries) ∙ was.are;
+        are = look_same was.entries more (image_look w.name other) ∙ was.are;
         waits = was.waits;
         lasting = subst (λ (n : Given). AreKept n.kept answers) (sym is.read) was.lasting;
         any = any_beside answers was.entries more old.any_refused new.any_refused
             (image_any w.name other) notes.any was.any;
         missed = was.missed;
-        read = read-more was.entries more
-            ∙ ap (λ l. names_read was.entries ++ l) (image_unread w.name other)
-            ∙ append-nil (names_read was.entries) ∙ was.read
+        read = read_same was.entries more (image_unread w.name other) ∙ was.read
             ∙ ap (λ (n : Given). nameless n.files ++ was.missed) (sym is.read);
         taken = more_taken g h names was.missed given name w is (taken_so notes.memory was.taken);
         images = images-more was.entries more
@@ -586,31 +534,27 @@ module _ (types : List SuffixType) where
 
   -- a note is told
   pub of_note : (g : Given) (old new : Report) (waiting : ℕ) (names : List (List ℕ)) (name : List ℕ)
-      (met : LookResult)
-      (answers : List Answer) (given : List Wanted) → is_note met ≡ true
+      (outcome : LookResult)
+      (answers : List Answer) (given : List Wanted) → is_note outcome ≡ true
       → new.any_refused ≡ old.any_refused
-      → (old.any_without_memory ≡ true → new.any_without_memory ≡ true)
-      → TellsOne old new (event_of name met)
+      → new.any_without_memory ≡ old.any_without_memory
+      → TellsOne old new (event_of name outcome)
       → TellsOf types g old waiting names answers given
       → TellsOf types g new waiting names answers given
-  of_note g old new waiting names name met answers given is same stays one was =
-      let last = event_of name met in
+  of_note g old new waiting names name outcome answers given is same memory one was =
+      let last = event_of name outcome in
       record {
         entries = was.entries ++ last ∷ [];
         told = one was.entries was.told;
-        are = look-more was.entries (last ∷ [])
-            ∙ ap (λ l. of_look was.entries ++ l) (note_beside name met is)
-            ∙ append-nil (of_look was.entries) ∙ was.are;
+        are = look_same was.entries (last ∷ []) (note_beside name outcome is) ∙ was.are;
         waits = was.waits;
         lasting = was.lasting;
-        any = any_noted answers was.entries last old.any_refused new.any_refused
-            (note_unread name met is) same was.any;
+        any = any_beside answers was.entries (last ∷ []) old.any_refused new.any_refused
+            (or_from _ false (note_unread name outcome is) refl) same was.any;
         missed = was.missed;
-        read = read-more was.entries (last ∷ [])
-            ∙ ap (λ l. names_read was.entries ++ l) (note_unnamed name met is)
-            ∙ append-nil (names_read was.entries) ∙ was.read;
-        taken = taken_so stays was.taken;
-        images = images_same was.entries last (note_no_image name met is) ∙ was.images;
+        read = read_same was.entries (last ∷ []) (note_unnamed name outcome is) ∙ was.read;
+        taken = taken_so (λ e. memory ∙ e) was.taken;
+        images = images_same was.entries last (note_no_image name outcome is) ∙ was.images;
       }
 
   -- no name was gone over
@@ -700,47 +644,6 @@ module _ (began : LookStart) (types : List SuffixType) (known : List Known) (pat
     tells = step given told was.tells;
   }
 
-  still_read : (g : Given) (name bytes : List ℕ) (stamp : Option Stamp)
-      → IsListing types path g names
-      → IsListing types path (and_read g name bytes stamp) names
-  still_read g name bytes stamp is =
-      record {
-        pieces = is.pieces;
-        whole = is.whole;
-        asked = is.asked;
-        are = is.are;
-      }
-
-  still_missed : (g : Given) (name : List ℕ) → IsListing types path g names
-      → IsListing types path (and_missed g name) names
-  still_missed g name is =
-      record {
-        pieces = is.pieces;
-        whole = is.whole;
-        asked = is.asked;
-        are = is.are;
-      }
-
-  still_passed : (g : Given) (name : List ℕ) (stamp : Stamp) → IsListing types path g names
-      → IsListing types path (and_unchanged g name stamp) names
-  still_passed g name stamp is =
-      record {
-        pieces = is.pieces;
-        whole = is.whole;
-        asked = is.asked;
-        are = is.are;
-      }
-
-  listing_misses : {E : Type 0} (g h : Given) (name : List ℕ) → Misses types name g h E
-      → IsListing types path g names → IsListing types path h names
-  listing_misses g h name (was_unread is) was =
-      subst (λ (n : Given). IsListing types path n names) (sym is) (still_missed g name was)
-  listing_misses g h name (was_refused bytes stamp is why) was =
-      subst (λ (n : Given). IsListing types path n names) (sym is) (still_read g name bytes stamp was)
-  listing_misses g h name (was_unkept bytes stamp is) was =
-      subst (λ (n : Given). IsListing types path n names) (sym is)
-      (still_missed (and_read g name bytes stamp) name (still_read g name bytes stamp was))
-
   -- and an object of the next name is given
   pub then_given : (P : List Answer → List Wanted → Type 0) (g h : Given) (place : ℕ)
       (old new : Report) (waiting : ℕ) (name : List ℕ) (w : Wanted)
@@ -752,8 +655,8 @@ module _ (began : LookStart) (types : List SuffixType) (known : List Known) (pat
       behind P (TellsLook began types known path g names place old waiting)
       (TellsLook began types known path h names (place + 1) new waiting) (w ∷ []) told
       (look_on g h place (place + 1) old new waiting waiting [] (w ∷ [])
-      (λ was. subst (λ (n : Given). IsListing types path n names) (sym is.read)
-      (still_read g name is.bytes is.stamp was))
+      (still_listing types path g h names
+      (subst (λ (n : Given). SameNames g n) (sym is.read) (refl, refl, refl)))
       (subst (λ l. TellsBoth (TellsOf types g old waiting (take place names))
       (TellsOf types h new waiting l) [] (w ∷ [])) (sym (take-named names place name lt at))
       (of_given types g h old new waiting (take place names) name w is notes)))
@@ -769,7 +672,8 @@ module _ (began : LookStart) (types : List SuffixType) (known : List Known) (pat
   then_missed P g h place old new waiting name told lt at is memory any stays one =
       behind P (TellsLook began types known path g names place old waiting)
       (TellsLook began types known path h names (place + 1) new waiting) [] told
-      (look_on g h place (place + 1) old new waiting waiting [] [] (listing_misses g h name is)
+      (look_on g h place (place + 1) old new waiting waiting [] []
+      (still_listing types path g h names (still_missed types g h name is).0)
       (subst (λ l. TellsBoth (TellsOf types g old waiting (take place names))
       (TellsOf types h new waiting l) [] [])
       (sym (take-named names place name lt at))
@@ -787,8 +691,8 @@ module _ (began : LookStart) (types : List SuffixType) (known : List Known) (pat
       behind P (TellsLook began types known path g names place report waiting)
       (TellsLook began types known path h names (place + 1) report waiting) [] told
       (look_on g h place (place + 1) report report waiting waiting [] []
-      (λ was. subst (λ (n : Given). IsListing types path n names) (sym is)
-      (still_passed g name stamp was))
+      (still_listing types path g h names
+      (subst (λ (n : Given). SameNames g n) (sym is) (refl, refl, refl)))
       (subst (λ l. TellsBoth (TellsOf types g report waiting (take place names))
       (TellsOf types h report waiting l) [] []) (sym (take-named names place name lt at))
       (of_passed types g h report waiting (take place names) name stamp is)))
@@ -817,12 +721,7 @@ module _ (began : LookStart) (types : List SuffixType) (known : List Known) (pat
   look_kept h place report waiting name told gave is = record {
     same_types = is.same_types;
     same_known = is.same_known;
-    listing = record {
-      pieces = is.listing.pieces;
-      whole = is.listing.whole;
-      asked = is.listing.asked;
-      are = is.listing.are;
-    };
+    listing = still_listing types path h (and_kept h name) names (refl, refl, refl) is.listing;
     tells = record {
       entries = is.tells.entries;
       told = is.tells.told;

@@ -1,8 +1,8 @@
 -- Why a folder is not listed, handed on.
 use Rattle.std.proofs.Common.{◌≡◌, ℕ, Err, List, Ok, Result, ap, subst, sym}
-use Rattle.std.specs.Prelude.{IfOk, IsErr, IsErrAnd, MatchResult}
+use Rattle.std.specs.Prelude.{IsErrAnd, MatchResult}
 use Rattle.mot_folder.specs.Inner.Listing.{AreGoneOver, AreRead, GoesOver, ReadsAll, ReadsNoMore}
-use Rattle.mot_folder.specs.Inner.Listing.{Stage, StopsWithin}
+use Rattle.mot_folder.specs.Inner.Listing.{IsCallRefusal, Stage, StopsWithin}
 use Rattle.mot_folder.specs.declared.listing.Unlisted.{Unlisted}
 use Rattle.mot_numbers.specs.declared.refusal.Refusal.{Refusal}
 use Rattle.mot_suffixes.specs.Types.{SuffixType}
@@ -20,10 +20,13 @@ pub why_of : {T : Type 0} (r : Result T Unlisted) (Q : T → Type 0) (P : Refusa
 why_of (Ok a) Q P refusal is why = absurd is
 why_of (Err u) Q P refusal is why = subst P (sym is) why
 
--- nothing holds of what is not there
-pub none_ok : {T : Type 0} (r : Result T Unlisted) (Q : T → Type 0) → IsErr r → IfOk r Q
-none_ok (Ok x) Q is = absurd (cc (is))
-none_ok (Err u) Q is = tt
+-- a call failed, for either reason
+pub why_called : {T : Type 0} (r : Result T Unlisted) (Q : T → Type 0) (P : Refusal → Type 0)
+    → IsErrAnd r (λ u. IsCallRefusal u.refusal)
+    → ((refusal : Refusal) → IsCallRefusal refusal → P refusal)
+    → MatchResult r Q (λ u. P u.refusal)
+why_called (Ok a) Q P is why = absurd is
+why_called (Err u) Q P is why = why u.refusal is
 
 module _ (types : List SuffixType) (old new : Stage) (r : Result Unit Unlisted) (refusal : Refusal)
     (is : IsErrAnd r (λ u. u.refusal ≡ refusal)) where

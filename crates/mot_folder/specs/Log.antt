@@ -4,10 +4,10 @@ use Rattle.std.specs.Prelude.{None, Option, Some, filter, if◌then◌else◌, l
 use Rattle.std.specs.List.{AllByRecursion, flat_map, list_any}
 use Rattle.mot_events.specs.Events.{event_of}
 use Rattle.mot_events.specs.declared.event.LookStep.{LookStep}
-use Rattle.mot_events.specs.declared.event.LookStep.TheVariants as deed
+use Rattle.mot_events.specs.declared.event.LookStep.TheVariants as step
 use Rattle.mot_events.specs.declared.event.LookEvent.{LookEvent}
 use Rattle.mot_events.specs.declared.event.LookResult.{LookResult}
-use Rattle.mot_events.specs.declared.event.LookResult.TheVariants as met
+use Rattle.mot_events.specs.declared.event.LookResult.TheVariants as outcome
 use Rattle.mot_events.specs.declared.event.Why.{Why}
 use Rattle.mot_events.specs.declared.event.Why.TheVariants.{Unsaid}
 use Rattle.mot_folder.specs.Listed.{nameless}
@@ -27,8 +27,8 @@ use Rattle.mot_update.specs.declared.wanted.Wanted.{Wanted}
 
 -- what came of a command, with the reason of a refusal
 abbrev pub result_for : LookStep → Attempt → Why → LookResult
-result_for what (Accepted done) why = met.Done what done
-result_for what (Refused refusal) why = met.Refused what refusal why
+result_for what (Accepted done) why = outcome.Done what done
+result_for what (Refused refusal) why = outcome.Refused what refusal why
 
 -- the same of the object of this name, with no reason
 abbrev pub answered : LookStep → List ℕ → Attempt → LookEvent
@@ -36,53 +36,53 @@ answered what name came = event_of name (result_for what came Unsaid)
 
 -- the folder of this path is not listed
 abbrev pub unlisted_for : List ℕ → Refusal → Why → LookEvent
-unlisted_for path refusal why = event_of path (met.Refused deed.Look refusal why)
+unlisted_for path refusal why = event_of path (outcome.Refused step.Look refusal why)
 
 -- the same, whatever the reason of a refusal
 abbrev pub without_why : LookResult → LookResult
-without_why (met.Refused what refusal why) = met.Refused what refusal Unsaid
+without_why (outcome.Refused what refusal why) = outcome.Refused what refusal Unsaid
 without_why other = other
 
 abbrev pub unreasoned : LookEvent → LookEvent
-unreasoned e = event_of e.name (without_why e.met)
+unreasoned e = event_of e.name (without_why e.outcome)
 
 -- what is told of a command
 abbrev pub event_of_answer : Answer → LookEvent
-event_of_answer (Withdrew name came) = answered deed.Withdraw name came
-event_of_answer (Put name came) = answered deed.Put name came
-event_of_answer (Replaced name came) = answered deed.Replace name came
+event_of_answer (Withdrew name came) = answered step.Withdraw name came
+event_of_answer (Put name came) = answered step.Put name came
+event_of_answer (Replaced name came) = answered step.Replace name came
 
 abbrev pub is_reading : LookStep → Bool
-is_reading deed.Read = true
+is_reading step.Read = true
 is_reading other = false
 
 -- it is told of a file that was not taken
 abbrev pub is_of_file : LookResult → Bool
-is_of_file (met.Refused what refusal why) = is_reading what
-is_of_file met.Young = true
-is_of_file met.Changed = true
+is_of_file (outcome.Refused what refusal why) = is_reading what
+is_of_file outcome.Young = true
+is_of_file outcome.Changed = true
 is_of_file other = false
 
 -- it is a note beside, or of a name that is left out: nothing was done
 abbrev pub is_note : LookResult → Bool
-is_note (met.Skipped skip) = true
-is_note (met.Going unknown all) = true
-is_note (met.Gap gap) = true
-is_note (met.Waiting most files) = true
-is_note met.Listed = true
+is_note (outcome.Skipped skip) = true
+is_note (outcome.Going unknown all) = true
+is_note (outcome.Gap gap) = true
+is_note (outcome.Waiting most files) = true
+is_note outcome.Listed = true
 is_note other = false
 
 -- it is noted of an object that its bytes are of another image type than its suffix says
 abbrev pub is_of_image : LookResult → Bool
-is_of_image (met.OtherImage other) = true
+is_of_image (outcome.OtherImage other) = true
 is_of_image other = false
 
 abbrev pub is_read : LookEvent → Bool
-is_read e = is_of_file e.met
+is_read e = is_of_file e.outcome
 
 -- it is told of a command, or of the whole look
 abbrev pub is_of_look : LookEvent → Bool
-is_of_look e = not (is_of_file e.met || is_note e.met || is_of_image e.met)
+is_of_look e = not (is_of_file e.outcome || is_note e.outcome || is_of_image e.outcome)
 
 -- these of them, whatever the reasons of refusals
 abbrev pub of_look : List LookEvent → List LookEvent
@@ -91,13 +91,6 @@ of_look entries = map unreasoned (filter is_of_look entries)
 -- the report tells exactly these, in order, where there was memory for all of them
 abbrev pub ReportTells : Report → List LookEvent → Type 0
 ReportTells report entries = report.any_left_out ≡ false → report.events.items ≡ entries
-
--- nothing of an earlier look is kept
-pub record BeginsAnew (report : Report) : Type 0 where
-  pub memory : report.any_without_memory ≡ false
-  pub left : report.any_left ≡ false
-  pub room : report.any_without_room ≡ false
-  pub skipped : report.skipped ≡ 0
 
 -- what was told goes on by one
 abbrev pub TellsOne : Report → Report → LookEvent → Type 0
@@ -110,12 +103,12 @@ names_read entries = map (λ (e : LookEvent). e.name) (filter is_read entries)
 
 -- those of them that note an image type
 abbrev pub images_noted : List LookEvent → List LookEvent
-images_noted entries = filter (λ (e : LookEvent). is_of_image e.met) entries
+images_noted entries = filter (λ (e : LookEvent). is_of_image e.outcome) entries
 
 -- what is noted of an object of this name: nothing, or that it is such
 abbrev pub image_note : List ℕ → Option OtherImage → List LookEvent
 image_note name None = []
-image_note name (Some other) = event_of name (met.OtherImage other) ∷ []
+image_note name (Some other) = event_of name (outcome.OtherImage other) ∷ []
 
 -- what is noted of a wanted object: exactly where its suffix says an image type that its bytes do
 -- not begin as

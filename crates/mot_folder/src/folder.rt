@@ -5,9 +5,9 @@ ghost use Rattle.mot_folder.specs.Inner.Knowing.{IsKnownWith, is_fine_look};
 ghost use Rattle.mot_folder.specs.Inner.Names.{name_or_none};
 ghost use Rattle.mot_folder.specs.Inner.Reading.{LookStart, LookedSince, Misses, OfferedSince, Takes, TellsFile, TellsUntaken};
 ghost use Rattle.mot_folder.specs.Inner.Reading.{TellsFault, is_for_next};
-ghost use Rattle.mot_folder.specs.Inner.Reasons.{TellsSettled, and_settled};
+ghost use Rattle.mot_folder.specs.Inner.Reasons.{StaysShort, and_settled};
 ghost use Rattle.mot_folder.specs.Inner.Images.{NotesImage};
-ghost use Rattle.mot_folder.specs.Log.{AreKept, TellsOf, has_to_wait, image_notes};
+ghost use Rattle.mot_folder.specs.Log.{AreKept, TellsOf};
 ghost use Rattle.mot_folder.specs.declared.folder.Untaken.TheVariants.{Refused as NotTaken};
 ghost use Rattle.mot_folder.specs.declared.folder.Untaken.TheVariants.{ReadFailure as NotRead};
 ghost use Rattle.mot_numbers.specs.declared.refusal.Refusal.{Refusal};
@@ -20,22 +20,22 @@ ghost use Rattle.mot_files.specs.declared.system.Stamp.{Stamp};
 ghost use Rattle.mot_suffixes.specs.Types.{SuffixType, type_of_name};
 ghost use Rattle.mot_update.specs.Looking.{was_settled};
 ghost use Rattle.mot_folder.specs.Taken.{IsUntakable, wanted_file};
-ghost use Rattle.mot_update.specs.Told.{TellsBoth, answers_of, was_accepted};
+ghost use Rattle.mot_update.specs.Told.{TellsBoth, answers_of};
 
 use crate::guard::Guard;
 use crate::known::KnownFiles;
 use crate::listing::read_refusal;
 use crate::names::FileNames;
-use crate::report::{Report, Sizes};
-use mot_events::{LookStep, Why};
+use crate::report::{Report, Sizes, has_to_wait};
+use mot_events::{LookResult, LookStep, Why};
 use mot_files::{ReadFailure, Stamp, System};
 use mot_numbers::Refusal;
 use mot_objects::{Body, MAX_BODY, Name};
 use mot_playout::Attempt;
 use mot_shelf::FolderReader;
-use mot_suffixes::{FileType, FileTypes, other_image};
+use mot_suffixes::{FileTypes, other_image};
 use mot_update::{SettleOutcome, Source, Wanted};
-use std::alloc::{AllocError, Global};
+use std::alloc::Global;
 use std::io;
 
 /// A folder that a carousel is made equal to, look by look. In a look its files are listed, and each
@@ -91,11 +91,7 @@ impl<'a, S: System + Drop> Folder<'a, S> {
             was_listed: true,
             names: FileNames::new(alloc),
             place: 0,
-            sizes: Sizes {
-                length: 0,
-                most: 0,
-                waiting: 0,
-            },
+            sizes: Sizes::default(),
             files: KnownFiles::new(alloc),
             any_passed: false,
             is_kept: false,
@@ -160,41 +156,30 @@ impl<'a, S: System + Drop> Source for Folder<'a, S> {
             return true;
         }
         let name = wanted.name.as_bytes();
-        match self.shelf.keep(name) {
-            Ok(()) => {
-                self.is_kept = true;
-                note_image(&mut self.report, wanted);
-                true
-            }
-            Err(unread) => {
-                // What is not stored is not known: the next look reads it again.
-                self.files
-                    .settle(&self.names, self.place.saturating_sub(1), true);
-                tell_untaken(&mut self.report, name, Untaken::ReadFailure(unread));
-                false
-            }
+        if let Err(unread) = self.shelf.keep(name) {
+            // What is not stored is not known: the next look reads it again.
+            let place = self.place.saturating_sub(1);
+            self.files.settle(&self.names, place, true);
+            tell_untaken(&mut self.report, name, Untaken::ReadFailure(unread));
+            return false;
         }
+        self.is_kept = true;
+        note_image(&mut self.report, wanted);
+        true
     }
 
     fn withdrew(&mut self, name: &Name, attempt: Attempt) {
+        let name = name.as_bytes();
         self.report
-            .answered(LookStep::Withdraw, name.as_bytes(), attempt);
+            .answered(LookStep::Withdraw, name, attempt, Why::Unsaid);
     }
 
     fn settled(&mut self, settled: SettleOutcome) {
+        let place = self.place.saturating_sub(1);
         let waiting = and_settled(self.sizes.waiting, &settled);
-        self.files.settle(
-            &self.names,
-            self.place.saturating_sub(1),
-            is_refused(&settled),
-        );
-        tell_settled(
-            &mut self.report,
-            &self.names,
-            self.place,
-            self.sizes,
-            settled,
-        );
+        self.files.settle(&self.names, place, is_refused(&settled));
+        let name = name_at(&self.names, place);
+        tell_settled(&mut self.report, name, self.sizes, settled);
         self.sizes.waiting = waiting;
     }
 }
@@ -211,8 +196,7 @@ enum Untaken {
 /// Tells that the file of this name could not be taken, and why.
 fn tell_untaken(report: &mut Report, name: &[u8], untaken: Untaken)
     ensures any { report.new.any_refused ≡ true }
-    ensures stays { report.old.any_without_memory ≡ true
-        → report.new.any_without_memory ≡ true }
+    ensures stays { StaysShort report.old report.new }
     ensures memory { untaken ≡ NotTaken OutOfMemory → report.new.any_without_memory ≡ true }
     ensures told { TellsFile report.old report.new name.now }
 
@@ -221,15 +205,15 @@ fn tell_untaken(report: &mut Report, name: &[u8], untaken: Untaken)
     ensures left { report.new.any_left ≡ (report.old.any_left || is_for_next untaken) }
 {
     match untaken {
-        Untaken::Refused(refusal) => report.refused(LookStep::Read, name, refusal),
-        Untaken::ReadFailure(ReadFailure::Young) => report.young(name),
-        Untaken::ReadFailure(ReadFailure::Changed) => report.changed(name),
+        Untaken::Refused(refusal) => report.missed(name, refusal, Why::Unsaid),
+        Untaken::ReadFailure(ReadFailure::Young) => report.left(name, LookResult::Young),
+        Untaken::ReadFailure(ReadFailure::Changed) => report.left(name, LookResult::Changed),
         Untaken::ReadFailure(ReadFailure::TooLong(length)) => {
             report.missed(name, Refusal::BodyTooLong, Why::TooLong(length));
         }
         Untaken::ReadFailure(ReadFailure::System(fault)) => tell_fault(report, name, fault.error()),
         Untaken::ReadFailure(ReadFailure::NoMemory) => {
-            report.refused(LookStep::Read, name, Refusal::OutOfMemory);
+            report.missed(name, Refusal::OutOfMemory, Why::Unsaid);
         }
     }
 }
@@ -237,8 +221,7 @@ fn tell_untaken(report: &mut Report, name: &[u8], untaken: Untaken)
 /// Tells that the system refused to read the file of this name.
 fn tell_fault(report: &mut Report, name: &[u8], error: io::Error)
     ensures any { report.new.any_refused ≡ true }
-    ensures stays { report.old.any_without_memory ≡ true
-        → report.new.any_without_memory ≡ true }
+    ensures stays { StaysShort report.old report.new }
     ensures left { report.new.any_left ≡ report.old.any_left }
     ensures told { TellsFault report.old report.new name.now }
 {
@@ -247,17 +230,16 @@ fn tell_fault(report: &mut Report, name: &[u8], error: io::Error)
             let why = report.words_of(error);
             report.missed(name, Refusal::ReadFault, why);
         }
-        refusal => report.refused(LookStep::Read, name, refusal),
+        refusal => report.missed(name, refusal, Why::Unsaid),
     }
 }
 
 /// Notes that the bytes of an object are of another image type than its suffix says, if they are.
 fn note_image(report: &mut Report, wanted: &Wanted)
-    ensures none { image_notes wanted.now ≡ [] → report.new ≡ report.old }
     ensures notes { NotesImage report.old report.new wanted.now }
 {
     if let Some(other) = other_image(wanted.content, wanted.body.as_bytes()) {
-        report.other_image(wanted.name.as_bytes(), other);
+        report.note(wanted.name.as_bytes(), LookResult::OtherImage(other));
     }
 }
 
@@ -271,29 +253,16 @@ fn name_at(names: &FileNames, place: usize) -> &[u8]
     }
 }
 
-/// Tells what became of the object of the name before this place, of these sizes. If anything was
-/// done for it, its file was made to last.
-fn tell_settled(
-    report: &mut Report,
-    names: &FileNames,
-    place: usize,
-    sizes: Sizes,
-    settled: SettleOutcome,
-)
-    ensures fine { report.new.any_refused ≡ false
-        → (report.old.any_refused ≡ false) × (was_settled settled ≡ true) }
+/// Tells what became of the object of this name and these sizes. If anything was done for it, its
+/// file was made to last.
+fn tell_settled(report: &mut Report, name: &[u8], sizes: Sizes, settled: SettleOutcome)
+    ensures any { report.new.any_refused ≡ (report.old.any_refused || not (was_settled settled)) }
     ensures told { (types : List SuffixType) (given : Given) (names_before : List (List ℕ))
-        → AreKept given.kept
-        (answers_of (name_or_none (slice_get names.now.names.items (place - 1))) settled)
+        → AreKept given.kept (answers_of name.now settled)
         → TellsBoth (TellsOf types given report.old sizes.waiting names_before)
         (TellsOf types given report.new (and_settled sizes.waiting settled) names_before)
-        (answers_of (name_or_none (slice_get names.now.names.items (place - 1))) settled) [] }
-
-    // Why it was not stored is told as it is known, or it is only counted.
-    ensures why { TellsSettled sizes settled report.old report.new
-        (name_or_none (slice_get names.now.names.items (place - 1))) }
+        (answers_of name.now settled) [] }
 {
-    let name = name_at(names, place.saturating_sub(1));
     match settled {
         SettleOutcome::Right => {}
         SettleOutcome::Put(attempt) => report.stored(LookStep::Put, name, attempt, sizes),
@@ -305,46 +274,21 @@ fn tell_settled(
 fn is_refused(settled: &SettleOutcome) -> bool
     ensures { result ≡ not (was_settled settled.now) }
 {
-    match settled {
-        SettleOutcome::Right => false,
-        SettleOutcome::Put(attempt) => is_refusal(attempt),
-        SettleOutcome::Replaced(attempt) => is_refusal(attempt),
-    }
-}
-
-/// Whether a command was refused.
-fn is_refusal(attempt: &Attempt) -> bool
-    ensures { result ≡ not (was_accepted attempt.now) }
-{
-    match attempt {
-        Attempt::Accepted(_) => false,
-        Attempt::Refused(_) => true,
-    }
+    matches!(
+        settled,
+        SettleOutcome::Put(Attempt::Refused(_)) | SettleOutcome::Replaced(Attempt::Refused(_))
+    )
 }
 
 /// How many objects wait, where so many did before one was settled so.
 fn and_settled(waiting: u32, settled: &SettleOutcome) -> u32
     ensures { result ≡ and_settled waiting settled.now }
 {
-    let waits = match settled {
-        SettleOutcome::Right => false,
-        SettleOutcome::Put(attempt) => has_to_wait(attempt),
-        SettleOutcome::Replaced(attempt) => has_to_wait(attempt),
-    };
-    if waits {
-        waiting.saturating_add(1)
-    } else {
-        waiting
-    }
-}
-
-/// Whether an object has to wait, since there are as many as there may be.
-fn has_to_wait(attempt: &Attempt) -> bool
-    ensures { result ≡ has_to_wait attempt.now }
-{
-    match attempt {
-        Attempt::Accepted(_) => false,
-        Attempt::Refused(refusal) => *refusal == Refusal::TooManyObjects,
+    match settled {
+        SettleOutcome::Put(attempt) | SettleOutcome::Replaced(attempt) if has_to_wait(attempt) => {
+            waiting.saturating_add(1)
+        }
+        _ => waiting,
     }
 }
 
@@ -420,13 +364,6 @@ fn wanted_of_file(types: &FileTypes, name: &Name, bytes: Vec<u8>) -> Result<Want
         return Err(Refusal::BadName);
     };
     let body = Body::new(bytes)?;
-    Ok(wanted(name, file_type, body)?)
-}
-
-/// An object of this name and body, of what its suffix says.
-fn wanted(name: &Name, file_type: &FileType, body: Body) -> Result<Wanted, AllocError>
-    ensures { IfOk result (λ wanted. wanted ≡ wanted_file file_type.now name.now body) }
-{
     Ok(Wanted {
         name: name.clone()?,
         content: file_type.content,

@@ -1,13 +1,11 @@
 //! Looks that change nothing, since too much would go.
-ghost use Rattle.std.specs.Prelude.{◌≡◌, length, true};
-ghost use Rattle.mot_events.specs.Events.{event_of};
-ghost use Rattle.mot_folder.specs.Guard.{are_all, are_most, guard_of, is_kept, kept_so};
+ghost use Rattle.std.specs.Prelude.{◌≡◌, length};
+ghost use Rattle.mot_folder.specs.Guard.{are_most, guard_of, is_kept, kept_so};
 ghost use Rattle.mot_folder.specs.Inner.Notes.{unknown_objects};
-ghost use Rattle.mot_folder.specs.Log.{TellsOne};
 
 use crate::listing::count_unknown;
 use crate::names::FileNames;
-use crate::report::Report;
+use mot_events::LookResult;
 use mot_objects::Carousel;
 
 /// Up to how many objects may always go, if the folder has an object.
@@ -45,18 +43,12 @@ pub(crate) fn is_kept(guard: Guard, names: &FileNames, carousel: &Carousel) -> b
         (length (unknown_objects names.now.names.items carousel.now.objects.items))
         (length carousel.now.objects.items) }
 {
+    let are_all = names.names.is_empty() && !carousel.objects.is_empty();
     match guard {
         Guard::Off => false,
-        Guard::Empty => are_all(names, carousel),
-        Guard::Most => are_all(names, carousel) || are_most(names, carousel),
+        Guard::Empty => are_all,
+        Guard::Most => are_all || are_most(names, carousel),
     }
-}
-
-/// Whether there are objects, and the folder has none.
-fn are_all(names: &FileNames, carousel: &Carousel) -> bool
-    ensures { result ≡ are_all names.now.names.items (length carousel.now.objects.items) }
-{
-    names.names.is_empty() && !carousel.objects.is_empty()
 }
 
 /// Whether more than half of the objects would go, and more than three.
@@ -69,18 +61,15 @@ fn are_most(names: &FileNames, carousel: &Carousel) -> bool
     going > carousel.objects.len() / 2 && going > FEW
 }
 
-/// Tells that the objects stay, and how many would go, if the folder has an object.
-pub(crate) fn tell_kept(report: &mut Report, path: &str, names: &FileNames, carousel: &Carousel)
-    ensures any { report.new.any_refused ≡ true }
-    ensures told { TellsOne report.old report.new (event_of path.now
-        (kept_so names.now.names.items
+/// What is told where the objects stay: also how many would go, if the folder has an object.
+pub(crate) fn kept_so(names: &FileNames, carousel: &Carousel) -> LookResult
+    ensures { result ≡ kept_so names.now.names.items
         (length (unknown_objects names.now.names.items carousel.now.objects.items))
-        (length carousel.now.objects.items))) }
+        (length carousel.now.objects.items) }
 {
     if names.names.is_empty() {
-        report.kept(path.as_bytes());
-    } else {
-        let going = count_unknown(names, carousel);
-        report.kept_most(path.as_bytes(), going as u64, carousel.objects.len() as u64);
+        return LookResult::Kept;
     }
+    let going = count_unknown(names, carousel);
+    LookResult::KeptMost(going as u64, carousel.objects.len() as u64)
 }

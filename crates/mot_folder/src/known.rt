@@ -142,7 +142,10 @@ fn forget(known: &mut Vec<Known>, alloc: Global, read: &[StampedFile], carousel:
 {
     let mut all = replace(known, Vec::new(alloc));
     while let Some(one) = all.pop() {
-        keep_one(known, one, read, carousel);
+        if is_there(&one, carousel) && !is_of_read(read, &one.name) {
+            // Where there is no memory for it, it is read again.
+            let _is_kept = known.push(one).is_ok();
+        }
     }
 }
 
@@ -159,18 +162,6 @@ fn note_name(noted: &mut FileNames, names: &FileNames, place: usize) -> bool
         return false;
     };
     noted.add(name).is_ok()
-}
-
-/// Keeps what is known of a file, if the carousel has its object, and it was not read since.
-fn keep_one(known: &mut Vec<Known>, one: Known, read: &[StampedFile], carousel: &Carousel)
-    ensures { (known.new.items ≡ known.old.items)
-        ⊎ ((is_there carousel.now.objects.items one ≡ true)
-        × (known.new.items ≡ known.old.items ++ one ∷ [])) }
-{
-    if is_there(&one, carousel) && !is_of_read(read, &one.name) {
-        // Where there is no memory for it, it is read again.
-        let _is_kept = known.push(one).is_ok();
-    }
 }
 
 /// Whether the carousel has the object that is known of a file.

@@ -1,5 +1,4 @@
 //! The files of a folder that are objects.
-ghost use Rattle.std.specs.List.{list_any};
 ghost use Rattle.std.specs.Str.{is_utf8};
 ghost use Rattle.std.specs.Prelude.{◌≡◌, ◌<◌, ◌∷◌, ◌++◌, [], true, false, length};
 ghost use Rattle.std.specs.Prelude.{IfNone, IfSome, IsTrue};
@@ -7,9 +6,9 @@ ghost use Rattle.std.specs.Prelude.{◌==◌, ◌≢◌, List, MatchResult, OnEr
 ghost use Rattle.mot_events.specs.Events.{event_of};
 ghost use Rattle.mot_events.specs.declared.event.LookResult.TheVariants.{Skipped};
 ghost use Rattle.mot_events.specs.declared.event.Skip.TheVariants.{NotUtf8};
-ghost use Rattle.mot_events.specs.declared.event.Why.{Why};
 ghost use Rattle.mot_folder.specs.Inner.Listing.{AreGoneOver, AreRead, IsCallRefusal, IsLeftOutFor};
 ghost use Rattle.mot_folder.specs.Inner.Listing.{Lists, ListsNot, Skips, TellsNameless, stage};
+ghost use Rattle.mot_folder.specs.Inner.Listing.{stage_of};
 ghost use Rattle.mot_folder.specs.Inner.Notes.{unknown_objects};
 ghost use Rattle.mot_folder.specs.Inner.Reading.{unread_for};
 ghost use Rattle.mot_folder.specs.Inner.Reasons.{TellsNoMore, why_nameless};
@@ -17,10 +16,10 @@ ghost use Rattle.mot_objects.specs.Name.{is_name};
 ghost use Rattle.mot_objects.specs.declared.name.TheConstants.{MAX_NAME};
 ghost use Rattle.mot_folder.specs.Listed.{and_object, has_type};
 ghost use Rattle.mot_folder.specs.Listed.{names_in};
-ghost use Rattle.mot_folder.specs.Log.{TellsAnswers, TellsOne, unlisted_for};
+ghost use Rattle.mot_folder.specs.Log.{TellsAnswers, TellsOne};
 ghost use Rattle.mot_numbers.specs.declared.refusal.Refusal.TheVariants.{BadName, OutOfMemory};
-ghost use Rattle.mot_shelf.specs.Given.{Given, and_failed, and_kept_names, nothing};
-ghost use Rattle.mot_shelf.specs.Gives.{Asks, Gives, GoesOnSo};
+ghost use Rattle.mot_shelf.specs.Given.{Given, nothing};
+ghost use Rattle.mot_shelf.specs.Gives.{Gives, GoesOnSo};
 ghost use Rattle.mot_shelf.specs.Reader.{reader_path, view};
 ghost use Rattle.mot_suffixes.specs.Types.{is_hidden};
 ghost use Rattle.mot_update.specs.Told.{TellsMore};
@@ -29,7 +28,7 @@ ghost use Rattle.mot_folder.specs.declared.report.TheConstants.{MAX_SKIPPED};
 use crate::names::FileNames;
 use crate::report::Report;
 use memchr::memchr;
-use mot_events::{LookStep, Skip, Why};
+use mot_events::{Skip, Why};
 use mot_files::{Kind, System};
 use mot_numbers::Refusal;
 use mot_objects::{Carousel, Name};
@@ -54,11 +53,11 @@ pub(crate) struct Unlisted {
     error: Option<io::Error>,
 }
 
-impl Unlisted {
-    /// The system refused a call.
-    fn by(error: io::Error) -> Unlisted
-        ensures { IsCallRefusal result.refusal }
-    {
+// The system refused a call.
+impl From<io::Error> for Unlisted {
+    ghost from_gives = { λ error unlisted. IsCallRefusal unlisted.refusal };
+
+    fn from(error: io::Error) -> Unlisted {
         Unlisted {
             refusal: read_refusal(error),
             error: Some(error),
@@ -81,10 +80,7 @@ impl From<AllocError> for Unlisted {
     ghost from_gives = { λ error unlisted. unlisted.refusal ≡ OutOfMemory };
 
     fn from(_error: AllocError) -> Unlisted {
-        Unlisted {
-            refusal: Refusal::OutOfMemory,
-            error: None,
-        }
+        Unlisted::from(Refusal::OutOfMemory)
     }
 }
 
@@ -106,33 +102,20 @@ pub(crate) fn list<S: System + Drop>(
         × Gives (view S.calls shelf.old) nothing (view S.calls shelf.new) given
         × MatchResult result
         (λ names. Lists types.now (stage (reader_path shelf.old) nothing report.old 0 [])
-        (stage (reader_path shelf.new) given report.new names.counted names.names.items)
+        (stage_of (reader_path shelf.new) given report.new names)
         × (unknown_objects names.names.items carousel.now.objects.items ≢ []
         → (before : List (List ℕ)) × (given.kept_names ≡ before ++ reader_path shelf.old ∷ [])))
         (λ unlisted. ListsNot types.now (stage (reader_path shelf.old) nothing report.old 0 [])
         (stage (reader_path shelf.new) given report.new 0 []) unlisted.refusal) }
 {
-    let names = list_names(shelf, alloc, types, report)?;
+    let mut names = FileNames::new(alloc);
+    shelf.open()?;
+    read_names(shelf, alloc, types, &mut names, report)?;
     if count_unknown(&names, carousel) == 0 {
         return Ok(names);
     }
-    keep_names(shelf)?;
+    shelf.keep_names()?;
     Ok(names)
-}
-
-/// Makes the folder's names last.
-fn keep_names<S: System + Drop>(shelf: &mut FolderReader<'_, S>) -> Result<(), Unlisted>
-    ensures same { reader_path shelf.new ≡ reader_path shelf.old }
-    ensures asks { (given : Given) → MatchResult result
-        (λ _. Asks (view S.calls shelf.old) (view S.calls shelf.new) given
-        (and_kept_names given (reader_path shelf.old)))
-        (λ unlisted. Asks (view S.calls shelf.old) (view S.calls shelf.new) given
-        (and_failed given (reader_path shelf.old)) × IsCallRefusal unlisted.refusal) }
-{
-    match shelf.keep_names() {
-        Ok(()) => Ok(()),
-        Err(error) => Err(Unlisted::by(error)),
-    }
 }
 
 /// How many objects of the carousel have none of the names.
@@ -142,29 +125,6 @@ pub(crate) fn count_unknown(names: &FileNames, carousel: &Carousel) -> usize
 {
     let objects = carousel.objects.iter();
     objects.filter(|object| !names.has(&object.name)).count()
-}
-
-/// The names, as the folder gives them.
-fn list_names<S: System + Drop>(
-    shelf: &mut FolderReader<'_, S>,
-    alloc: Global,
-    types: &FileTypes,
-    report: &mut Report,
-) -> Result<FileNames, Unlisted>
-    ensures { (given : Given)
-        × Gives (view S.calls shelf.old) nothing (view S.calls shelf.new) given
-        × MatchResult result
-        (λ names. Lists types.now (stage (reader_path shelf.old) nothing report.old 0 [])
-        (stage (reader_path shelf.new) given report.new names.counted names.names.items))
-        (λ unlisted. ListsNot types.now (stage (reader_path shelf.old) nothing report.old 0 [])
-        (stage (reader_path shelf.new) given report.new 0 []) unlisted.refusal) }
-{
-    let mut names = FileNames::new(alloc);
-    if let Err(error) = shelf.open() {
-        return Err(Unlisted::by(error));
-    }
-    read_names(shelf, alloc, types, &mut names, report)?;
-    Ok(names)
 }
 
 /// Adds those of the names that the open folder gives that are objects.
@@ -177,17 +137,14 @@ fn read_names<S: System + Drop>(
 ) -> Result<(), Unlisted>
     ensures { GoesOnSo (view S.calls shelf.old) (view S.calls shelf.new) (λ given after.
         AreRead types.now
-        (stage (reader_path shelf.old) given report.old names.old.counted
-        names.old.names.items)
-        (stage (reader_path shelf.new) after report.new names.new.counted
-        names.new.names.items) result) }
+        (stage_of (reader_path shelf.old) given report.old names.old)
+        (stage_of (reader_path shelf.new) after report.new names.new) result) }
 {
     let mut room = [0; ROOM];
     for _ in 0..u64::MAX {
-        match shelf.names(&mut room) {
-            Ok(0) => return Ok(()),
-            Ok(count) => add_all(shelf, alloc, types, &room[..count], names, report)?,
-            Err(error) => return Err(Unlisted::by(error)),
+        match shelf.names(&mut room)? {
+            0 => return Ok(()),
+            count => add_all(shelf, alloc, types, &room[..count], names, report)?,
         }
     }
     Err(Unlisted::from(Refusal::ReadFault))
@@ -204,10 +161,8 @@ fn add_all<S: System + Drop>(
 ) -> Result<(), Unlisted>
     ensures { GoesOnSo (view S.calls shelf.old) (view S.calls shelf.new) (λ given after.
         AreGoneOver types.now (names_in bytes.now)
-        (stage (reader_path shelf.old) given report.old names.old.counted
-        names.old.names.items)
-        (stage (reader_path shelf.new) after report.new names.new.counted
-        names.new.names.items) result) }
+        (stage_of (reader_path shelf.old) given report.old names.old)
+        (stage_of (reader_path shelf.new) after report.new names.new) result) }
 {
     let mut rest = bytes;
     while let Some((name, others)) = cut_name(rest) {
@@ -238,21 +193,19 @@ fn add_one<S: System + Drop>(
 ) -> Result<(), Unlisted>
     ensures { GoesOnSo (view S.calls shelf.old) (view S.calls shelf.new) (λ given after.
         AreGoneOver types.now (name.now ∷ [])
-        (stage (reader_path shelf.old) given report.old names.old.counted
-        names.old.names.items)
-        (stage (reader_path shelf.new) after report.new names.new.counted
-        names.new.names.items) result) }
+        (stage_of (reader_path shelf.old) given report.old names.old)
+        (stage_of (reader_path shelf.new) after report.new names.new) result) }
 {
     if !is_object(types, name) {
         tell_skipped(shelf, name, false, report);
         return Ok(());
     }
     names.count()?;
-    match shelf.is_file(name) {
-        Ok(true) => add_file(alloc, name, names, report)?,
-        Ok(false) => tell_skipped(shelf, name, true, report),
-        Err(error) => return Err(Unlisted::by(error)),
+    if !shelf.is_file(name)? {
+        tell_skipped(shelf, name, true, report);
+        return Ok(());
     }
+    add_file(alloc, name, names, report)?;
     Ok(())
 }
 
@@ -358,7 +311,7 @@ fn why_nameless(name: &[u8]) -> Why
 {
     if !is_text(name) {
         Why::NotUtf8
-    } else if has_space(name) {
+    } else if name.contains(&b' ') {
         Why::Space
     } else {
         Why::Control
@@ -369,32 +322,11 @@ fn why_nameless(name: &[u8]) -> Why
 fn is_text(name: &[u8]) -> bool
     ensures { result ≡ is_utf8 name.now }
 {
-    match from_utf8(name) {
-        Ok(_) => true,
-        Err(_) => false,
-    }
-}
-
-/// Whether the name has a space.
-fn has_space(name: &[u8]) -> bool
-    ensures { result ≡ list_any (λ byte. byte == 32) name.now }
-{
-    name.iter().any(|byte| *byte == b' ')
-}
-
-/// Tells that the folder of this path is not listed, and why.
-pub(crate) fn tell_unlisted(report: &mut Report, path: &[u8], unlisted: Unlisted)
-    ensures any { report.new.any_refused ≡ true }
-    ensures memory { unlisted.refusal ≡ OutOfMemory → report.new.any_without_memory ≡ true }
-    ensures told { (why : Why) × TellsOne report.old report.new
-        (unlisted_for path.now unlisted.refusal why) }
-{
-    let why = why_unlisted(report, unlisted);
-    report.refused_for(LookStep::Look, path, unlisted.refusal, why);
+    from_utf8(name).is_ok()
 }
 
 /// Why a folder is not listed, if more is known than the refusal.
-fn why_unlisted(report: &mut Report, unlisted: Unlisted) -> Why
+pub(crate) fn why_unlisted(report: &mut Report, unlisted: Unlisted) -> Why
     ensures told { TellsNoMore report.old report.new }
 {
     match (unlisted.refusal, unlisted.error) {

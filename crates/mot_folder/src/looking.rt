@@ -6,12 +6,10 @@ ghost use Rattle.disk_model.specs.Disk.{KeepsLength};
 ghost use Rattle.mot_update.specs.Between.{IsUpdating, may_look};
 ghost use Rattle.mot_events.specs.Events.{is_listed};
 ghost use Rattle.mot_events.specs.Events.{event_of};
-ghost use Rattle.mot_events.specs.declared.event.LookResult.TheVariants.{Gap, Going, Listed};
-ghost use Rattle.mot_events.specs.declared.event.LookResult.TheVariants.{Waiting};
 ghost use Rattle.mot_events.specs.declared.event.Why.{Why};
-ghost use Rattle.mot_folder.specs.Log.{TellsAnswers, TellsOf, TellsOne, unlisted_for};
+ghost use Rattle.mot_folder.specs.Log.{TellsOf, TellsOne, is_note, unlisted_for};
 ghost use Rattle.mot_folder.specs.Inner.Notes.{unknown_objects};
-ghost use Rattle.mot_folder.specs.Inner.Listing.{IsListed, TellsNameless, stage};
+ghost use Rattle.mot_folder.specs.Inner.Listing.{IsListed, TellsNameless, stage_of};
 ghost use Rattle.mot_folder.specs.Guard.{is_kept, kept_so};
 ghost use Rattle.mot_folder.specs.Looked.{HasLookedAtFolder, TellsWatch, is_look_due};
 ghost use Rattle.mot_folder.specs.Looked.{packets_left, packets_left_behind, so_far, watch};
@@ -23,23 +21,21 @@ ghost use Rattle.mot_shelf.specs.Gives.{GaveSo, Gives};
 ghost use Rattle.mot_shelf.specs.Reader.{reader_path, view};
 ghost use Rattle.mot_shelf.specs.View.{FolderView};
 ghost use Rattle.mot_suffixes.specs.Types.{SuffixType};
-ghost use Rattle.mot_update.specs.Told.{Answer, TellsMore};
+ghost use Rattle.mot_update.specs.Told.{Answer};
 ghost use Rattle.mot_update.specs.declared.wanted.Wanted.{Wanted};
 ghost use Rattle.mot_numbers.specs.declared.refusal.Refusal.TheVariants.{OutOfMemory};
 ghost use Rattle.mot_playout.specs.Attempts.{fault_of};
 
 use crate::folder::Folder;
-use crate::guard::{is_kept, tell_kept};
-use crate::listing::{Unlisted, count_unknown, list, tell_unlisted};
-use crate::names::FileNames;
-use crate::report::{Report, Sizes};
+use crate::guard::{is_kept, kept_so};
+use crate::listing::{Unlisted, count_unknown, list, why_unlisted};
+use crate::report::Report;
 use disk_model::Disk;
-use mot_events::{LookEvent, is_listed};
+use mot_events::{LookEvent, LookResult, LookStep, is_listed};
 use mot_files::System;
 use mot_numbers::Refusal;
 use mot_objects::Carousel;
 use mot_playout::Server;
-use mot_shelf::FolderReader;
 use mot_suffixes::FileTypes;
 use mot_update::{LookHistory, Update, UpdatePoint, look};
 use std::alloc::Global;
@@ -85,53 +81,50 @@ pub fn look_at_folder<S: System + Drop, D: Disk>(
         server.carousel(),
     ) {
         Ok(names) => folder.names = names,
-        Err(unlisted) => return end_unlisted(&folder.shelf, &mut folder.report, unlisted),
+        Err(why) => return end_unlisted(folder, why),
     }
     if is_kept(folder.guard, &folder.names, server.carousel()) {
-        return end_kept(
-            &folder.shelf,
-            &mut folder.report,
-            &folder.names,
-            server.carousel(),
-        );
+        return end_kept(folder, server.carousel());
     }
     look_at_names(alloc, server, folder)
 }
 
 /// Ends a look at a folder that is not listed.
-fn end_unlisted<S: System + Drop>(
-    shelf: &FolderReader<'_, S>,
-    report: &mut Report,
-    unlisted: Unlisted,
-) -> Result<(), Refusal>
-    ensures any { report.new.any_refused ≡ true }
-    ensures told { (why : Why) × TellsOne report.old report.new
-        (unlisted_for (reader_path shelf.now) unlisted.refusal why) }
-    ensures fault { ((fault_of result ≡ None) × (unlisted.refusal ≢ OutOfMemory))
+fn end_unlisted<S: System + Drop>(folder: &mut Folder<'_, S>, why: Unlisted) -> Result<(), Refusal>
+    ensures same { folder.new ≡ record folder.old { report = folder.new.report } }
+    ensures any { folder.new.report.any_refused ≡ true }
+    ensures told { (reason : Why) × TellsOne folder.old.report folder.new.report
+        (unlisted_for (reader_path folder.old.shelf) why.refusal reason) }
+    ensures fault { ((fault_of result ≡ None) × (why.refusal ≢ OutOfMemory))
         ⊎ (fault_of result ≡ Some OutOfMemory) }
-    ensures whole { OnOk result (report.new.any_left_out ≡ false) }
+    ensures whole { OnOk result (folder.new.report.any_left_out ≡ false) }
 {
-    tell_unlisted(report, shelf.shown().as_bytes(), unlisted);
-    report.end()
+    let reason = why_unlisted(&mut folder.report, why);
+    let path = folder.shelf.shown().as_bytes();
+    folder
+        .report
+        .refused(LookStep::Look, path, why.refusal, reason);
+    folder.report.end()
 }
 
 /// Ends a look that takes no object off the air, since too many would go.
 fn end_kept<S: System + Drop>(
-    shelf: &FolderReader<'_, S>,
-    report: &mut Report,
-    names: &FileNames,
+    folder: &mut Folder<'_, S>,
     carousel: &Carousel,
 ) -> Result<(), Refusal>
-    ensures any { report.new.any_refused ≡ true }
-    ensures told { TellsOne report.old report.new (event_of (reader_path shelf.now)
-        (kept_so names.now.names.items
-        (length (unknown_objects names.now.names.items carousel.now.objects.items))
+    ensures same { folder.new ≡ record folder.old { report = folder.new.report } }
+    ensures any { folder.new.report.any_refused ≡ true }
+    ensures told { TellsOne folder.old.report folder.new.report
+        (event_of (reader_path folder.old.shelf) (kept_so folder.old.names.names.items
+        (length (unknown_objects folder.old.names.names.items carousel.now.objects.items))
         (length carousel.now.objects.items))) }
     ensures fault { (fault_of result ≡ None) ⊎ (fault_of result ≡ Some OutOfMemory) }
-    ensures whole { OnOk result (report.new.any_left_out ≡ false) }
+    ensures whole { OnOk result (folder.new.report.any_left_out ≡ false) }
 {
-    tell_kept(report, shelf.shown(), names, carousel);
-    report.end()
+    let kept = kept_so(&folder.names, carousel);
+    let path = folder.shelf.shown().as_bytes();
+    folder.report.tell_refusal(path, kept);
+    folder.report.end()
 }
 
 /// Makes the carousel equal to the files of these names, of a folder that was listed.
@@ -149,8 +142,8 @@ fn look_at_names<S: System + Drop, D: Disk>(
         (D.state server.old.disk) (D.state server.new.disk) result }
     ensures looked { (since : FolderView) (first : Given)
         → Gives since nothing (view S.calls folder.old.shelf) first
-        → IsListed folder.old.types.now (stage (reader_path folder.old.shelf) first
-        folder.old.report folder.old.names.counted folder.old.names.names.items)
+        → IsListed folder.old.types.now (stage_of (reader_path folder.old.shelf) first
+        folder.old.report folder.old.names)
         → (s : Standing) → Holds server.old.view s (D.state server.old.disk)
         → (D.state server.new.disk).IsHonest
         → GaveSo since (view S.calls folder.new.shelf) (λ given.
@@ -160,130 +153,58 @@ fn look_at_names<S: System + Drop, D: Disk>(
         folder.old.files.known.items folder.new.files.known.items) }
     ensures whole { OnOk result (folder.new.report.any_left_out ≡ false) }
 {
-    note_listed(&mut folder.report, folder.shelf.shown(), folder.was_listed);
-    note_most(
-        &mut folder.report,
-        folder.shelf.shown(),
-        &folder.names,
-        server.carousel(),
-    );
+    let path = folder.shelf.shown();
+    let is_new = !folder.was_listed;
+    note_if(&mut folder.report, path, is_new, LookResult::Listed);
+    let going = count_unknown(&folder.names, server.carousel());
+    let all = server.carousel().objects.len();
+    let note = LookResult::Going(going as u64, all as u64);
+    note_if(&mut folder.report, path, going > all / 2, note);
     folder.place = 0;
     folder.any_passed = false;
     folder.is_kept = false;
-    folder.sizes = Sizes {
-        length: 0,
-        most: server.geometry().objects,
-        waiting: 0,
-    };
+    folder.sizes.most = server.geometry().objects;
+    folder.sizes.waiting = 0;
     folder.files.start(alloc, server.carousel());
     look(server, alloc, folder)?;
     folder.files.finish(alloc, server.carousel());
-    end_listed(
-        &folder.shelf,
-        &mut folder.report,
-        folder.sizes,
-        server.longest_gap(),
-    )
+    end_listed(folder, server.longest_gap())
 }
 
 /// Ends a look that went over all names.
-fn end_listed<S: System + Drop>(
-    shelf: &FolderReader<'_, S>,
-    report: &mut Report,
-    sizes: Sizes,
-    gap: u32,
-) -> Result<(), Refusal>
+fn end_listed<S: System + Drop>(folder: &mut Folder<'_, S>, gap: u32) -> Result<(), Refusal>
+    ensures same { folder.new ≡ record folder.old { report = folder.new.report } }
     ensures told { (types : List SuffixType) (given : Given) (waiting : ℕ) (names : List (List ℕ))
         (answers : List Answer) (wanted : List Wanted)
-        → TellsOf types given report.old waiting names answers wanted
-        → TellsOf types given report.new waiting names answers wanted }
-    ensures whole { OnOk result ((report.new.any_left_out ≡ false)
-        × (report.new.any_without_memory ≡ false)) }
+        → TellsOf types given folder.old.report waiting names answers wanted
+        → TellsOf types given folder.new.report waiting names answers wanted }
+    ensures whole { OnOk result ((folder.new.report.any_left_out ≡ false)
+        × (folder.new.report.any_without_memory ≡ false)) }
     ensures fault { IfErr result (λ refusal. refusal ≡ OutOfMemory) }
 {
-    note_waiting(report, shelf.shown(), sizes);
-    note_gap(report, shelf.shown(), gap);
-    report.end()
+    let path = folder.shelf.shown();
+    let files = u64::from(folder.sizes.waiting);
+    let note = LookResult::Waiting(u64::from(folder.sizes.most), files);
+    note_if(&mut folder.report, path, files > 1, note);
+    let had_no_room = folder.report.any_without_room;
+    note_if(&mut folder.report, path, had_no_room, LookResult::Gap(gap));
+    folder.report.end()
 }
 
-/// Tells that the folder is listed, if the look before did not go by its list.
-fn note_listed(report: &mut Report, path: &str, was_listed: bool)
-    ensures told { TellsMore (TellsAnswers report.old) (TellsAnswers report.new) [] }
-    ensures further { (files : List (List ℕ)) → TellsNameless files report.old
-        → TellsNameless files report.new }
-    ensures none { was_listed ≡ true → report.new ≡ report.old }
-    ensures notes { was_listed ≡ false
-        → TellsOne report.old report.new (event_of path.now Listed) }
-{
-    if !was_listed {
-        report.listed(path.as_bytes());
-    }
-}
-
-/// Notes how many objects are not known, if they are more than half of them.
-fn note_most(report: &mut Report, path: &str, names: &FileNames, carousel: &Carousel)
-    ensures told { TellsMore (TellsAnswers report.old) (TellsAnswers report.new) [] }
-    ensures further { (files : List (List ℕ)) → TellsNameless files report.old
-        → TellsNameless files report.new }
-    ensures none { length (unknown_objects names.now.names.items carousel.now.objects.items)
-        ≤ length carousel.now.objects.items / 2 → report.new ≡ report.old }
-    ensures notes { length carousel.now.objects.items / 2
-        < length (unknown_objects names.now.names.items carousel.now.objects.items)
-        → TellsOne report.old report.new (event_of path.now (Going
-        (length (unknown_objects names.now.names.items carousel.now.objects.items))
-        (length carousel.now.objects.items))) }
-{
-    let all = carousel.objects.len();
-    let unknown = count_unknown(names, carousel);
-    if unknown > all / 2 {
-        tell_most(report, path, unknown, all);
-    }
-}
-
-/// Notes that so many of so many objects go.
-fn tell_most(report: &mut Report, path: &str, unknown: usize, all: usize)
-    ensures told { TellsMore (TellsAnswers report.old) (TellsAnswers report.new) [] }
-    ensures further { (files : List (List ℕ)) → TellsNameless files report.old
-        → TellsNameless files report.new }
-    ensures notes { TellsOne report.old report.new (event_of path.now (Going unknown all)) }
-{
-    report.going(path.as_bytes(), unknown as u64, all as u64);
-}
-
-/// Notes how many files wait, and how many objects there may be, if more than one waits.
-fn note_waiting(report: &mut Report, path: &str, sizes: Sizes)
-    ensures told { (types : List SuffixType) (given : Given) (waiting : ℕ) (names : List (List ℕ))
+/// Notes this of the folder of this path, if it is so.
+fn note_if(report: &mut Report, path: &str, is_so: bool, note: LookResult)
+    ensures further { is_note note ≡ true → (files : List (List ℕ))
+        → TellsNameless files report.old → TellsNameless files report.new }
+    ensures told { is_note note ≡ true
+        → (types : List SuffixType) (given : Given) (waiting : ℕ) (names : List (List ℕ))
         (answers : List Answer) (wanted : List Wanted)
         → TellsOf types given report.old waiting names answers wanted
         → TellsOf types given report.new waiting names answers wanted }
-    ensures same { report.new.any_refused ≡ report.old.any_refused }
-    ensures room { report.new.any_without_room ≡ report.old.any_without_room }
-    ensures none { sizes.waiting ≤ 1 → report.new ≡ report.old }
-    ensures notes { 1 < sizes.waiting → TellsOne report.old report.new
-        (event_of path.now (Waiting sizes.most sizes.waiting)) }
+    ensures none { is_so ≡ false → report.new ≡ report.old }
+    ensures notes { is_so ≡ true → TellsOne report.old report.new (event_of path.now note) }
 {
-    if sizes.waiting > 1 {
-        report.waiting(
-            path.as_bytes(),
-            u64::from(sizes.most),
-            u64::from(sizes.waiting),
-        );
-    }
-}
-
-/// Notes how many bytes an object may have now, if there was no room for one.
-fn note_gap(report: &mut Report, path: &str, gap: u32)
-    ensures told { (types : List SuffixType) (given : Given) (waiting : ℕ) (names : List (List ℕ))
-        (answers : List Answer) (wanted : List Wanted)
-        → TellsOf types given report.old waiting names answers wanted
-        → TellsOf types given report.new waiting names answers wanted }
-    ensures same { report.new.any_refused ≡ report.old.any_refused }
-    ensures none { report.old.any_without_room ≡ false → report.new ≡ report.old }
-    ensures notes { report.old.any_without_room ≡ true
-        → TellsOne report.old report.new (event_of path.now (Gap gap)) }
-{
-    if report.any_without_room {
-        report.gap(path.as_bytes(), gap);
+    if is_so {
+        report.note(path.as_bytes(), note);
     }
 }
 
@@ -398,7 +319,8 @@ impl<'a, S: System + Drop> Update for Looks<'a, S> {
         if !look_is_due(&mut self.left, self.within, moment.may_look()) {
             return Ok(());
         }
-        let was_listed = turn_over(&mut self.folder.report, &mut self.before);
+        swap(&mut self.before, &mut self.folder.report.events);
+        let was_listed = is_listed(self.before.as_slice());
         self.folder.was_listed = was_listed;
         let (types, guard) = (self.folder.types, self.folder.guard);
         let result = look_at_folder(alloc, server, &mut self.folder);
@@ -433,16 +355,6 @@ fn look_is_due(left: &mut u64, within: bool, may_look: bool) -> bool
         *left = left.saturating_sub(1);
     }
     may_look && *left == 0
-}
-
-/// A further look begins: what the last one told is what the one before told. Whether that went by
-/// the folder's list.
-fn turn_over(report: &mut Report, before: &mut Vec<LookEvent>) -> bool
-    ensures before { before.new.items ≡ report.old.events.items }
-    ensures listed { result ≡ is_listed report.old.events.items }
-{
-    swap(before, &mut report.events);
-    is_listed(before.as_slice())
 }
 
 impl<'a, S: System + Drop> LookHistory for Looks<'a, S> {

@@ -2,21 +2,18 @@
 ghost use Rattle.std.specs.Prelude.{◌≡◌, ◌≢◌, ◌↔◌, ◌||◌, ◌++◌, ◌∷◌, [], true, false, not};
 ghost use Rattle.std.specs.Prelude.{IfErr, IsOk, OnOk, nat_le};
 ghost use Rattle.mot_events.specs.Events.{event_of};
-ghost use Rattle.mot_events.specs.declared.event.LookResult.TheVariants as met;
+ghost use Rattle.mot_events.specs.declared.event.LookResult.TheVariants as outcome;
 ghost use Rattle.mot_folder.specs.Inner.Reading.{unread_for};
-ghost use Rattle.mot_folder.specs.Inner.Reasons.{TellsNoMore, TellsUnless, is_counted};
-ghost use Rattle.mot_folder.specs.Inner.Reasons.{why_not_stored, why_refused};
-ghost use Rattle.mot_folder.specs.Log.{BeginsAnew, ReportTells, TellsOne, answered, result_for};
+ghost use Rattle.mot_folder.specs.Inner.Reasons.{BeginsAnew, StaysShort, TellsNoMore};
+ghost use Rattle.mot_folder.specs.Inner.Reasons.{TellsUnless, is_counted, why_not_stored};
+ghost use Rattle.mot_folder.specs.Log.{TellsOne, has_to_wait, result_for};
 ghost use Rattle.mot_numbers.specs.declared.refusal.Refusal.TheVariants.{NoRoom, OutOfMemory};
-ghost use Rattle.mot_playout.specs.declared.running.Attempt.TheVariants.{Accepted, Refused};
 ghost use Rattle.mot_update.specs.Told.{was_accepted};
 
 use disk_store::OpenFault;
 use mot_events::{LookEvent, LookResult, LookStep, Skip, Why, Words};
 use mot_numbers::Refusal;
-use mot_objects::Done;
 use mot_playout::Attempt;
-use mot_suffixes::OtherImage;
 use std::alloc::{AllocError, Global};
 use std::io;
 
@@ -24,7 +21,7 @@ use std::io;
 const MAX_SKIPPED: u32 = 100;
 
 /// What tells why an object was not stored.
-#[derive(Clone, Copy)]
+#[derive(Clone, Copy, Default)]
 pub struct Sizes {
     /// How many bytes it has.
     pub length: u32,
@@ -56,12 +53,8 @@ pub struct Report {
 
 impl Report {
     /// Nothing happened.
-    pub fn new(alloc: Global) -> Report
-        ensures fine { result.any_refused ≡ false }
-        ensures whole { result.any_left_out ≡ false }
-        ensures anew { BeginsAnew result }
-        ensures told { ReportTells result [] }
-        ensures none { result.events.items ≡ [] }
+    pub(crate) fn new(alloc: Global) -> Report
+        ensures { BeginsAnew result }
     {
         Report {
             alloc,
@@ -76,11 +69,8 @@ impl Report {
     }
 
     /// A further look begins.
-    pub fn begin(&mut self)
-        ensures fine { self.new.any_refused ≡ false }
-        ensures whole { self.new.any_left_out ≡ false }
-        ensures anew { BeginsAnew self.new }
-        ensures told { ReportTells self.new [] }
+    pub(crate) fn begin(&mut self)
+        ensures { BeginsAnew self.new }
     {
         self.events.clear();
         self.any_refused = false;
@@ -104,224 +94,90 @@ impl Report {
         Ok(())
     }
 
-    /// What became of a command on the object of this name.
-    pub fn answered(&mut self, deed: LookStep, name: &[u8], attempt: Attempt)
-        ensures fine { self.new.any_refused ≡ false
-            → (self.old.any_refused ≡ false) × (was_accepted attempt ≡ true) }
+    /// What became of a command on the object of this name, and why it was refused, if it was.
+    pub(crate) fn answered(&mut self, step: LookStep, name: &[u8], attempt: Attempt, why: Why)
         ensures any { self.new.any_refused
             ≡ (self.old.any_refused || not (was_accepted attempt)) }
-        ensures stays { self.old.any_without_memory ≡ true
-            → self.new.any_without_memory ≡ true }
-        ensures told { TellsOne self.old self.new (answered deed name.now attempt) }
+        ensures stays { StaysShort self.old self.new }
+        ensures told { TellsOne self.old self.new (event_of name.now (result_for step attempt why)) }
     {
         match attempt {
-            Attempt::Accepted(done) => self.done(deed, name, done),
-            Attempt::Refused(refusal) => self.refused(deed, name, refusal),
+            Attempt::Accepted(done) => self.note(name, LookResult::Done(step, done)),
+            Attempt::Refused(refusal) => self.refused(step, name, refusal, why),
         }
     }
 
-    /// What became of a command that was to store an object of these sizes.
-    pub(crate) fn stored(&mut self, deed: LookStep, name: &[u8], attempt: Attempt, sizes: Sizes)
-        ensures fine { self.new.any_refused ≡ false
-            → (self.old.any_refused ≡ false) × (was_accepted attempt ≡ true) }
+    /// What became of a command that was to store an object of these sizes. Of the objects that have
+    /// to wait for others to go only the first is told.
+    pub(crate) fn stored(&mut self, step: LookStep, name: &[u8], attempt: Attempt, sizes: Sizes)
         ensures any { self.new.any_refused
             ≡ (self.old.any_refused || not (was_accepted attempt)) }
-        ensures stays { self.old.any_without_memory ≡ true
-            → self.new.any_without_memory ≡ true }
+        ensures stays { StaysShort self.old self.new }
         ensures told { TellsUnless (is_counted sizes.waiting attempt) self.old self.new
-            (event_of name.now (result_for deed attempt (why_not_stored sizes attempt))) }
+            (event_of name.now (result_for step attempt (why_not_stored sizes attempt))) }
     {
-        match attempt {
-            Attempt::Accepted(done) => self.done(deed, name, done),
-            Attempt::Refused(refusal) => self.not_stored(deed, name, refusal, sizes),
-        }
-    }
-
-    /// An object of these sizes was not stored. For want of room, the reason is how many bytes it
-    /// has; and where there are as many objects as there may be, how many those are. Of those that
-    /// have to wait for others to go only the first is told.
-    fn not_stored(&mut self, deed: LookStep, name: &[u8], refusal: Refusal, sizes: Sizes)
-        ensures any { self.new.any_refused ≡ true }
-        ensures stays { self.old.any_without_memory ≡ true
-            → self.new.any_without_memory ≡ true }
-        ensures told { TellsUnless (is_counted sizes.waiting (Refused refusal)) self.old self.new
-            (event_of name.now (met.Refused deed refusal (why_refused sizes refusal))) }
-    {
-        if refusal == Refusal::TooManyObjects && sizes.waiting > 0 {
-            self.note_refusal(refusal);
+        if has_to_wait(&attempt) && sizes.waiting > 0 {
+            self.any_refused = true;
             return;
         }
-        let why = match refusal {
-            Refusal::NoRoom => Why::Bytes(u64::from(sizes.length)),
-            Refusal::TooManyObjects => Why::Objects(u64::from(sizes.most)),
-            _ => Why::Unsaid,
-        };
-        self.refused_for(deed, name, refusal, why);
-    }
-
-    /// It was done, with these ids.
-    fn done(&mut self, deed: LookStep, name: &[u8], done: Done)
-        ensures same { self.new.any_refused ≡ self.old.any_refused }
-        ensures stays { self.old.any_without_memory ≡ true
-            → self.new.any_without_memory ≡ true }
-        ensures told { TellsOne self.old self.new (answered deed name.now (Accepted done)) }
-    {
-        self.add(name, LookResult::Done(deed, done));
-    }
-
-    /// It was refused.
-    pub fn refused(&mut self, deed: LookStep, name: &[u8], refusal: Refusal)
-        ensures any { self.new.any_refused ≡ true }
-        ensures memory { refusal ≡ OutOfMemory → self.new.any_without_memory ≡ true }
-        ensures stays { self.old.any_without_memory ≡ true
-            → self.new.any_without_memory ≡ true }
-        ensures left { self.new.any_left ≡ self.old.any_left }
-        ensures told { TellsOne self.old self.new (answered deed name.now (Refused refusal)) }
-    {
-        self.refused_for(deed, name, refusal, Why::Unsaid);
+        let why = why_not_stored(sizes, &attempt);
+        self.answered(step, name, attempt, why);
     }
 
     /// It was refused, for this reason.
-    pub(crate) fn refused_for(&mut self, deed: LookStep, name: &[u8], refusal: Refusal, why: Why)
+    pub(crate) fn refused(&mut self, step: LookStep, name: &[u8], refusal: Refusal, why: Why)
         ensures any { self.new.any_refused ≡ true }
         ensures memory { refusal ≡ OutOfMemory → self.new.any_without_memory ≡ true }
-        ensures stays { self.old.any_without_memory ≡ true
-            → self.new.any_without_memory ≡ true }
+        ensures stays { StaysShort self.old self.new }
         ensures left { self.new.any_left ≡ self.old.any_left }
-        ensures told { TellsOne self.old self.new (event_of name.now (met.Refused deed refusal why)) }
-    {
-        self.note_refusal(refusal);
-        self.add(name, LookResult::Refused(deed, refusal, why));
-    }
-
-    /// Notes that something was refused so.
-    fn note_refusal(&mut self, refusal: Refusal)
-        ensures any { self.new.any_refused ≡ true }
-        ensures memory { refusal ≡ OutOfMemory → self.new.any_without_memory ≡ true }
-        ensures stays { self.old.any_without_memory ≡ true
-            → self.new.any_without_memory ≡ true }
 
         // That there was no room is noted of this refusal alone.
         ensures room { (refusal ≡ NoRoom → self.new.any_without_room ≡ true)
             × (refusal ≢ NoRoom → self.new.any_without_room ≡ self.old.any_without_room) }
-        ensures events { self.new.events ≡ self.old.events }
-        ensures same { (self.new.any_left_out ≡ self.old.any_left_out)
-            × (self.new.any_left ≡ self.old.any_left) }
+        ensures told { TellsOne self.old self.new (event_of name.now (outcome.Refused step refusal why)) }
     {
-        self.any_refused = true;
         if refusal == Refusal::OutOfMemory {
             self.any_without_memory = true;
         }
         if refusal == Refusal::NoRoom {
             self.any_without_room = true;
         }
+        self.tell_refusal(name, LookResult::Refused(step, refusal, why));
     }
 
     /// The file of this name was not taken, for this reason.
     pub fn missed(&mut self, name: &[u8], refusal: Refusal, why: Why)
         ensures any { self.new.any_refused ≡ true }
-        ensures left { self.new.any_left ≡ self.old.any_left }
+        ensures memory { refusal ≡ OutOfMemory → self.new.any_without_memory ≡ true }
         ensures stays { self.old.any_without_memory ≡ true
             → self.new.any_without_memory ≡ true }
+        ensures left { self.new.any_left ≡ self.old.any_left }
         ensures told { TellsOne self.old self.new (unread_for name.now refusal why) }
     {
-        self.any_refused = true;
-        self.add(name, LookResult::Refused(LookStep::Read, refusal, why));
+        self.refused(LookStep::Read, name, refusal, why);
     }
 
-    /// The file of this name was changed a moment ago. The next look may take it.
-    pub fn young(&mut self, name: &[u8])
+    /// The file of this name was not taken, for this reason. The next look may take it.
+    pub(crate) fn left(&mut self, name: &[u8], outcome: LookResult)
         ensures any { self.new.any_refused ≡ true }
         ensures left { self.new.any_left ≡ true }
-        ensures stays { self.old.any_without_memory ≡ true
-            → self.new.any_without_memory ≡ true }
-        ensures told { TellsOne self.old self.new (event_of name.now met.Young) }
+        ensures stays { StaysShort self.old self.new }
+        ensures told { TellsOne self.old self.new (event_of name.now outcome) }
     {
         self.any_left = true;
-        self.any_refused = true;
-        self.add(name, LookResult::Young);
+        self.tell_refusal(name, outcome);
     }
 
-    /// The file of this name was changed while it was read. The next look may take it.
-    pub fn changed(&mut self, name: &[u8])
+    /// A further event, of this name, which counts as a refusal.
+    pub(crate) fn tell_refusal(&mut self, name: &[u8], outcome: LookResult)
         ensures any { self.new.any_refused ≡ true }
-        ensures left { self.new.any_left ≡ true }
-        ensures stays { self.old.any_without_memory ≡ true
-            → self.new.any_without_memory ≡ true }
-        ensures told { TellsOne self.old self.new (event_of name.now met.Changed) }
-    {
-        self.any_left = true;
-        self.any_refused = true;
-        self.add(name, LookResult::Changed);
-    }
-
-    /// A look at the folder of this path took no object off the air, since it has none. That counts
-    /// as a refusal.
-    pub fn kept(&mut self, path: &[u8])
-        ensures any { self.new.any_refused ≡ true }
-        ensures told { TellsOne self.old self.new (event_of path.now met.Kept) }
+        ensures memory { self.new.any_without_memory ≡ self.old.any_without_memory }
+        ensures left { (self.new.any_left ≡ self.old.any_left)
+            × (self.new.any_without_room ≡ self.old.any_without_room) }
+        ensures told { TellsOne self.old self.new (event_of name.now outcome) }
     {
         self.any_refused = true;
-        self.add(path, LookResult::Kept);
-    }
-
-    /// A look at the folder of this path took no object off the air, since so many of so many would
-    /// go. That counts as a refusal.
-    pub fn kept_most(&mut self, path: &[u8], going: u64, all: u64)
-        ensures any { self.new.any_refused ≡ true }
-        ensures told { TellsOne self.old self.new (event_of path.now (met.KeptMost going all)) }
-    {
-        self.any_refused = true;
-        self.add(path, LookResult::KeptMost(going, all));
-    }
-
-    /// The folder of this path is listed again.
-    pub fn listed(&mut self, path: &[u8])
-        ensures same { self.new.any_refused ≡ self.old.any_refused }
-        ensures told { TellsOne self.old self.new (event_of path.now met.Listed) }
-    {
-        self.add(path, LookResult::Listed);
-    }
-
-    /// So many of so many objects go.
-    pub fn going(&mut self, path: &[u8], unknown: u64, all: u64)
-        ensures same { self.new.any_refused ≡ self.old.any_refused }
-        ensures stays { self.old.any_without_memory ≡ true
-            → self.new.any_without_memory ≡ true }
-        ensures told { TellsOne self.old self.new (event_of path.now (met.Going unknown all)) }
-    {
-        self.add(path, LookResult::Going(unknown, all));
-    }
-
-    /// So many bytes are in the longest gap.
-    pub fn gap(&mut self, path: &[u8], gap: u32)
-        ensures same { self.new.any_refused ≡ self.old.any_refused }
-        ensures stays { self.old.any_without_memory ≡ true
-            → self.new.any_without_memory ≡ true }
-        ensures told { TellsOne self.old self.new (event_of path.now (met.Gap gap)) }
-    {
-        self.add(path, LookResult::Gap(gap));
-    }
-
-    /// So many objects may be there, and so many files wait.
-    pub fn waiting(&mut self, path: &[u8], most: u64, files: u64)
-        ensures same { self.new.any_refused ≡ self.old.any_refused }
-        ensures room { self.new.any_without_room ≡ self.old.any_without_room }
-        ensures stays { self.old.any_without_memory ≡ true
-            → self.new.any_without_memory ≡ true }
-        ensures told { TellsOne self.old self.new (event_of path.now (met.Waiting most files)) }
-    {
-        self.add(path, LookResult::Waiting(most, files));
-    }
-
-    /// The bytes of the object of this name are of another image type than its suffix says.
-    pub fn other_image(&mut self, name: &[u8], other: OtherImage)
-        ensures same { self.new.any_refused ≡ self.old.any_refused }
-        ensures stays { self.old.any_without_memory ≡ true
-            → self.new.any_without_memory ≡ true }
-        ensures told { TellsOne self.old self.new (event_of name.now (met.OtherImage other)) }
-    {
-        self.add(name, LookResult::OtherImage(other));
+        self.note(name, outcome);
     }
 
     /// Whether as many names were skipped as are told.
@@ -334,10 +190,10 @@ impl Report {
     /// This name is left out, for this reason.
     pub fn skipped(&mut self, name: &[u8], skip: Skip)
         ensures same { self.new.any_refused ≡ self.old.any_refused }
-        ensures told { TellsOne self.old self.new (event_of name.now (met.Skipped skip)) }
+        ensures told { TellsOne self.old self.new (event_of name.now (outcome.Skipped skip)) }
     {
         self.skipped = self.skipped.saturating_add(1);
-        self.add(name, LookResult::Skipped(skip));
+        self.note(name, LookResult::Skipped(skip));
     }
 
     /// Why the system refused a call, in its words. If there is no memory for them, something is
@@ -357,17 +213,36 @@ impl Report {
     }
 
     /// A further event, of this name.
-    fn add(&mut self, name: &[u8], met: LookResult)
+    pub(crate) fn note(&mut self, name: &[u8], outcome: LookResult)
         ensures same { self.new.any_refused ≡ self.old.any_refused }
         ensures memory { self.new.any_without_memory ≡ self.old.any_without_memory }
         ensures left { (self.new.any_left ≡ self.old.any_left)
             × (self.new.any_without_room ≡ self.old.any_without_room) }
-        ensures told { TellsOne self.old self.new (event_of name.now met) }
+        ensures told { TellsOne self.old self.new (event_of name.now outcome) }
     {
-        let Ok(()) = add_event(&mut self.events, self.alloc, name, met) else {
+        let Ok(()) = add_event(&mut self.events, self.alloc, name, outcome) else {
             self.any_left_out = true;
             return;
         };
+    }
+}
+
+/// Whether an object has to wait, since there are as many as there may be.
+pub(crate) fn has_to_wait(attempt: &Attempt) -> bool
+    ensures { result ≡ has_to_wait attempt.now }
+{
+    matches!(attempt, Attempt::Refused(Refusal::TooManyObjects))
+}
+
+/// Why an object of these sizes was not stored. For want of room, the reason is how many bytes it
+/// has; and where there are as many objects as there may be, how many those are.
+fn why_not_stored(sizes: Sizes, attempt: &Attempt) -> Why
+    ensures { result ≡ why_not_stored sizes attempt.now }
+{
+    match attempt {
+        Attempt::Refused(Refusal::NoRoom) => Why::Bytes(u64::from(sizes.length)),
+        Attempt::Refused(Refusal::TooManyObjects) => Why::Objects(u64::from(sizes.most)),
+        _ => Why::Unsaid,
     }
 }
 
@@ -376,11 +251,11 @@ fn add_event(
     events: &mut Vec<LookEvent>,
     alloc: Global,
     name: &[u8],
-    met: LookResult,
+    outcome: LookResult,
 ) -> Result<(), AllocError>
-    ensures { OnOk result (events.new.items ≡ events.old.items ++ event_of name.now met ∷ []) }
+    ensures { OnOk result (events.new.items ≡ events.old.items ++ event_of name.now outcome ∷ []) }
 {
     let name = Words::new(Vec::from_slice(alloc, name)?);
-    events.push(LookEvent { name, met })?;
+    events.push(LookEvent { name, outcome })?;
     Ok(())
 }

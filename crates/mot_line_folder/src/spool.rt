@@ -1,9 +1,7 @@
 //! Files of lines in a folder, read one after the other.
-ghost use Rattle.std.specs.Prelude.{◌≡◌, ◌≤◌, ◌⊎◌, ◌∷◌, [], IfOk, IfSome, IsErr, None, Option};
-ghost use Rattle.std.specs.Prelude.{Result, false, length, string_bytes, take, true, vec_capacity};
-ghost use Rattle.mot_line_folder.specs.LineFiles.{Leaves, TakesAway};
-ghost use Rattle.mot_line_folder.specs.Inner.Said.{Remembers};
-ghost use Rattle.mot_line_folder.specs.declared.said.Stamp.{Stamp};
+ghost use Rattle.std.specs.Prelude.{◌≡◌, ◌≤◌, ◌⊎◌, ◌∷◌, [], IfOk, IsErr, None, Result, false, length};
+ghost use Rattle.std.specs.Prelude.{string_bytes, take, true};
+ghost use Rattle.mot_line_folder.specs.LineFiles.{TakesAway};
 ghost use Rattle.mot_line_folder.specs.Spool.{SpoolView, open_file, spool_system, spool_view};
 ghost use Rattle.mot_line_folder.specs.Spooling.{Finishes, FinishesFile, GaveLines, Serves};
 ghost use Rattle.mot_line_folder.specs.Spooling.{ServesCount, ServesFile};
@@ -12,7 +10,7 @@ ghost use Rattle.mot_files.specs.declared.system.Fault.{Fault};
 use crate::finder::Finder;
 use crate::line_file::LineFile;
 use mot_events::{Inlet, LineCount, Tells};
-use mot_files::{Fault, System};
+use mot_files::System;
 use std::alloc::Global;
 use std::io;
 
@@ -33,8 +31,6 @@ pub struct Spool<'a, S: System + Drop> {
     open: Option<LineFile>,
     /// Whether the reading of a file failed within a line.
     is_torn: bool,
-    /// Whether that is a file of which nothing was given.
-    is_next: bool,
     /// Whether no more is read.
     pub is_stopped: bool,
 }
@@ -54,7 +50,6 @@ impl<'a, S: System + Drop> Spool<'a, S> {
             finder: Finder::new(system, alloc, folder),
             open: None,
             is_torn: false,
-            is_next: false,
             is_stopped: false,
         }
     }
@@ -77,21 +72,17 @@ impl<'a, S: System + Drop> Spool<'a, S> {
             return self.read_file(lines, buf);
         }
         match self.finder.open_next() {
-            Ok(Some(lines)) => {
-                self.is_next = true;
-                self.read_file(lines, buf)
-            }
-            Ok(None) => Ok(0),
-            Err(error) => Err(error),
+            Some(lines) => self.read_file(lines, buf),
+            None => Ok(0),
         }
     }
 
-    /// The next bytes of this file. At its end it is taken away.
+    /// The next bytes of this file. At its end it is taken away. If a read of it fails, it is left,
+    /// and no more is read if it would not be known again.
     fn read_file(&mut self, mut lines: LineFile, buf: &mut [u8]) -> io::Result<usize>
         requires { self.old.«open» ≡ None }
         ensures fits { IfOk result (λ count. count ≤ length buf.new) }
-        ensures serves { ServesFile lines self.new.«open» self.new.is_torn result
-            buf.new
+        ensures serves { ServesFile lines self.new.«open» self.new.is_torn result buf.new
             (S.calls self.old.finder.system) (S.calls self.new.finder.system) }
         ensures folder { self.new.finder.folder ≡ self.old.finder.folder }
     {
@@ -105,7 +96,8 @@ impl<'a, S: System + Drop> Spool<'a, S> {
                 Ok(count)
             }
             Err(fault) => {
-                self.leave_unread(&lines, fault);
+                self.is_torn = lines.is_cut;
+                self.is_stopped = !self.finder.leave_unread(&lines, fault);
                 Err(fault.error())
             }
         }
@@ -120,42 +112,10 @@ impl<'a, S: System + Drop> Spool<'a, S> {
         ensures open { self.new.«open» ≡ self.old.«open» }
         ensures folder { self.new.finder.folder ≡ self.old.finder.folder }
     {
-        match lines.take_away(&mut self.finder.system) {
-            Ok(()) => {}
-            Err(fault) => self.stop(lines.name.as_str(), fault),
+        if let Err(fault) = lines.take_away(&mut self.finder.system) {
+            self.is_stopped = true;
+            self.finder.tell_fault(lines, fault);
         }
-    }
-
-    /// Leaves a file of which a read failed, and reads no more if it would not be known again.
-    fn leave_unread(&mut self, lines: &LineFile, fault: Fault)
-        ensures leaves { (stamp : Option Stamp) × Leaves lines.now.handle stamp
-            (S.calls self.old.finder.system) (S.calls self.new.finder.system) }
-        ensures folder { self.new.finder.folder ≡ self.old.finder.folder }
-        ensures torn { self.new.is_torn ≡ lines.now.is_cut }
-        ensures open { self.new.«open» ≡ self.old.«open» }
-        ensures known { self.new.is_stopped ≡ false → (stamp : Option Stamp) × Remembers
-            self.new.finder.said.names.items (string_bytes lines.now.name) stamp }
-    {
-        self.is_torn = lines.is_cut;
-        let is_known = self.finder.leave_unread(lines);
-        self.is_stopped = !is_known;
-        self.finder.tell_fault(lines.name.as_str(), fault);
-    }
-
-    /// Begins the count of lines again, if the bytes are the first of a file.
-    fn begin_count(&mut self, count: &mut LineCount)
-        ensures same { self.new ≡ record self.old { is_next = false } }
-        ensures begins { self.old.is_next ≡ true → IfSome self.old.«open» (λ lines.
-            (length (string_bytes lines.name) ≤ vec_capacity count.old.file
-            → count.new.file.items ≡ string_bytes lines.name) × (count.new.number ≡ 0)) }
-        ensures goes_on { self.old.is_next ≡ false → count.new ≡ count.old }
-    {
-        if self.is_next
-            && let Some(lines) = &self.open
-        {
-            count.begin(lines.name.as_bytes());
-        }
-        self.is_next = false;
     }
 
     /// Ends the line within which the reading of a file failed, so that none of its words counts.
@@ -175,17 +135,6 @@ impl<'a, S: System + Drop> Spool<'a, S> {
         TORN.len()
     }
 
-    /// Reads no more, for this file's sake.
-    fn stop(&mut self, name: &str, fault: Fault)
-        ensures system { self.new.finder.system ≡ self.old.finder.system }
-        ensures open { self.new.«open» ≡ self.old.«open» }
-        ensures folder { self.new.finder.folder ≡ self.old.finder.folder }
-        ensures stops { self.new.is_stopped ≡ true }
-    {
-        self.is_stopped = true;
-        self.finder.tell_fault(name, fault);
-    }
-
     /// The system of files.
     pub fn into_system(self) -> S
         ensures { result ≡ spool_system self.entry }
@@ -203,21 +152,11 @@ impl<'a, S: System + Drop> Spool<'a, S> {
             ≡ (spool_view S.calls self.old).folder }
         ensures stops { self.new.is_stopped ≡ true }
     {
-        self.finish_open();
+        if let Some(lines) = self.open.take() {
+            self.finish_file(&lines);
+        }
         self.is_stopped = true;
         self.finder.notices.tell(log);
-    }
-
-    /// Ends the reading of the file that is open, if one is.
-    fn finish_open(&mut self)
-        ensures folder { self.new.finder.folder ≡ self.old.finder.folder }
-        ensures finishes { Finishes self.old.«open» (S.calls self.old.finder.system)
-            (S.calls self.new.finder.system) }
-    {
-        let Some(lines) = self.open.take() else {
-            return;
-        };
-        self.finish_file(&lines);
     }
 
     /// Takes the file away if it is at its end, and its last line has one; else closes it.
@@ -256,8 +195,12 @@ impl<'a, S: System + Drop> Inlet for Spool<'a, S> {
         ensures serves { ServesCount (spool_view S.calls self.old) (spool_view S.calls self.new)
             result room.new }
     {
+        // The lines of a file that is opened by this read are counted from the first.
+        let was_open = self.open.is_some();
         let read = self.read_on(room).unwrap_or(0);
-        self.begin_count(count);
+        if !was_open && let Some(lines) = &self.open {
+            count.begin(lines.name.as_bytes());
+        }
         self.finder.notices.tell(log);
         read
     }

@@ -1,9 +1,8 @@
--- Which events of a look are new, and what a log and the counts have of them.
-use Rattle.std.specs.Prelude.{Bool, List, fold, not, ℕ}
+-- Which events of a look are new, and what is counted of them.
+use Rattle.std.specs.Prelude.{Bool, List, fold, not}
 use Rattle.std.specs.List.{filter, list_any}
 use Rattle.mot_log.specs.Counters.{counted}
 use Rattle.mot_log.specs.EventClass.{class_of_result}
-use Rattle.mot_log.specs.Text.{logged_as, result_text}
 use Rattle.mot_log.specs.declared.counters.Counters.{Counters}
 use Rattle.mot_events.specs.declared.event.LookEvent.{LookEvent}
 use Rattle.mot_log.specs.declared.tally.EventClass.TheVariants.{Look}
@@ -14,14 +13,10 @@ abbrev pub new_events : (same : LookEvent → LookEvent → Bool) → (before ev
 new_events same before events =
     filter (λ (e : LookEvent). not (list_any (same e) before)) events
 
--- what a log has of what a look met
-abbrev pub logged_met : (levels : Bool) → LookEvent → List ℕ
-logged_met levels e = logged_as levels (class_of_result e.met) (result_text e.name e.met)
-
 -- what is counted of it
-abbrev pub counted_met : Counters → LookEvent → Counters
-counted_met c e = counted c (class_of_result e.met)
+abbrev pub counted_result : Counters → LookEvent → Counters
+counted_result c e = counted c (class_of_result e.outcome)
 
 -- and of a whole look
 abbrev pub counted_look : Counters → List LookEvent → Counters
-counted_look c events = fold counted_met (counted c Look) events
+counted_look c events = fold counted_result (counted c Look) events

@@ -7,7 +7,6 @@
 mod counters;
 mod log;
 mod look;
-mod sample;
 mod status;
 mod tally;
 mod text;
@@ -15,5 +14,5 @@ mod text;
 pub use counters::Counters;
 pub use log::EventLog;
 pub use status::{Figures, write_status};
-pub use tally::{EventClass, Level};
-pub use text::{add_met_line, add_name, add_number, add_reason, add_refusal, add_text};
+pub use tally::EventClass;
+pub use text::add_look_line;

@@ -1,8 +1,7 @@
 //! What is told of a look at a folder: what the look before had not.
-ghost use Rattle.std.specs.Prelude.{◌≡◌, ◌∷◌, [], MatchOption, false, flat_map, fold, true};
-ghost use Rattle.std.specs.Io.KnownBytes.{Appends};
+ghost use Rattle.std.specs.Prelude.{◌≡◌, ◌∷◌, [], MatchOption, false, fold, true};
 ghost use Rattle.std.specs.List.{list_any};
-ghost use Rattle.mot_log.specs.Look.{counted_look, counted_met, logged_met, new_events};
+ghost use Rattle.mot_log.specs.Look.{counted_look, counted_result, new_events};
 
 use crate::log::EventLog;
 use mot_events::{Event, LookEvent, Tells};
@@ -14,12 +13,6 @@ impl<W: Write + Drop> EventLog<W> {
         ensures counts { let same = ⟦<LookEvent as PartialEq>⟧.eq in
             self.new.counters
             ≡ counted_look self.old.counters (new_events same before.now events.now) }
-        ensures levels { self.new.levels ≡ self.old.levels }
-        ensures whole { self.new.is_whole ≡ true → self.old.is_whole ≡ true }
-        ensures told { let same = ⟦<LookEvent as PartialEq>⟧.eq in
-            self.new.is_whole ≡ true → Appends (W.contents self.old.writer)
-            (W.contents self.new.writer)
-            (flat_map (logged_met self.old.levels) (new_events same before.now events.now)) }
     {
         self.tell(&Event::Looked);
         self.tell_new(events, before);
@@ -30,13 +23,7 @@ impl<W: Write + Drop> EventLog<W> {
     fn tell_new(&mut self, events: &[LookEvent], before: &[LookEvent])
         ensures counts { let same = ⟦<LookEvent as PartialEq>⟧.eq in
             self.new.counters
-            ≡ fold counted_met self.old.counters (new_events same before.now events.now) }
-        ensures levels { self.new.levels ≡ self.old.levels }
-        ensures whole { self.new.is_whole ≡ true → self.old.is_whole ≡ true }
-        ensures told { let same = ⟦<LookEvent as PartialEq>⟧.eq in
-            self.new.is_whole ≡ true → Appends (W.contents self.old.writer)
-            (W.contents self.new.writer)
-            (flat_map (logged_met self.old.levels) (new_events same before.now events.now)) }
+            ≡ fold counted_result self.old.counters (new_events same before.now events.now) }
     {
         let mut place = 0;
         for event in events {
@@ -49,13 +36,7 @@ impl<W: Write + Drop> EventLog<W> {
     fn tell_unless(&mut self, event: &LookEvent, before: &[LookEvent], place: usize) -> usize
         ensures counts { let same = ⟦<LookEvent as PartialEq>⟧.eq in
             self.new.counters
-            ≡ fold counted_met self.old.counters (new_events same before.now (event.now ∷ [])) }
-        ensures levels { self.new.levels ≡ self.old.levels }
-        ensures whole { self.new.is_whole ≡ true → self.old.is_whole ≡ true }
-        ensures told { let same = ⟦<LookEvent as PartialEq>⟧.eq in
-            self.new.is_whole ≡ true → Appends (W.contents self.old.writer)
-            (W.contents self.new.writer)
-            (flat_map (logged_met self.old.levels) (new_events same before.now (event.now ∷ []))) }
+            ≡ fold counted_result self.old.counters (new_events same before.now (event.now ∷ [])) }
     {
         match place_after(event, before, place) {
             Some(next) => next,

@@ -1,16 +1,7 @@
 //! The text of the status, in the exposition format of Prometheus.
-ghost use Rattle.std.specs.Prelude.{◌≡◌, [], IfOk, OnOk, bytes_eq, fold, if◌then◌else◌};
-ghost use Rattle.std.specs.List.{list_any};
-ghost use Rattle.mot_log.specs.Shown.{shown_name};
-ghost use Rattle.mot_log.specs.Status.{count_rows, figure_rows, file_sample, is_alike, is_of_step};
-ghost use Rattle.mot_log.specs.Status.{listed_value, object_sample, refusal_sample, sample_of};
-ghost use Rattle.mot_log.specs.Status.{sample_once, samples_from, status_text, version_sample};
-ghost use Rattle.mot_log.specs.Status.{with_refusals, with_rows};
-
-use crate::sample::{add_label, add_row, begin_disk, end_sample};
-use crate::text::add;
-use crate::{Counters, add_name, add_number, add_reason, add_refusal};
-use mot_events::{LookEvent, LookResult, LookStep, Why, is_listed};
+use crate::Counters;
+use crate::text::{add, add_name, add_number, add_reason, add_refusal};
+use mot_events::{LookEvent, LookResult, LookStep, is_listed};
 use mot_numbers::Refusal;
 use mot_objects::Object;
 use std::alloc::{AllocError, Global};
@@ -46,123 +37,57 @@ pub struct Figures<'a> {
     pub written: u64,
 }
 
-// The table of families. Each row is the text in front of a sample's labels: what the family is, and
-// the name. The last four have the name in front of each of their samples.
+// The table of families: the name of each, and what it is. A name with `_total` at its end is that of
+// a counter.
 
-const PACKETS: &str = "\
-# HELP motcar_packets_total Packets that were taken.
-# TYPE motcar_packets_total counter
-motcar_packets_total";
+const PACKETS: &str = "motcar_packets_total Packets that were taken.";
 
-const TURNS: &str = "\
-# HELP motcar_turns_total Turns that have ended.
-# TYPE motcar_turns_total counter
-motcar_turns_total";
+const TURNS: &str = "motcar_turns_total Turns that have ended.";
 
-const LOOKS: &str = "\
-# HELP motcar_looks_total Looks at the folder.
-# TYPE motcar_looks_total counter
-motcar_looks_total";
+const LOOKS: &str = "motcar_looks_total Looks at the folder.";
 
-const CHANGES: &str = "\
-# HELP motcar_changes_total Commands that were done.
-# TYPE motcar_changes_total counter
-motcar_changes_total";
+const CHANGES: &str = "motcar_changes_total Commands that were done.";
 
-const REFUSALS: &str = "\
-# HELP motcar_refusals_total Refusals that were logged.
-# TYPE motcar_refusals_total counter
-motcar_refusals_total";
+const REFUSALS: &str = "motcar_refusals_total Refusals that were logged.";
 
-const LINE_REFUSALS: &str = "\
-# HELP motcar_line_refusals_total Refusals of lines of files, and of these files.
-# TYPE motcar_line_refusals_total counter
-motcar_line_refusals_total";
+const LINE_REFUSALS: &str =
+    "motcar_line_refusals_total Refusals of lines of files, and of these files.";
 
-const GOINGS: &str = "\
-# HELP motcar_mass_withdrawals_total How often more than half of the objects went.
-# TYPE motcar_mass_withdrawals_total counter
-motcar_mass_withdrawals_total";
+const GOINGS: &str = "motcar_mass_withdrawals_total How often more than half of the objects went.";
 
-const OBJECTS: &str = "\
-# HELP motcar_objects Objects of the carousel.
-# TYPE motcar_objects gauge
-motcar_objects";
+const OBJECTS: &str = "motcar_objects Objects of the carousel.";
 
-const DIRECTORY: &str = "\
-# HELP motcar_directory_id Transport id of the directory.
-# TYPE motcar_directory_id gauge
-motcar_directory_id";
+const DIRECTORY: &str = "motcar_directory_id Transport id of the directory.";
 
-const CHECKSUM: &str = "\
-# HELP motcar_directory_checksum Checksum of the bytes of the directory.
-# TYPE motcar_directory_checksum gauge
-motcar_directory_checksum";
+const CHECKSUM: &str = "motcar_directory_checksum Checksum of the bytes of the directory.";
 
-const TURN_PACKETS: &str = "\
-# HELP motcar_turn_packets Packets of a turn.
-# TYPE motcar_turn_packets gauge
-motcar_turn_packets";
+const TURN_PACKETS: &str = "motcar_turn_packets Packets of a turn.";
 
-const TURN_BYTES: &str = "\
-# HELP motcar_turn_bytes Bytes of the packets of a turn.
-# TYPE motcar_turn_bytes gauge
-motcar_turn_bytes";
+const TURN_BYTES: &str = "motcar_turn_bytes Bytes of the packets of a turn.";
 
-const FREE: &str = "\
-# HELP motcar_free_bytes Bytes that are free for bodies.
-# TYPE motcar_free_bytes gauge
-motcar_free_bytes";
+const FREE: &str = "motcar_free_bytes Bytes that are free for bodies.";
 
-const GAP: &str = "\
-# HELP motcar_gap_bytes The longest body that has room.
-# TYPE motcar_gap_bytes gauge
-motcar_gap_bytes";
+const GAP: &str = "motcar_gap_bytes The longest body that has room.";
 
-const OBJECTS_LIMIT: &str = "\
-# HELP motcar_objects_limit Objects that the disk holds.
-# TYPE motcar_objects_limit gauge
-motcar_objects_limit";
+const OBJECTS_LIMIT: &str = "motcar_objects_limit Objects that the disk holds.";
 
-const DATA: &str = "\
-# HELP motcar_data_bytes Bytes that the disk has for bodies.
-# TYPE motcar_data_bytes gauge
-motcar_data_bytes";
+const DATA: &str = "motcar_data_bytes Bytes that the disk has for bodies.";
 
-const LAST_CHANGE: &str = "\
-# HELP motcar_last_change_seconds Seconds from 1970 to the last change; 0 if there was none.
-# TYPE motcar_last_change_seconds gauge
-motcar_last_change_seconds";
+const LAST_CHANGE: &str =
+    "motcar_last_change_seconds Seconds from 1970 to the last change; 0 if there was none.";
 
-const WRITTEN: &str = "\
-# HELP motcar_status_seconds Seconds from 1970 to when this was written; 0 if that is not known.
-# TYPE motcar_status_seconds gauge
-motcar_status_seconds";
+const WRITTEN: &str =
+    "motcar_status_seconds Seconds from 1970 to when this was written; 0 if that is not known.";
 
-const LISTED: &str = "\
-# HELP motcar_folder_listed Whether the folder was listed.
-# TYPE motcar_folder_listed gauge
-motcar_folder_listed";
+const LISTED: &str = "motcar_folder_listed Whether the folder was listed.";
 
-const VERSION: &str = "\
-# HELP motcar_info The version of the program.
-# TYPE motcar_info gauge
-motcar_info";
+const VERSION: &str = "motcar_info The version of the program.";
 
-const REFUSED: &str = "\
-# HELP motcar_refused_total Refusals that were logged, by their reasons.
-# TYPE motcar_refused_total counter
-";
+const REFUSED: &str = "motcar_refused_total Refusals that were logged, by their reasons.";
 
-const FILES_REFUSED: &str = "\
-# HELP motcar_file_refused A file that the last look refused, and why.
-# TYPE motcar_file_refused gauge
-";
+const FILES_REFUSED: &str = "motcar_file_refused A file that the last look refused, and why.";
 
-const ON_AIR: &str = "\
-# HELP motcar_object An object on air, and how many bytes it has.
-# TYPE motcar_object gauge
-";
+const ON_AIR: &str = "motcar_object An object on air, and how many bytes it has.";
 
 /// The refusals that a log can have.
 const COUNTED: [Refusal; 17] = [
@@ -194,266 +119,205 @@ pub fn write_status(
     figures: &Figures<'_>,
     counters: &Counters,
     events: &[LookEvent],
-) -> Result<(), AllocError>
-    ensures { OnOk result (text.new.items ≡ status_text figures.now counters.now events.now) }
-{
+) -> Result<(), AllocError> {
     let mut disk = Vec::new(alloc);
-    begin_disk(&mut disk, figures.disk)?;
+    add_label(&mut disk, "{disk=\"", figures.disk.as_bytes())?;
     let disk = disk.as_slice();
     text.clear();
-    add_counts(text, disk, counters)?;
-    add_figures(text, disk, figures)?;
-    add_row(text, LISTED, disk, listed_value(events))?;
+    for (family, value) in values_of(figures, counters, events) {
+        add_family(text, family)?;
+        begin_sample(text, family, disk)?;
+        end_sample(text, value)?;
+    }
     add_version(text, disk, figures.version)?;
     add_refusals(text, disk, counters)?;
-    add(text, FILES_REFUSED)?;
-    add_samples(text, alloc, disk, events)?;
-    add(text, ON_AIR)?;
+    add_files(text, alloc, disk, events)?;
     add_objects(text, alloc, disk, figures.objects)
 }
 
-/// Adds what happened.
-fn add_counts(text: &mut Vec<u8>, disk: &[u8], counters: &Counters) -> Result<(), AllocError>
-    ensures { OnOk result (text.new.items
-        ≡ with_rows disk.now text.old.items (count_rows counters.now)) }
-{
-    add_row(text, PACKETS, disk, counters.packets)?;
-    add_row(text, TURNS, disk, counters.turns)?;
-    add_row(text, LOOKS, disk, counters.looks)?;
-    add_row(text, CHANGES, disk, counters.changes)?;
-    add_row(text, REFUSALS, disk, counters.refusals)?;
-    add_row(text, LINE_REFUSALS, disk, counters.line_refusals)?;
-    add_row(text, GOINGS, disk, counters.goings)
+/// The values of the families that have one sample.
+fn values_of(
+    figures: &Figures<'_>,
+    counters: &Counters,
+    events: &[LookEvent],
+) -> [(&'static str, u64); 19] {
+    [
+        (PACKETS, counters.packets),
+        (TURNS, counters.turns),
+        (LOOKS, counters.looks),
+        (CHANGES, counters.changes),
+        (REFUSALS, counters.refusals),
+        (LINE_REFUSALS, counters.line_refusals),
+        (GOINGS, counters.goings),
+        (OBJECTS, figures.objects.len() as u64),
+        (DIRECTORY, figures.directory),
+        (CHECKSUM, figures.checksum),
+        (TURN_PACKETS, figures.turn_packets),
+        (TURN_BYTES, figures.turn_bytes),
+        (FREE, figures.free),
+        (GAP, figures.gap),
+        (OBJECTS_LIMIT, figures.objects_limit),
+        (DATA, figures.data_bytes),
+        (LAST_CHANGE, figures.last_change),
+        (WRITTEN, figures.written),
+        (LISTED, u64::from(is_listed(events))),
+    ]
 }
 
-/// Adds the figures.
-fn add_figures(text: &mut Vec<u8>, disk: &[u8], figures: &Figures<'_>) -> Result<(), AllocError>
-    ensures { OnOk result (text.new.items
-        ≡ with_rows disk.now text.old.items (figure_rows figures.now)) }
-{
-    add_row(text, OBJECTS, disk, figures.objects.len() as u64)?;
-    add_row(text, DIRECTORY, disk, figures.directory)?;
-    add_row(text, CHECKSUM, disk, figures.checksum)?;
-    add_row(text, TURN_PACKETS, disk, figures.turn_packets)?;
-    add_row(text, TURN_BYTES, disk, figures.turn_bytes)?;
-    add_row(text, FREE, disk, figures.free)?;
-    add_row(text, GAP, disk, figures.gap)?;
-    add_row(text, OBJECTS_LIMIT, disk, figures.objects_limit)?;
-    add_row(text, DATA, disk, figures.data_bytes)?;
-    add_row(text, LAST_CHANGE, disk, figures.last_change)?;
-    add_row(text, WRITTEN, disk, figures.written)
+/// The name of a family of the table.
+fn name_of(family: &str) -> &str {
+    match family.split_once(' ') {
+        Some((name, _)) => name,
+        None => family,
+    }
 }
 
-/// 1 if the last look went by the folder's list, or else 0.
-fn listed_value(events: &[LookEvent]) -> u64
-    ensures { result ≡ listed_value events.now }
-{
-    if is_listed(events) { 1 } else { 0 }
+/// Adds what a family is, and its type.
+fn add_family(text: &mut Vec<u8>, family: &str) -> Result<(), AllocError> {
+    let name = name_of(family);
+    add(text, "# HELP ")?;
+    add(text, family)?;
+    add(text, "\n# TYPE ")?;
+    add(text, name)?;
+    let is_counter = name.ends_with("_total");
+    add(text, if is_counter { " counter\n" } else { " gauge\n" })
+}
+
+/// Adds the name of a sample of a family, and its first label, that of the disk.
+fn begin_sample(text: &mut Vec<u8>, family: &str, disk: &[u8]) -> Result<(), AllocError> {
+    add(text, name_of(family))?;
+    text.extend_from_slice(disk)
+}
+
+/// Ends a sample by its value.
+fn end_sample(text: &mut Vec<u8>, value: u64) -> Result<(), AllocError> {
+    add(text, "} ")?;
+    add_number(text, value)?;
+    add(text, "\n")
+}
+
+/// Adds a label: what stands in front of its value, and the value.
+fn add_label(text: &mut Vec<u8>, front: &str, value: &[u8]) -> Result<(), AllocError> {
+    add(text, front)?;
+    for byte in value {
+        match *byte {
+            b'\\' => add(text, "\\\\")?,
+            b'"' => add(text, "\\\"")?,
+            b'\n' => add(text, "\\n")?,
+            other => text.push(other)?,
+        }
+    }
+    add(text, "\"")
 }
 
 /// Adds which program it is.
-fn add_version(text: &mut Vec<u8>, disk: &[u8], version: &str) -> Result<(), AllocError>
-    ensures { OnOk result (text.new.items ≡ version_sample disk.now text.old.items version.now) }
-{
-    add(text, VERSION)?;
-    text.extend_from_slice(disk)?;
+fn add_version(text: &mut Vec<u8>, disk: &[u8], version: &str) -> Result<(), AllocError> {
+    add_family(text, VERSION)?;
+    begin_sample(text, VERSION, disk)?;
     add_label(text, ",version=\"", version.as_bytes())?;
     end_sample(text, 1)
 }
 
 /// Adds how often each refusal came.
-fn add_refusals(text: &mut Vec<u8>, disk: &[u8], counters: &Counters) -> Result<(), AllocError>
-    ensures { OnOk result (text.new.items
-        ≡ with_refusals disk.now counters.now text.old.items) }
-{
-    add(text, REFUSED)?;
-    add_each_refusal(text, disk, counters, &COUNTED)
-}
-
-/// Adds how often each of these refusals came.
-fn add_each_refusal(
-    text: &mut Vec<u8>,
-    disk: &[u8],
-    counters: &Counters,
-    refusals: &[Refusal],
-) -> Result<(), AllocError>
-    ensures { OnOk result (text.new.items
-        ≡ fold (refusal_sample disk.now counters.now) text.old.items refusals.now) }
-{
-    for refusal in refusals {
-        add_refusal_sample(text, disk, counters, *refusal)?;
+fn add_refusals(text: &mut Vec<u8>, disk: &[u8], counters: &Counters) -> Result<(), AllocError> {
+    add_family(text, REFUSED)?;
+    for refusal in &COUNTED {
+        begin_sample(text, REFUSED, disk)?;
+        add(text, ",reason=\"")?;
+        add_refusal(text, *refusal)?;
+        add(text, "\"")?;
+        end_sample(text, counters.of(*refusal))?;
     }
     Ok(())
 }
 
-/// Adds how often this refusal came.
-fn add_refusal_sample(
-    text: &mut Vec<u8>,
-    disk: &[u8],
-    counters: &Counters,
-    refusal: Refusal,
-) -> Result<(), AllocError>
-    ensures { OnOk result (text.new.items
-        ≡ refusal_sample disk.now counters.now text.old.items refusal) }
-{
-    add(text, "motcar_refused_total")?;
-    text.extend_from_slice(disk)?;
-    add(text, ",reason=\"")?;
-    add_refusal(text, refusal)?;
-    add(text, "\"")?;
-    end_sample(text, counters.of(refusal))
-}
-
 /// Adds a sample for each file that was refused.
-fn add_samples(
+fn add_files(
     text: &mut Vec<u8>,
     alloc: Global,
     disk: &[u8],
     events: &[LookEvent],
-) -> Result<(), AllocError>
-    ensures { OnOk result (text.new.items
-        ≡ samples_from disk.now text.old.items [] events.now) }
-{
-    for place in 0..events.len() {
-        add_sample_of(text, alloc, disk, &events[..place], &events[place])?;
+) -> Result<(), AllocError> {
+    add_family(text, FILES_REFUSED)?;
+    for (place, event) in events.iter().enumerate() {
+        add_file(text, alloc, disk, &events[..place], event)?;
     }
     Ok(())
 }
 
-/// Adds the sample of a file that was refused, after these events.
-fn add_sample_of(
-    text: &mut Vec<u8>,
-    alloc: Global,
-    disk: &[u8],
-    before: &[LookEvent],
-    event: &LookEvent,
-) -> Result<(), AllocError>
-    ensures { OnOk result (text.new.items
-        ≡ sample_of disk.now text.old.items before.now event.now.name event.now.met) }
-{
-    match &event.met {
-        LookResult::Refused(deed, refusal, why) if !deed.is_look() => {
-            let name = event.name.as_bytes();
-            add_file(text, alloc, disk, before, name, *deed, *refusal, why)
-        }
-        _ => Ok(()),
-    }
-}
-
-/// Adds the sample of a file of this name, unless one before it is shown alike.
+/// Adds the sample of a file, if it was refused, unless one of the events before it is shown alike.
 fn add_file(
     text: &mut Vec<u8>,
     alloc: Global,
     disk: &[u8],
     before: &[LookEvent],
-    name: &[u8],
-    deed: LookStep,
-    refusal: Refusal,
-    why: &Why,
-) -> Result<(), AllocError>
-    ensures { OnOk result (text.new.items
-        ≡ sample_once disk.now text.old.items before.now name.now deed refusal why.now) }
-{
+    event: &LookEvent,
+) -> Result<(), AllocError> {
+    let LookResult::Refused(step, refusal, why) = &event.outcome else {
+        return Ok(());
+    };
     let mut shown = Vec::new(alloc);
-    add_name(&mut shown, name)?;
-    if has_alike(alloc, before, deed, shown.as_slice())? {
+    add_name(&mut shown, event.name.as_bytes())?;
+    if step.is_look() || has_alike(alloc, before, *step, shown.as_slice())? {
         return Ok(());
     }
     let mut reason = Vec::new(alloc);
-    add_reason(&mut reason, refusal, why)?;
-    add_file_sample(text, disk, deed, shown.as_slice(), reason.as_slice())
+    add_reason(&mut reason, *refusal, why)?;
+    begin_sample(text, FILES_REFUSED, disk)?;
+    add(text, ",command=\"")?;
+    add(text, step.word())?;
+    add_label(text, "\",name=\"", shown.as_slice())?;
+    add_label(text, ",reason=\"", reason.as_slice())?;
+    end_sample(text, 1)
 }
 
-/// Whether one of these is a refusal of this deed, of a name that is shown so.
+/// Whether one of these is a refusal of this step, of a name that is shown so.
 fn has_alike(
     alloc: Global,
     events: &[LookEvent],
-    deed: LookStep,
+    step: LookStep,
     shown: &[u8],
-) -> Result<bool, AllocError>
-    ensures { IfOk result (λ has. has ≡ list_any (is_alike deed shown.now) events.now) }
-{
+) -> Result<bool, AllocError> {
     for event in events {
-        if is_of_step(deed, &event.met) && is_shown(alloc, event.name.as_bytes(), shown)? {
-            return Ok(true);
+        if is_of_step(step, &event.outcome) {
+            let mut other = Vec::new(alloc);
+            add_name(&mut other, event.name.as_bytes())?;
+            if shown == other.as_slice() {
+                return Ok(true);
+            }
         }
     }
     Ok(false)
 }
 
-/// Whether it is a refusal of this deed.
-fn is_of_step(deed: LookStep, met: &LookResult) -> bool
-    ensures { result ≡ is_of_step deed met.now }
-{
-    match met {
-        LookResult::Refused(other, _, _) => deed.word().as_bytes() == other.word().as_bytes(),
+/// Whether it is a refusal of this step.
+fn is_of_step(step: LookStep, outcome: &LookResult) -> bool {
+    match outcome {
+        LookResult::Refused(other, _, _) => step.word().as_bytes() == other.word().as_bytes(),
         _ => false,
     }
 }
 
-/// Whether the name is shown so.
-fn is_shown(alloc: Global, name: &[u8], shown: &[u8]) -> Result<bool, AllocError>
-    ensures { IfOk result (λ is. is ≡ bytes_eq shown.now (shown_name name.now)) }
-{
-    let mut other = Vec::new(alloc);
-    add_name(&mut other, name)?;
-    Ok(shown == other.as_slice())
-}
-
-/// Adds the sample of a file.
-fn add_file_sample(
-    text: &mut Vec<u8>,
-    disk: &[u8],
-    deed: LookStep,
-    name: &[u8],
-    reason: &[u8],
-) -> Result<(), AllocError>
-    ensures { OnOk result (text.new.items
-        ≡ file_sample disk.now text.old.items deed name.now reason.now) }
-{
-    add(text, "motcar_file_refused")?;
-    text.extend_from_slice(disk)?;
-    add(text, ",command=\"")?;
-    add(text, deed.word())?;
-    add_label(text, "\",name=\"", name)?;
-    add_label(text, ",reason=\"", reason)?;
-    end_sample(text, 1)
-}
-
-/// Adds a sample for each of these objects.
+/// Adds a sample for each of these objects: its name, its id, its version, and the length of its
+/// body.
 fn add_objects(
     text: &mut Vec<u8>,
     alloc: Global,
     disk: &[u8],
     objects: &[Object],
-) -> Result<(), AllocError>
-    ensures { OnOk result (text.new.items
-        ≡ fold (object_sample disk.now) text.old.items objects.now) }
-{
+) -> Result<(), AllocError> {
+    add_family(text, ON_AIR)?;
     for object in objects {
-        add_object(text, alloc, disk, object)?;
+        let mut shown = Vec::new(alloc);
+        add_name(&mut shown, object.name.as_bytes())?;
+        begin_sample(text, ON_AIR, disk)?;
+        add_label(text, ",name=\"", shown.as_slice())?;
+        add(text, ",id=\"")?;
+        add_number(text, u64::from(object.tid.get()))?;
+        add(text, "\",version=\"")?;
+        add_number(text, u64::from(object.version))?;
+        add(text, "\"")?;
+        end_sample(text, u64::from(object.length.get()))?;
     }
     Ok(())
-}
-
-/// Adds the sample of an object.
-fn add_object(
-    text: &mut Vec<u8>,
-    alloc: Global,
-    disk: &[u8],
-    object: &Object,
-) -> Result<(), AllocError>
-    ensures { OnOk result (text.new.items ≡ object_sample disk.now text.old.items object.now) }
-{
-    let mut shown = Vec::new(alloc);
-    add_name(&mut shown, object.name.as_bytes())?;
-    add(text, "motcar_object")?;
-    text.extend_from_slice(disk)?;
-    add_label(text, ",name=\"", shown.as_slice())?;
-    add(text, ",id=\"")?;
-    add_number(text, u64::from(object.tid.get()))?;
-    add(text, "\",version=\"")?;
-    add_number(text, u64::from(object.version))?;
-    add(text, "\"")?;
-    end_sample(text, u64::from(object.length.get()))
 }

@@ -1,8 +1,7 @@
 //! What an event counts as, and the level of its line. Both are functions of what happened: no name
 //! and no text has a part in them.
 ghost use Rattle.std.specs.Prelude.{◌≡◌};
-ghost use Rattle.mot_log.specs.EventClass.{has_line, level_of, level_text, class_of, class_of_result};
-ghost use Rattle.mot_log.specs.EventClass.{class_of_going, class_of_reply};
+ghost use Rattle.mot_log.specs.EventClass.{class_of, class_of_going, class_of_reply, class_of_result};
 
 use mot_events::{Event, LookResult, Reply};
 use mot_numbers::Refusal;
@@ -33,65 +32,28 @@ pub enum EventClass {
     Look,
 }
 
-/// The level of a line for systemd.
-#[derive(Clone, Copy, PartialEq, Eq)]
-pub enum Level {
-    /// The program ends.
-    Error,
-    /// Something needs a person.
-    Warning,
-    /// Nothing is wrong.
-    Info,
-}
-
 impl EventClass {
-    /// The level of the line.
-    pub fn level(self) -> Level
-        ensures { result ≡ level_of self }
-    {
+    /// What its line begins with for systemd: the level of an end of the program, of what needs a
+    /// person, or of news.
+    pub fn level(self) -> &'static str {
         match self {
-            EventClass::Stop(_) => Level::Error,
-            EventClass::Refusal(_) => Level::Warning,
-            EventClass::LineRefusal(_) => Level::Warning,
-            EventClass::Kept => Level::Warning,
-            EventClass::Going => Level::Warning,
-            EventClass::Doubt => Level::Warning,
-            _ => Level::Info,
+            EventClass::Stop(_) => "<3>",
+            EventClass::Refusal(_)
+            | EventClass::LineRefusal(_)
+            | EventClass::Kept
+            | EventClass::Going
+            | EventClass::Doubt => "<4>",
+            EventClass::Change | EventClass::News | EventClass::Look => "<6>",
         }
     }
 
-    /// Whether the event has a line.
-    pub fn has_line(self) -> bool
-        ensures { result ≡ has_line self }
-    {
-        match self {
-            EventClass::Look => false,
-            _ => true,
-        }
-    }
-}
-
-impl Level {
-    /// What the line begins with.
-    pub fn prefix(self) -> &'static str
-        ensures { result.now ≡ level_text self }
-    {
-        match self {
-            Level::Error => "<3>",
-            Level::Warning => "<4>",
-            Level::Info => "<6>",
-        }
-    }
-}
-
-impl EventClass {
     /// What an event counts as.
     #[inline(always)]
     pub fn of(event: &Event<'_>) -> EventClass
         ensures { result ≡ class_of event.now }
     {
         match event {
-            Event::Look(look) => EventClass::of_met(&look.met),
+            Event::Look(look) => EventClass::of_result(&look.outcome),
             Event::Looked => EventClass::Look,
             Event::LookTook(_, _) => EventClass::Doubt,
             Event::LinesRefused(_, refusal, _) => EventClass::LineRefusal(*refusal),
@@ -103,10 +65,10 @@ impl EventClass {
     }
 
     /// What it counts as that a look met this.
-    fn of_met(met: &LookResult) -> EventClass
-        ensures { result ≡ class_of_result met.now }
+    fn of_result(outcome: &LookResult) -> EventClass
+        ensures { result ≡ class_of_result outcome.now }
     {
-        match met {
+        match outcome {
             LookResult::Done(_, _) => EventClass::Change,
             LookResult::Refused(_, refusal, _) => EventClass::Refusal(*refusal),
             LookResult::Going(going, _) => class_of_going(*going),

@@ -2,13 +2,10 @@
 ghost use Rattle.std.specs.Prelude.{◌≡◌, ◌++◌, OnOk, map, codes};
 ghost use Rattle.std.specs.Fmt.{decimal};
 ghost use Rattle.mot_log.specs.Shown.{ascii_byte, shown_name};
-ghost use Rattle.mot_log.specs.Text.{step_words, done_words, met_line, result_text, note_words};
-ghost use Rattle.mot_log.specs.Text.{image_word, image_words, program_words, some_image_word};
-ghost use Rattle.mot_log.specs.Text.{reason_words, sizes_words, turn_words};
-ghost use Rattle.mot_log.specs.Text.{refusal_words, refused_words, reply_text};
-ghost use Rattle.mot_log.specs.Text.{subject_words, text_of, took_text, verb_words, why_words};
+ghost use Rattle.mot_log.specs.Text.{step_words, done_words, look_line, result_text, note_words};
+ghost use Rattle.mot_log.specs.Text.{image_word, image_words, some_image_word};
+ghost use Rattle.mot_log.specs.Text.{reason_words, refusal_words, refused_words, why_words};
 ghost use Rattle.mot_lines.specs.Text.{taken_words};
-ghost use Rattle.mot_numbers.specs.declared.refusal.Refusal.TheVariants.{WriteFault, OutOfMemory};
 ghost use Rattle.mot_suffixes.specs.Shown.{shown};
 
 use itoa::Buffer;
@@ -21,155 +18,109 @@ use std::alloc::AllocError;
 use std::str::from_utf8;
 
 /// Adds the text of an event, without a level and without an end.
-pub fn add_text(text: &mut Vec<u8>, event: &Event<'_>) -> Result<(), AllocError>
-    ensures { OnOk result (text.new.items ≡ text.old.items ++ text_of event.now) }
-{
+pub(crate) fn add_text(text: &mut Vec<u8>, event: &Event<'_>) -> Result<(), AllocError> {
     match event {
-        Event::Look(look) => add_met(text, look),
+        Event::Look(look) => add_result(text, look),
         Event::Looked => Ok(()),
-        Event::LookTook(folder, seconds) => add_took(text, folder, *seconds),
-        Event::LinesRefused(name, refusal, why) => add_lines_refused(text, name, *refusal, why),
+        Event::LookTook(folder, seconds) => {
+            add_around(text, "look ", folder, " took ")?;
+            add_count(text, "", *seconds, " s")
+        }
+        Event::LinesRefused(name, refusal, why) => {
+            add_around(text, "lines ", name, " ")?;
+            add_refused(text, *refusal, why)
+        }
         Event::LinesReadable(folder) => add_around(text, "lines ", folder, " readable"),
         Event::Answered(file, number, verb, subject, reply) => {
-            add_answered(text, file, *number, *verb, subject, reply)
+            add_around(text, "lines ", file, ":")?;
+            add_count(text, "", *number, " ")?;
+            add_verb(text, *verb)?;
+            add_subject(text, subject)?;
+            add_reply(text, reply)
         }
         Event::Began(version, disk, objects, packets) => {
-            add_began(text, version, disk, *objects, *packets)
+            add_program(text, version, disk)?;
+            add_sizes(text, *objects, *packets)
         }
-        Event::Ended(turns, packets) => add_ended(text, *turns, *packets),
+        Event::Ended(turns, packets) => {
+            add_count(text, "play: ended, ", *turns, " turns, ")?;
+            add_count(text, "", *packets, " packets")
+        }
         Event::Stopped(refusal) => {
             add(text, "motcar: ")?;
             add_refusal(text, *refusal)
         }
-        Event::StatusRefused(path, reason) => add_status_refused(text, path, reason),
+        Event::StatusRefused(path, reason) => {
+            add_around(text, "status ", path, " refused ")?;
+            add_refusal(text, Refusal::WriteFault)?;
+            add_around(text, ": ", reason, "")
+        }
         Event::StatusWritten(path) => add_around(text, "status ", path, " written"),
     }
 }
 
 /// Adds the line of what a look met, with its end.
-pub fn add_met_line(text: &mut Vec<u8>, look: &LookEvent) -> Result<(), AllocError>
-    ensures { OnOk result (text.new.items ≡ text.old.items ++ met_line look.now) }
+pub fn add_look_line(text: &mut Vec<u8>, look: &LookEvent) -> Result<(), AllocError>
+    ensures { OnOk result (text.new.items ≡ text.old.items ++ look_line look.now) }
 {
-    add_met(text, look)?;
+    add_result(text, look)?;
     add(text, "\n")
 }
 
 /// Adds what a look met of a name.
-fn add_met(text: &mut Vec<u8>, look: &LookEvent) -> Result<(), AllocError>
+fn add_result(text: &mut Vec<u8>, look: &LookEvent) -> Result<(), AllocError>
     ensures { OnOk result (text.new.items
-        ≡ text.old.items ++ result_text look.now.name look.now.met) }
+        ≡ text.old.items ++ result_text look.now.name look.now.outcome) }
 {
     let name = look.name.as_bytes();
-    match &look.met {
-        LookResult::Done(deed, done) => add_deed_done(text, *deed, name, *done),
-        LookResult::Refused(deed, refusal, why) => add_deed_refused(
-            text, *deed, name, *refusal, why,
-        ),
+    match &look.outcome {
+        LookResult::Done(step, done) => {
+            add_step(text, *step, name)?;
+            add_done(text, *done)
+        }
+        LookResult::Refused(step, refusal, why) => {
+            add_step(text, *step, name)?;
+            add_refused(text, *refusal, why)
+        }
         LookResult::Young => add_around(text, "read ", name, " too young, next look"),
         LookResult::Changed => add_around(text, "read ", name, " changed, next look"),
         LookResult::Skipped(skip) => {
             add_around(text, "skip ", name, " ")?;
             add(text, skip.word())
         }
-        LookResult::Going(unknown, all) => add_going(text, name, *unknown, *all),
-        LookResult::Gap(gap) => add_gap(text, name, *gap),
-        LookResult::Waiting(most, files) => add_waiting(text, name, *most, *files),
+        LookResult::Going(unknown, all) => {
+            add_around(text, "note ", name, " ")?;
+            add_part(text, *unknown, *all, " objects go")
+        }
+        LookResult::Gap(gap) => {
+            add_around(text, "note ", name, " ")?;
+            add_count(text, "", u64::from(*gap), " bytes in the longest gap")
+        }
+        LookResult::Waiting(most, files) => {
+            add_around(text, "note ", name, " ")?;
+            add_count(text, "", *most, " objects at most, ")?;
+            add_count(text, "", *files, " files wait")
+        }
         LookResult::Kept => add_around(text, "look ", name, " empty, kept"),
-        LookResult::KeptMost(going, all) => add_kept_most(text, name, *going, *all),
+        LookResult::KeptMost(going, all) => {
+            add_around(text, "look ", name, " ")?;
+            add_part(text, *going, *all, " objects would go, kept")
+        }
         LookResult::Listed => add_around(text, "look ", name, " listed"),
-        LookResult::OtherImage(other) => add_other_image(text, name, *other),
+        LookResult::OtherImage(other) => {
+            add_around(text, "note ", name, " ")?;
+            add_images(text, *other)
+        }
     }
 }
 
-/// Adds that a command on a name was done.
-fn add_deed_done(
-    text: &mut Vec<u8>,
-    deed: LookStep,
-    name: &[u8],
-    done: Done,
-) -> Result<(), AllocError>
+/// Adds so many of so many, and a text.
+fn add_part(text: &mut Vec<u8>, part: u64, all: u64, back: &str) -> Result<(), AllocError>
     ensures { OnOk result (text.new.items
-        ≡ text.old.items ++ (step_words deed name.now ++ done_words done)) }
+        ≡ text.old.items ++ (decimal part ++ codes " of " ++ decimal all ++ back.now)) }
 {
-    add_deed(text, deed, name)?;
-    add_done(text, done)
-}
-
-/// Adds that a command on a name was refused.
-fn add_deed_refused(
-    text: &mut Vec<u8>,
-    deed: LookStep,
-    name: &[u8],
-    refusal: Refusal,
-    why: &Why,
-) -> Result<(), AllocError>
-    ensures { OnOk result (text.new.items
-        ≡ text.old.items ++ (step_words deed name.now ++ refused_words refusal why.now)) }
-{
-    add_deed(text, deed, name)?;
-    add_refused(text, refusal, why)
-}
-
-/// Adds how many objects go.
-fn add_going(text: &mut Vec<u8>, name: &[u8], unknown: u64, all: u64) -> Result<(), AllocError>
-    ensures { OnOk result (text.new.items ≡ text.old.items ++ (note_words name.now
-        ++ decimal unknown ++ codes " of " ++ decimal all ++ codes " objects go")) }
-{
-    add_around(text, "note ", name, " ")?;
-    add_part(text, unknown, all)?;
-    add(text, " objects go")
-}
-
-/// Adds how many objects would go, and that they are kept.
-fn add_kept_most(text: &mut Vec<u8>, name: &[u8], going: u64, all: u64) -> Result<(), AllocError>
-    ensures { OnOk result (text.new.items ≡ text.old.items ++ (codes "look "
-        ++ shown_name name.now ++ codes " " ++ decimal going ++ codes " of " ++ decimal all
-        ++ codes " objects would go, kept")) }
-{
-    add_around(text, "look ", name, " ")?;
-    add_part(text, going, all)?;
-    add(text, " objects would go, kept")
-}
-
-/// Adds so many of so many.
-fn add_part(text: &mut Vec<u8>, part: u64, all: u64) -> Result<(), AllocError>
-    ensures { OnOk result (text.new.items
-        ≡ text.old.items ++ (decimal part ++ codes " of " ++ decimal all)) }
-{
-    add_number(text, part)?;
-    add(text, " of ")?;
-    add_number(text, all)
-}
-
-/// Adds how many bytes are in the longest gap.
-fn add_gap(text: &mut Vec<u8>, name: &[u8], gap: u32) -> Result<(), AllocError>
-    ensures { OnOk result (text.new.items ≡ text.old.items
-        ++ (note_words name.now ++ decimal gap ++ codes " bytes in the longest gap")) }
-{
-    add_around(text, "note ", name, " ")?;
-    add_number(text, u64::from(gap))?;
-    add(text, " bytes in the longest gap")
-}
-
-/// Adds how many objects are allowed, and how many files wait.
-fn add_waiting(text: &mut Vec<u8>, name: &[u8], most: u64, files: u64) -> Result<(), AllocError>
-    ensures { OnOk result (text.new.items ≡ text.old.items ++ (note_words name.now
-        ++ decimal most ++ codes " objects at most, " ++ decimal files ++ codes " files wait")) }
-{
-    add_around(text, "note ", name, " ")?;
-    add_number(text, most)?;
-    add(text, " objects at most, ")?;
-    add_number(text, files)?;
-    add(text, " files wait")
-}
-
-/// Adds that the bytes of an object are of another image type than its suffix says.
-fn add_other_image(text: &mut Vec<u8>, name: &[u8], other: OtherImage) -> Result<(), AllocError>
-    ensures { OnOk result (text.new.items
-        ≡ text.old.items ++ (note_words name.now ++ image_words other)) }
-{
-    add_around(text, "note ", name, " ")?;
-    add_images(text, other)
+    add_count(text, "", part, " of ")?;
+    add_count(text, "", all, back)
 }
 
 /// Adds which image type an object is by its suffix, and which by its first bytes.
@@ -204,45 +155,8 @@ fn add_image(text: &mut Vec<u8>, image: ImageType) -> Result<(), AllocError>
     }
 }
 
-/// Adds that a file of lines is left, or that their folder can't be read.
-fn add_lines_refused(
-    text: &mut Vec<u8>,
-    name: &[u8],
-    refusal: Refusal,
-    why: &Why,
-) -> Result<(), AllocError>
-    ensures { OnOk result (text.new.items ≡ text.old.items ++ (codes "lines "
-        ++ shown_name name.now ++ codes " " ++ refused_words refusal why.now)) }
-{
-    add_around(text, "lines ", name, " ")?;
-    add_refused(text, refusal, why)
-}
-
-/// Adds what a line of a file was answered.
-fn add_answered(
-    text: &mut Vec<u8>,
-    file: &[u8],
-    number: u64,
-    verb: Option<Verb>,
-    subject: &[u8],
-    reply: &Reply<'_>,
-) -> Result<(), AllocError>
-    ensures { OnOk result (text.new.items ≡ text.old.items ++ (codes "lines "
-        ++ shown_name file.now ++ codes ":" ++ decimal number ++ codes " "
-        ++ verb_words verb ++ subject_words subject.now ++ reply_text reply.now)) }
-{
-    add_around(text, "lines ", file, ":")?;
-    add_number(text, number)?;
-    add(text, " ")?;
-    add_verb(text, verb)?;
-    add_subject(text, subject)?;
-    add_reply(text, reply)
-}
-
 /// Adds the first word of a line, if it is a command.
-fn add_verb(text: &mut Vec<u8>, verb: Option<Verb>) -> Result<(), AllocError>
-    ensures { OnOk result (text.new.items ≡ text.old.items ++ verb_words verb) }
-{
+fn add_verb(text: &mut Vec<u8>, verb: Option<Verb>) -> Result<(), AllocError> {
     let Some(verb) = verb else {
         return Ok(());
     };
@@ -251,9 +165,7 @@ fn add_verb(text: &mut Vec<u8>, verb: Option<Verb>) -> Result<(), AllocError>
 }
 
 /// Adds what a command is about, if that is said.
-fn add_subject(text: &mut Vec<u8>, subject: &[u8]) -> Result<(), AllocError>
-    ensures { OnOk result (text.new.items ≡ text.old.items ++ subject_words subject.now) }
-{
+fn add_subject(text: &mut Vec<u8>, subject: &[u8]) -> Result<(), AllocError> {
     if subject.is_empty() {
         return Ok(());
     }
@@ -261,9 +173,7 @@ fn add_subject(text: &mut Vec<u8>, subject: &[u8]) -> Result<(), AllocError>
 }
 
 /// Adds a line of a reply.
-fn add_reply(text: &mut Vec<u8>, reply: &Reply<'_>) -> Result<(), AllocError>
-    ensures { OnOk result (text.new.items ≡ text.old.items ++ reply_text reply.now) }
-{
+fn add_reply(text: &mut Vec<u8>, reply: &Reply<'_>) -> Result<(), AllocError> {
     match reply {
         Reply::Done(done) => add_done(text, *done),
         Reply::Refused(refusal, why) => add_refused(text, *refusal, why),
@@ -271,44 +181,22 @@ fn add_reply(text: &mut Vec<u8>, reply: &Reply<'_>) -> Result<(), AllocError>
     }
 }
 
-/// Adds that playing began.
-fn add_began(
-    text: &mut Vec<u8>,
-    version: &str,
-    disk: &[u8],
-    objects: u64,
-    packets: Option<u64>,
-) -> Result<(), AllocError>
-    ensures { OnOk result (text.new.items ≡ text.old.items
-        ++ (program_words version.now disk.now ++ sizes_words objects packets)) }
-{
-    add_program(text, version, disk)?;
-    add_sizes(text, objects, packets)
-}
-
 /// Adds which program plays which disk.
-fn add_program(text: &mut Vec<u8>, version: &str, disk: &[u8]) -> Result<(), AllocError>
-    ensures { OnOk result (text.new.items
-        ≡ text.old.items ++ program_words version.now disk.now) }
-{
+fn add_program(text: &mut Vec<u8>, version: &str, disk: &[u8]) -> Result<(), AllocError> {
     add(text, "play: motcar ")?;
     add(text, version)?;
     add_around(text, ", ", disk, ", ")
 }
 
 /// Adds how many objects a disk has, and how many packets a turn.
-fn add_sizes(text: &mut Vec<u8>, objects: u64, packets: Option<u64>) -> Result<(), AllocError>
-    ensures { OnOk result (text.new.items ≡ text.old.items ++ sizes_words objects packets) }
-{
+fn add_sizes(text: &mut Vec<u8>, objects: u64, packets: Option<u64>) -> Result<(), AllocError> {
     add_number(text, objects)?;
     add(text, " objects, ")?;
     add_turn(text, packets)
 }
 
 /// Adds how many packets a turn has, or that there was no memory to count them.
-fn add_turn(text: &mut Vec<u8>, packets: Option<u64>) -> Result<(), AllocError>
-    ensures { OnOk result (text.new.items ≡ text.old.items ++ turn_words packets) }
-{
+fn add_turn(text: &mut Vec<u8>, packets: Option<u64>) -> Result<(), AllocError> {
     match packets {
         Some(packets) => {
             add_number(text, packets)?;
@@ -321,35 +209,11 @@ fn add_turn(text: &mut Vec<u8>, packets: Option<u64>) -> Result<(), AllocError>
     }
 }
 
-/// Adds that playing ended.
-fn add_ended(text: &mut Vec<u8>, turns: u64, packets: u64) -> Result<(), AllocError>
-    ensures { OnOk result (text.new.items ≡ text.old.items ++ (codes "play: ended, "
-        ++ decimal turns ++ codes " turns, " ++ decimal packets ++ codes " packets")) }
-{
-    add(text, "play: ended, ")?;
-    add_number(text, turns)?;
-    add(text, " turns, ")?;
-    add_number(text, packets)?;
-    add(text, " packets")
-}
-
-/// Adds that the status was not written.
-fn add_status_refused(text: &mut Vec<u8>, path: &[u8], reason: &[u8]) -> Result<(), AllocError>
-    ensures { OnOk result (text.new.items ≡ text.old.items ++ (codes "status "
-        ++ shown_name path.now
-        ++ codes " refused " ++ refusal_words WriteFault ++ codes ": " ++ shown_name reason.now)) }
-{
-    add_around(text, "status ", path, " refused ")?;
-    add_refusal(text, Refusal::WriteFault)?;
-    add(text, ": ")?;
-    add_name(text, reason)
-}
-
 /// Adds what was done to a name.
-fn add_deed(text: &mut Vec<u8>, deed: LookStep, name: &[u8]) -> Result<(), AllocError>
-    ensures { OnOk result (text.new.items ≡ text.old.items ++ step_words deed name.now) }
+fn add_step(text: &mut Vec<u8>, step: LookStep, name: &[u8]) -> Result<(), AllocError>
+    ensures { OnOk result (text.new.items ≡ text.old.items ++ step_words step name.now) }
 {
-    add(text, deed.word())?;
+    add(text, step.word())?;
     add_around(text, " ", name, " ")
 }
 
@@ -384,7 +248,7 @@ fn add_refused(text: &mut Vec<u8>, refusal: Refusal, why: &Why) -> Result<(), Al
 }
 
 /// Adds the number of a refusal, its name, and why.
-pub fn add_reason(text: &mut Vec<u8>, refusal: Refusal, why: &Why) -> Result<(), AllocError>
+pub(crate) fn add_reason(text: &mut Vec<u8>, refusal: Refusal, why: &Why) -> Result<(), AllocError>
     ensures { OnOk result (text.new.items ≡ text.old.items ++ reason_words refusal why.now) }
 {
     add_refusal(text, refusal)?;
@@ -392,7 +256,7 @@ pub fn add_reason(text: &mut Vec<u8>, refusal: Refusal, why: &Why) -> Result<(),
 }
 
 /// Adds the number of a refusal and its name.
-pub fn add_refusal(text: &mut Vec<u8>, refusal: Refusal) -> Result<(), AllocError>
+pub(crate) fn add_refusal(text: &mut Vec<u8>, refusal: Refusal) -> Result<(), AllocError>
     ensures { OnOk result (text.new.items ≡ text.old.items ++ refusal_words refusal) }
 {
     add_number(text, u64::from(refusal.number()))?;
@@ -449,7 +313,7 @@ fn add_around(text: &mut Vec<u8>, front: &str, name: &[u8], back: &str) -> Resul
 }
 
 /// Adds a name, which may have any bytes, as a line shows it.
-pub fn add_name(text: &mut Vec<u8>, name: &[u8]) -> Result<(), AllocError>
+pub(crate) fn add_name(text: &mut Vec<u8>, name: &[u8]) -> Result<(), AllocError>
     ensures { OnOk result (text.new.items ≡ text.old.items ++ shown_name name.now) }
 {
     match from_utf8(name) {
@@ -490,17 +354,8 @@ fn ascii_byte(byte: u8) -> u8
     b'?'
 }
 
-/// Adds how many seconds a look took.
-fn add_took(text: &mut Vec<u8>, folder: &[u8], seconds: u64) -> Result<(), AllocError>
-    ensures { OnOk result (text.new.items ≡ text.old.items ++ took_text folder.now seconds) }
-{
-    add_around(text, "look ", folder, " took ")?;
-    add_number(text, seconds)?;
-    add(text, " s")
-}
-
 /// Adds a number.
-pub fn add_number(text: &mut Vec<u8>, number: u64) -> Result<(), AllocError>
+pub(crate) fn add_number(text: &mut Vec<u8>, number: u64) -> Result<(), AllocError>
     ensures { OnOk result (text.new.items ≡ text.old.items ++ decimal number) }
 {
     let mut buffer = Buffer::new();

@@ -12,7 +12,6 @@ use crate::used::UsedDisk;
 use clap::Error;
 use clap::error::ErrorKind;
 use disk_store::Start;
-use mot_log::EventClass;
 use mot_numbers::Refusal;
 use std::alloc::Global;
 use std::io::Write;
@@ -90,7 +89,7 @@ pub fn refuse<S: Start, E: Write>(
 ) -> Exit<S>
     ensures { result ≡ record { status = 1; refusal = Some refusal; disk = disk } }
 {
-    let level = level_of(levels, refusal);
+    let level = level_of(levels);
     let _ = writeln!(errors, "{level}motcar: {refusal}");
     tell(errors, level, subject);
     Exit {
@@ -101,12 +100,8 @@ pub fn refuse<S: Start, E: Write>(
 }
 
 /// What a line about the end of the program begins with.
-fn level_of(levels: bool, refusal: Refusal) -> &'static str
+fn level_of(levels: bool) -> &'static str
     ensures { result.now ≡ (if levels then codes "<3>" else []) }
 {
-    if levels {
-        EventClass::Stop(refusal).level().prefix()
-    } else {
-        ""
-    }
+    if levels { "<3>" } else { "" }
 }

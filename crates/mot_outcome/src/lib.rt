@@ -4,6 +4,7 @@
 
 mod exit;
 mod printing;
+mod range;
 mod reason;
 mod subject;
 mod unfit;

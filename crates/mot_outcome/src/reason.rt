@@ -1,4 +1,5 @@
 //! Why a disk is not opened, or not formatted, in words.
+use crate::range::range_of;
 use mot_journal::{FieldFault, HeadFault, Layout, ListFault, Reason, Size};
 use mot_numbers::Refusal;
 use std::fmt::{self, Display, Formatter};
@@ -9,108 +10,75 @@ pub(crate) struct InWords(pub(crate) Reason);
 
 impl Display for InWords {
     fn fmt<W: fmt::Write>(&self, f: &mut Formatter<W>) -> fmt::Result {
-        let words = words_of(self.0);
-        match self.0.refusal() {
-            Refusal::Damaged(slot) => write!(f, "slot {slot}: {words}"),
-            _ => words.fmt(f),
+        if let Refusal::Damaged(slot) = self.0.refusal() {
+            write!(f, "slot {slot}: ")?;
         }
-    }
-}
-
-/// Words with up to two numbers among them.
-#[derive(Clone, Copy)]
-enum Words {
-    Plain(&'static str),
-    One(&'static str, u64, &'static str),
-    Two(&'static str, u64, &'static str, u64, &'static str),
-}
-
-impl Display for Words {
-    fn fmt<W: fmt::Write>(&self, f: &mut Formatter<W>) -> fmt::Result {
-        match *self {
-            Words::Plain(words) => f.write_str(words),
-            Words::One(before, number, after) => write!(f, "{before}{number}{after}"),
-            Words::Two(before, first, between, second, after) => {
-                write!(f, "{before}{first}{between}{second}{after}")
+        match self.0 {
+            Reason::Head(fault) => write_head(f, fault),
+            Reason::Field { fault, .. } => write_field(f, fault),
+            Reason::List { fault, .. } => write_list(f, fault),
+            Reason::Formatted => f.write_str("it is a motcar disk already"),
+            Reason::Small { len, asked } => {
+                write!(f, "{len} bytes, and the geometry asks for {asked}")
             }
         }
     }
 }
 
-fn words_of(reason: Reason) -> Words {
-    match reason {
-        Reason::Head(fault) => words_of_head(fault),
-        Reason::Field { fault, .. } => words_of_field(fault),
-        Reason::List { fault, .. } => words_of_list(fault),
-        Reason::Formatted => Words::Plain("it is a motcar disk already"),
-        Reason::Small { len, asked } => {
-            Words::Two("", len, " bytes, and the geometry asks for ", asked, "")
-        }
-    }
-}
-
-fn words_of_head(fault: HeadFault) -> Words {
+fn write_head<W: fmt::Write>(f: &mut Formatter<W>, fault: HeadFault) -> fmt::Result {
     match fault {
-        HeadFault::Short { len } => Words::One(
-            "no motcar disk: ",
-            len,
-            " bytes, and the head alone has 64",
+        HeadFault::Short { len } => write!(
+            f,
+            "no motcar disk: {len} bytes, and the head alone has 64"
         ),
-        HeadFault::Foreign => Words::Plain("no motcar disk: it does not begin with MOTCAR01"),
+        HeadFault::Foreign => f.write_str("no motcar disk: it does not begin with MOTCAR01"),
         HeadFault::OutOfRange { size, number } => {
-            let (name, range) = range_of(size);
-            Words::One(name, u64::from(number), range)
+            let option = option_of(size);
+            let range = range_of(option);
+            write!(f, "its head has {option} {number}: {range}")
         }
-        HeadFault::Cut { len, asked } => Words::Two("cut short: ", len, " of ", asked, " bytes"),
+        HeadFault::Cut { len, asked } => write!(f, "cut short: {len} of {asked} bytes"),
     }
 }
 
-/// The words before a number of the geometry, and its range, as that of its option.
-fn range_of(size: Size) -> (&'static str, &'static str) {
+/// The option that gives a number of the geometry.
+fn option_of(size: Size) -> &'static str {
     match size {
-        Size::Objects => ("its head has objects ", ": 1 to 250"),
-        Size::Segment => ("its head has segment ", ": 64 to 8189"),
-        Size::Address => ("its head has address ", ": 1 to 1023"),
-        Size::Packet => ("its head has packet ", ": 24, 48, 72 or 96"),
-        Size::Data => ("its head has data ", ": 1 to 268435456"),
+        Size::Objects => "objects",
+        Size::Segment => "segment",
+        Size::Address => "address",
+        Size::Packet => "packet",
+        Size::Data => "data",
     }
 }
 
-fn words_of_field(fault: FieldFault) -> Words {
+fn write_field<W: fmt::Write>(f: &mut Formatter<W>, fault: FieldFault) -> fmt::Result {
     match fault {
-        FieldFault::Directory => Words::Plain("the directory has transport id 0"),
-        FieldFault::Last => Words::Plain("the transport id that was taken last is 0"),
-        FieldFault::Kind { layout, kind } => Words::One("kind ", u64::from(kind), kinds_of(layout)),
-        FieldFault::Object => Words::Plain("the object has transport id 0"),
+        FieldFault::Directory => f.write_str("the directory has transport id 0"),
+        FieldFault::Last => f.write_str("the transport id that was taken last is 0"),
+        FieldFault::Kind { layout, kind } => {
+            let kinds = kinds_of(layout);
+            write!(f, "kind {kind}: {kinds}")
+        }
+        FieldFault::Object => f.write_str("the object has transport id 0"),
         FieldFault::Content {
             content_type,
             subtype,
-        } => Words::Two(
-            "content type ",
-            u64::from(content_type),
-            ", subtype ",
-            u64::from(subtype),
-            ": at most 63 and 511",
+        } => write!(
+            f,
+            "content type {content_type}, subtype {subtype}: at most 63 and 511"
         ),
-        FieldFault::Length { length } => {
-            Words::One("a body of ", u64::from(length), " bytes: 1 to 262144")
+        FieldFault::Length { length } => write!(f, "a body of {length} bytes: 1 to 262144"),
+        FieldFault::Extent { end, area } => {
+            write!(f, "its body ends at {end}, the data area at {area}")
         }
-        FieldFault::Extent { end, area } => Words::Two(
-            "its body ends at ",
-            end,
-            ", the data area at ",
-            u64::from(area),
-            "",
+        FieldFault::Name { length } => write!(
+            f,
+            "its name of {length} bytes breaks the rule of names"
         ),
-        FieldFault::Name { length } => Words::One(
-            "its name of ",
-            u64::from(length),
-            " bytes breaks the rule of names",
-        ),
-        FieldFault::Mime { length } => Words::One(
-            "its MIME type of ",
-            u64::from(length),
-            " bytes breaks the rule of MIME types",
+        FieldFault::Mime { length } => write!(
+            f,
+            "its MIME type of {length} bytes breaks the rule of MIME types"
         ),
     }
 }
@@ -118,24 +86,27 @@ fn words_of_field(fault: FieldFault) -> Words {
 /// The kinds of records that a layout has.
 fn kinds_of(layout: Layout) -> &'static str {
     match layout {
-        Layout::One => ": layout 1 has 1 to 3",
-        Layout::Two => ": layout 2 has 17 to 19",
+        Layout::One => "layout 1 has 1 to 3",
+        Layout::Two => "layout 2 has 17 to 19",
     }
 }
 
-fn words_of_list(fault: ListFault) -> Words {
-    let (before, number, after) = match fault {
-        ListFault::Missing { id } => ("it removes transport id ", id, ", which no object has"),
-        ListFault::TooMany { limit } => ("it sets one object more than ", limit, ""),
-        ListFault::SameId { id } => ("transport id ", id, " is that of another object, too"),
-        ListFault::DirectoryId { id } => {
-            ("the directory's transport id ", id, " is that of an object")
+fn write_list<W: fmt::Write>(f: &mut Formatter<W>, fault: ListFault) -> fmt::Result {
+    match fault {
+        ListFault::Missing { id } => {
+            write!(f, "it removes transport id {id}, which no object has")
         }
-        ListFault::Meets { id } => (
-            "the body of transport id ",
-            id,
-            " meets that of another object",
+        ListFault::TooMany { limit } => write!(f, "it sets one object more than {limit}"),
+        ListFault::SameId { id } => {
+            write!(f, "transport id {id} is that of another object, too")
+        }
+        ListFault::DirectoryId { id } => write!(
+            f,
+            "the directory's transport id {id} is that of an object"
         ),
-    };
-    Words::One(before, u64::from(number), after)
+        ListFault::Meets { id } => write!(
+            f,
+            "the body of transport id {id} meets that of another object"
+        ),
+    }
 }

@@ -3,6 +3,7 @@
 ghost use Rattle.std.specs.Prelude.{◌≡◌, ◌⊎◌, codes};
 ghost use Rattle.std.specs.declared.io.ErrorKind.TheVariants.{QuotaExceeded, StorageFull};
 
+use crate::range::number_out_of_range;
 use crate::reason::InWords;
 use clap::ArgMatches;
 use disk_store::OpenFault;
@@ -42,21 +43,6 @@ pub enum Subject<'a> {
     },
 }
 
-/// The numbers that an option takes: from the least to the most, the multiples of a step; and how
-/// they are told.
-type Range = (&'static str, u32, u32, u32, &'static str);
-
-const RANGES: [Range; 8] = [
-    ("objects", 1, 250, 1, "1 to 250"),
-    ("data", 1, 268_435_456, 1, "1 to 268435456"),
-    ("segment", 64, 8_189, 1, "64 to 8189"),
-    ("address", 1, 1_023, 1, "1 to 1023"),
-    ("packet", 24, 96, 24, "24, 48, 72 or 96"),
-    ("after", 0, 65_535, 1, "0 to 65535"),
-    ("rate", 8, 1_824, 8, "a multiple of 8, 8 to 1824"),
-    ("max-age", 1, 86_400, 1, "1 to 86400"),
-];
-
 /// What this refusal of a command with these words is about. Of a disk the reason is told by the path
 /// that this word names.
 pub fn subject_of<'a>(
@@ -77,7 +63,7 @@ pub fn subject_of<'a>(
             None => Subject::Nothing,
         },
         None if refusal == Refusal::BadGeometry || refusal == Refusal::BadNumber => {
-            number_in(words)
+            number_out_of_range(words)
         }
         None => Subject::Nothing,
     }
@@ -92,30 +78,6 @@ fn word_of_cause(cause: Cause) -> &'static str {
         Cause::Folder(_) => "folder",
         Cause::Lines(_) => "lines",
         Cause::Packets(_) | Cause::NewFile(_) => "PACKETS",
-    }
-}
-
-/// The first option that has a number out of its range.
-fn number_in<'a>(words: &ArgMatches<'a>) -> Subject<'a> {
-    for (option, least, most, step, range) in RANGES {
-        if let Some(number) = words.get_str(option)
-            && !is_within(number, least, most, step)
-        {
-            return Subject::Number {
-                option,
-                number,
-                range,
-            };
-        }
-    }
-    Subject::Nothing
-}
-
-/// Whether the text is a number from the least to the most, and a multiple of the step.
-fn is_within(text: &str, least: u32, most: u32, step: u32) -> bool {
-    match text.parse::<u32>() {
-        Ok(number) => number >= least && number <= most && number.is_multiple_of(step),
-        Err(_) => false,
     }
 }
 
@@ -189,7 +151,7 @@ fn hint_of(cause: Cause) -> &'static str {
 fn hint_of_new(fault: NewDiskFault) -> &'static str {
     match fault {
         NewDiskFault::Disk(OpenFault::InUse) => {
-            "; choose another name than the old disk's, or end that program first"
+            "; if it is the old disk itself, choose another name; else end that program first"
         }
         NewDiskFault::Disk(fault) => hint_of_fault(fault),
         NewDiskFault::Device(found) => hint_of_use(found),

@@ -1,49 +1,27 @@
 -- All packets of a player have its address.
-use Rattle.std.proofs.Common.{◌≡◌, ℕ, List, [], ◌∷◌, Bool, true, Option, Some, None, refl, sym}
+use Rattle.std.proofs.Common.{arith, ◌≡◌, ℕ, List, [], ◌∷◌, Bool, true, Option, Some, refl, sym}
 use Rattle.std.proofs.Common.{subst, ap, ◌∙◌, eq-eqb}
-use Rattle.std.proofs.lemmas.Bool.{and_parts, eqb-true}
-use Rattle.std.proofs.lemmas.Option.{none-some, same_Some}
 use Rattle.std.specs.Prelude.{◌==◌}
 use Rattle.std.specs.List.{list_all}
 use Rattle.mot_packets.specs.Gather.{have_one_address}
 use Rattle.mot_packets.specs.Packet.{PacketFields}
-use Rattle.mot_groups.specs.Group.{Segment, GroupFields, bytes_of_group}
-use Rattle.mot_player.specs.Place.{UnderWay, Place, Sent, Step, Request, NewTurn, Directory}
-use Rattle.mot_player.specs.Place.{Follow, group_for, hear_directory, follow}
-use Rattle.mot_player.specs.Place.{with_begun, packet_sent, first_sent, to_send, next_sent, request}
-use Rattle.mot_player.specs.Place.{change_turn, sent_by}
+use Rattle.mot_player.specs.Place.{UnderWay, Place, Sent, Step, Request, NewTurn, Directory, Follow}
+use Rattle.mot_player.specs.Place.{hear_directory, follow, next_sent, request, change_turn, sent_by}
 use Rattle.mot_player.proofs.Requests.{FirstRequest, first_request, no_steps, packets_of}
 
 -- packets that all have a certain address have one address
 pub one_address : (address : ℕ) (packets : List PacketFields) →
     list_all (λ (q : PacketFields). q.address == address) packets ≡ true
     → have_one_address packets ≡ true
-one_address address [] e = refl
-one_address address (p ∷ packets) e =
-    let parts = and_parts (p.address == address)
-    (list_all (λ (q : PacketFields). q.address == address) packets) e in
-    ap (λ a. list_all (λ (q : PacketFields). q.address == a) packets)
-    (eqb-true p.address address parts.0) ∙ parts.1
+one_address address packets e = grind arith
 
 -- a request sends a packet with the address, and keeps it
 abbrev KeepsAddress : ℕ → Sent → Type 0
 KeepsAddress address s = (s.packet.address ≡ address) × (s.place.address ≡ address)
 
-first-address : (place : Place) (segments : List Segment) (s : Sent)
-    → first_sent place segments ≡ Some s →
-    KeepsAddress place.address s
-first-address place [] s e = absurd (none-some s e)
-first-address place (t ∷ segments) s e =
-    let group : GroupFields = group_for place t in
-    let first : Sent = packet_sent (with_begun place group segments) (bytes_of_group group) 0 in
-    subst (KeepsAddress place.address) (same_Some first s e) (refl, refl)
-
 next-address : (place : Place) (u : Option UnderWay) (s : Sent) → next_sent place u ≡ Some s
     → KeepsAddress place.address s
-next-address place None s e = first-address place (to_send place) s e
-next-address place (Some u) s e =
-    let first : Sent = packet_sent place u.group u.sent in
-    subst (KeepsAddress place.address) (same_Some first s e) (refl, refl)
+next-address place u s e = grind arith
 
 all-cons : (p : PacketFields → Bool) (x : PacketFields) (xs : List PacketFields) → p x ≡ true
     → list_all p xs ≡ true →

@@ -1,10 +1,9 @@
 -- What begins a group and what sends a packet of it answer a request together.
-use Rattle.std.proofs.Common.{◌≡◌, length, ℕ, ◌<◌, List, Bool, true, false, arith, Some, None, refl}
-use Rattle.std.proofs.Common.{sym, ap, ◌∙◌, subst, eq-eqb}
-use Rattle.std.proofs.lemmas.Bool.{eqb-false, ne_eqb}
-use Rattle.std.specs.Prelude.{◌==◌, if◌then◌else◌, IfSome, ◌++◌}
+use Rattle.std.proofs.Common.{◌≡◌, length, ℕ, ◌<◌, List, Bool, arith, Some, None, refl, ap, ◌∙◌}
+use Rattle.std.proofs.Common.{eq-eqb}
+use Rattle.std.proofs.lemmas.Bool.{ne_eqb}
+use Rattle.std.specs.Prelude.{◌==◌, if◌then◌else◌, IfSome}
 use Rattle.mot_groups.specs.Group.{GroupFields, bytes_of_group}
-use Rattle.mot_numbers.specs.Reading.{is_empty}
 use Rattle.mot_packets.specs.Packet.{read_packet}
 use Rattle.mot_packets.specs.Written.{bytes_of_packet}
 use Rattle.mot_numbers.proofs.Laws.{room_of-some}
@@ -12,7 +11,7 @@ use Rattle.mot_player.specs.declared.state.State.{State}
 use Rattle.mot_player.specs.declared.groups.LastGroup.{LastGroup}
 use Rattle.mot_player.specs.LastGroup.{kept_last}
 use Rattle.mot_player.specs.Laws.{IsPlace, IsStep}
-use Rattle.mot_player.specs.PlayerView.{AreBodiesFor, PlayerView, TurnPlan, place_of}
+use Rattle.mot_player.specs.PlayerView.{AreBodiesFor, PlayerView, place_of}
 use Rattle.mot_player.specs.Place.{Last, Place, Sent, UnderWay, first_sent, group_for, next_sent}
 use Rattle.mot_player.specs.Place.{packet_sent, request, with_begun}
 use Rattle.mot_player.specs.Inner.Ready.{HasBegun, IsFitted, IsReady, place_with}
@@ -75,24 +74,16 @@ answers-begun old state bodies packet ends new none none_sent begun b r e p =
       place = p ∙ ap (λ (x : Sent). x.place) same;
     }
 
-index-cases : (none : Bool) (index : ℕ) (content : List ℕ) → index < 16 →
-    IfSome (if none then None else Some (record { index = index; content = content }))
-    (λ (l : Last). l.index < 16)
-index-cases true index content l = tt
-index-cases false index content l = l
-
 -- from the places of a state that is fitted every group can be sent
 index-fits : (last : LastGroup) → IfSome (kept_last last) (λ (l : Last). l.index < 16)
-index-fits last = index-cases (is_empty last.segment.items) last.index
-    (last.front ++ last.segment.items) last.in_range
+index-fits last = grind arith
 
 -- of a group under way bytes are left
 under_way-left : (state : State) (none : Bool) → (state.sent == 0) ≡ none →
     (0 < state.sent → state.sent < length state.group.items) →
     IfSome (if none then None else Some (record { group = state.group.items; sent = state.sent }))
     (λ (u : UnderWay). u.sent < length u.group)
-under_way-left state true e left = tt
-under_way-left state false e left = left (omega (arith, eqb-false state.sent 0 e))
+under_way-left state none e left = grind arith
 
 pub is_place : (state : State) (bodies : List (List ℕ)) → IsReady state
     → AreBodiesFor state.turn bodies →
@@ -113,8 +104,4 @@ is_place state bodies ready e =
 pub place_is : (standing : PlayerView) (state : State) → view_of state ≡ standing → IsReady state →
     (bodies : List (List ℕ)) → AreBodiesFor standing.turn bodies
     → IsPlace (place_of standing bodies)
-place_is standing state e f bodies b =
-    subst (λ (s : PlayerView). IsPlace (place_of s bodies)) e
-    (is_place state bodies f
-    (subst (λ (t : TurnPlan). AreBodiesFor t bodies) (sym (ap (λ (s : PlayerView). s.turn) e))
-    b))
+place_is standing state e f bodies b = grind (arith, is_place)

@@ -1,10 +1,9 @@
 -- Where a player stands behind whatever steps, and that a turn begins where one has ended.
-use Rattle.std.proofs.Common.{◌≡◌, ℕ, ◌<◌, ◌≤◌, Bool, true, false, not, List, [], ◌∷◌, ◌++◌, Option}
-use Rattle.std.proofs.Common.{Some, None, ◌⊎◌, inl, inr, refl, sym, subst, ap, ◌∙◌, ◌+◌, length}
+use Rattle.std.proofs.Common.{arith, ◌≡◌, ℕ, ◌<◌, ◌≤◌, Bool, true, false, not, List, [], ◌∷◌, ◌++◌}
+use Rattle.std.proofs.Common.{Option, Some, None, ◌⊎◌, refl, sym, subst, ◌+◌}
 use Rattle.std.proofs.lemmas.List.Elements.{filter-append}
 use Rattle.std.proofs.lemmas.Option.{none-some, same_Some}
-use Rattle.std.specs.Prelude.{◌&&◌, ◌||◌, ◌==◌, IfSome, if◌then◌else◌, is_some}
-use Rattle.mot_groups.specs.Entity.{pieces}
+use Rattle.std.specs.Prelude.{◌||◌, if◌then◌else◌, is_some}
 use Rattle.mot_groups.specs.Group.{GroupFields, Segment, bytes_of_group}
 use Rattle.mot_numbers.specs.Reading.{is_empty}
 use Rattle.mot_numbers.specs.declared.numbers.TheConstants.{MAX_SEGMENT}
@@ -13,7 +12,7 @@ use Rattle.mot_player.specs.Place.{Place, Sent, UnderWay, change_turn, changed}
 use Rattle.mot_player.specs.Place.{directory_segments, first_sent, follow, group_for}
 use Rattle.mot_player.specs.Place.{hear_directory, next_sent, of_bodies, opened_place, packet_sent}
 use Rattle.mot_player.specs.Place.{request, to_send, with_begun}
-use Rattle.mot_player.specs.Turn.{IsPlayable, Turn, segments_of_bodies, segments_of_turn}
+use Rattle.mot_player.specs.Turn.{IsPlayable, Turn, segments_of_turn}
 use Rattle.mot_player.proofs.Repeated.{of_bodies-all}
 use Rattle.mot_player.proofs.TurnOnce.{bodies-bodies}
 use Rattle.mot_player.proofs.WholeTurn.{KeepsIndexes, begun-keeps}
@@ -48,26 +47,7 @@ not_yet e = absurd (let f : false ≡ true = e in cc)
 pub stands-opened : (address room size : ℕ) (turn : Turn) (follows : Option ℕ) → 0 < room →
     StandsAt (is_some follows) true true size turn
     (record (opened_place address room size turn) { follows = follows })
-stands-opened address room size turn follows some = record {
-  room = some;
-  size_is = refl;
-  follows_is = refl;
-  turn_is = refl;
-  keeps = record { directory = tt; body = tt };
-  between_is = refl;
-  next = λ e. inl refl;
-}
-
-behind-between : (group : List ℕ) (at : ℕ) (last : Bool) →
-    is_between (if last then None else Some (record { group = group; sent = at })) ≡ last
-behind-between group at true = refl
-behind-between group at false = refl
-
-ended-none : (last : Bool) (waiting : List Segment) → (last && is_empty waiting) ≡ true →
-    waiting ≡ []
-ended-none true [] e = refl
-ended-none true (s ∷ waiting) e = not_yet e
-ended-none false waiting e = not_yet e
+stands-opened address room size turn follows some = grind arith
 
 -- the next packet of a group
 module _ (follows whole : Bool) (size : ℕ) (turn : Turn) (place : Place) (group : List ℕ) (at : ℕ)
@@ -80,19 +60,10 @@ module _ (follows whole : Bool) (size : ℕ) (turn : Turn) (place : Place) (grou
 
   next-cases : (b : Bool) → (b ≡ true → IsNext place) → (b || sent.ends_turn) ≡ true →
       IsNext sent.place
-  next-cases true n e = n refl
-  next-cases false n e = inl (ended-none sent.packet.last place.waiting e)
+  next-cases b n e = grind arith
 
   packet-stands : StandsAt follows sent.packet.last (whole || sent.ends_turn) size turn sent.place
-  packet-stands = record {
-    room = some;
-    size_is = same;
-    follows_is = is;
-    turn_is = turn_is;
-    keeps = record { directory = keeps.directory; body = keeps.body };
-    between_is = behind-between group (at + place.room) sent.packet.last;
-    next = next-cases whole next;
-  }
+  packet-stands = grind arith
 
 first-stands : (follows between whole : Bool) (size : ℕ) (turn : Turn) (place : Place)
     (segments : List Segment) (s : Sent) → StandsAt follows between whole size turn place →
@@ -137,29 +108,13 @@ followed-stands : (between whole : Bool) (size : ℕ) (old : Turn) (place : Plac
     StandsAt true between whole size old place →
     StandsAt true between false size turn (follow turn place)
 unfolding follow
-followed-stands between whole size old place turn st = record {
-  room = st.room;
-  size_is = st.size_is;
-  follows_is = st.follows_is;
-  turn_is = refl;
-  keeps = record { directory = st.keeps.directory; body = st.keeps.body };
-  between_is = st.between_is;
-  next = not_yet;
-}
+followed-stands between whole size old place turn st = grind arith
 
 anew-stands : (between whole : Bool) (size : ℕ) (old : Turn) (place : Place) (turn : Turn) →
     StandsAt false between whole size old place →
     StandsAt false between true size turn (change_turn turn place)
 unfolding change_turn
-anew-stands between whole size old place turn st = record {
-  room = st.room;
-  size_is = st.size_is;
-  follows_is = st.follows_is;
-  turn_is = refl;
-  keeps = record { directory = st.keeps.directory; body = st.keeps.body };
-  between_is = st.between_is;
-  next = λ e. inr refl;
-}
+anew-stands between whole size old place turn st = grind arith
 
 changed-cases : (b follows between whole : Bool) (size : ℕ) (old : Turn) (place : Place)
     (turn : Turn) → b ≡ follows → StandsAt follows between whole size old place →
@@ -184,13 +139,7 @@ whole-heard : (turn : Turn) (size : ℕ) →
     directory_segments turn size ++ of_bodies (segments_of_turn turn size)
     ≡ segments_of_turn turn size
 whole-heard turn size =
-    let test : Segment → Bool = λ (s : Segment). s.kind == 4 in
-    let directory : List Segment = directory_segments turn size in
-    let bodies : List Segment = segments_of_bodies size turn.bodies in
-    ap (λ ss. directory ++ ss)
-    (filter-append test directory bodies
-    ∙ ap (λ ss. ss ++ of_bodies bodies) (of_bodies-directory turn.tid 0 (pieces size turn.directory))
-    ∙ of_bodies-all bodies (bodies-bodies size turn.bodies))
+    grind (arith, filter-append, of_bodies-directory, of_bodies-all, bodies-bodies)
 
 heard-begins : (place : Place) (b : Bool) → (place.waiting ≡ [])
     ⊎ (place.waiting ≡ segments_of_turn place.turn place.segment_size) →
@@ -200,11 +149,7 @@ heard-begins : (place : Place) (b : Bool) → (place.waiting ≡ [])
     ⊎ ((if b then []
     else directory_segments place.turn place.segment_size ++ of_bodies place.waiting)
     ≡ segments_of_turn place.turn place.segment_size)
-heard-begins place true w e = inl refl
-heard-begins place false (inl w) e = not_yet (sym e ∙ ap (λ (ss : List Segment). is_empty ss) w)
-heard-begins place false (inr w) e =
-    inr (ap (λ ss. directory_segments place.turn place.segment_size ++ of_bodies ss) w
-    ∙ whole-heard place.turn place.segment_size)
+heard-begins place b w e = grind (arith, not_yet, whole-heard)
 
 -- the directory was asked for
 pub stands-heard : (follows between whole : Bool) (size : ℕ) (turn : Turn) (place : Place) →
@@ -221,26 +166,8 @@ stands-heard follows between whole size turn place st = record {
   next = λ e. heard-begins place (is_empty place.waiting) (st.next e) refl;
 }
 
-none-between : (u : Option UnderWay) → is_between u ≡ true → u ≡ None
-none-between None e = refl
-none-between (Some u) e = not_yet e
-
 -- where a turn begins, every group can be sent
 pub place-begins : (follows : Bool) (size : ℕ) (turn : Turn) (place : Place) →
     StandsAt follows true true size turn place → (0 < size) × (size ≤ MAX_SEGMENT) →
     IsPlayable turn size → IsPlace place × IsAtTurnsBeginning place
-place-begins follows size turn place st range playable =
-    let none : place.under_way ≡ None = none-between place.under_way st.between_is in
-    let same : size ≡ place.segment_size = sym st.size_is in (
-      record {
-        room = st.room;
-        size = subst (λ n. (0 < n) × (n ≤ MAX_SEGMENT)) same range;
-        directory = st.keeps.directory;
-        body = st.keeps.body;
-        playable = subst (λ (t : Turn). IsPlayable t place.segment_size) (sym st.turn_is)
-            (subst (IsPlayable turn) same playable);
-        under_way = subst (λ (u : Option UnderWay).
-            IfSome u (λ (w : UnderWay). w.sent < length w.group)) (sym none) tt;
-      },
-      record { under_way = none; waiting = st.next refl },
-    )
+place-begins follows size turn place st range playable = grind arith

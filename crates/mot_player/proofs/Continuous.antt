@@ -20,11 +20,10 @@ use Rattle.mot_player.specs.Continuity.{kind_of, group_index, contents, changes,
 use Rattle.mot_player.specs.Continuity.{IsContinuous, indexes_after, packet_index, packet_indexes_from}
 use Rattle.mot_player.specs.Laws.{AreSent, StepsAreContinuous}
 use Rattle.mot_player.specs.Place.{Last, UnderWay, Place, Sent, Step, Request, NewTurn, Directory}
-use Rattle.mot_player.specs.Place.{Change, Follow, change_between, early_after}
-use Rattle.mot_player.specs.Place.{next_index, hear_directory, follow, directory_segments}
-use Rattle.mot_player.specs.Place.{of_bodies}
-use Rattle.mot_player.specs.Place.{group_for, with_begun, packet_sent, first_sent, to_send}
-use Rattle.mot_player.specs.Place.{next_sent, request, change_turn, sent_by, opened_place}
+use Rattle.mot_player.specs.Place.{Change, Follow, change_between, early_after, next_index}
+use Rattle.mot_player.specs.Place.{hear_directory, follow, directory_segments, of_bodies, group_for}
+use Rattle.mot_player.specs.Place.{with_begun, packet_sent, first_sent, to_send, next_sent, request}
+use Rattle.mot_player.specs.Place.{change_turn, sent_by, opened_place}
 use Rattle.mot_player.specs.Turn.{Turn, segments_of_turn, segments_of_bodies}
 use Rattle.mot_player.proofs.Followed.{AreBodies, bodies-early_after, bodies-renewed, renewed}
 use Rattle.mot_player.proofs.Indexes.{IsLast, IsLast-next, contents-append, kind_of-group}
@@ -59,13 +58,11 @@ AreKinds-bodies size (b ∷ bodies) =
 kinds-of_cases : (b : Bool) (xs ys : List Segment) → AllByRecursion IsKind xs
     → AllByRecursion IsKind ys →
     AllByRecursion IsKind (if b then xs else ys)
-kinds-of_cases true xs ys p q = p
-kinds-of_cases false xs ys p q = q
+kinds-of_cases b xs ys p q = grind arith
 
 kept-kinds : (b : Bool) (x : Segment) (xs : List Segment) → IsKind x →
     AllByRecursion IsKind xs → AllByRecursion IsKind (if b then x ∷ xs else xs)
-kept-kinds true x xs k ks = (k, ks)
-kept-kinds false x xs k ks = ks
+kept-kinds b x xs k ks = grind arith
 
 -- each segment of a turn is of one of the two types
 pub AreKinds-turn : (turn : Turn) (size : ℕ) → AllByRecursion IsKind (segments_of_turn turn size)
@@ -85,9 +82,7 @@ AreKinds-filter p (x ∷ xs) k =
 -- of a place whose waiting segments are, so are those that it sends
 pub AreKinds-to_send : (place : Place) → AllByRecursion IsKind place.waiting →
     AllByRecursion IsKind (to_send place)
-AreKinds-to_send place k =
-    kinds-of_cases (is_empty place.waiting) (segments_of_turn place.turn place.segment_size)
-    place.waiting (AreKinds-turn place.turn place.segment_size) k
+AreKinds-to_send place k = grind (arith, kinds-of_cases, AreKinds-turn)
 
 -- and those of bodies
 AreKinds-of_bodies : (xs : List Segment) → AreBodies xs → AllByRecursion IsKind xs
@@ -262,13 +257,11 @@ contents-one kind g k = rw (kind_of-group g k) (contents-test g (g.segment.kind 
 
 one_type : (s : Segment) → IsKind s → (xs ys : List (List ℕ)) →
     (if s.kind == 4 then xs else ys) ≡ (if s.kind == 6 then ys else xs)
-one_type s (inl six) xs ys = rw six refl
-one_type s (inr four) xs ys = rw four refl
+one_type s h1 xs ys = grind arith
 
 -- each of the two types fits in four bits
 pub kind-fits : (s : Segment) → IsKind s → s.kind < 16
-kind-fits s (inl six) = omega arith
-kind-fits s (inr four) = omega arith
+kind-fits s h1 = grind arith
 
 -- the index of a group that begins
 group-index : (before : List (List ℕ)) (g : GroupFields) (kind : ℕ) (last : Option Last)
@@ -294,17 +287,13 @@ contents-directory : (before : List (List ℕ)) (g : GroupFields) → IsKind g.s
     contents 6 (before ++ bytes_of_group g ∷ [])
     ≡ contents 6 before ++ (if g.segment.kind == 6 then segment_content g.segment ∷ [] else [])
 contents-directory before g k =
-    contents-append 6 before (bytes_of_group g ∷ [])
-    ∙ ap (λ cs. contents 6 before ++ cs) (contents-one 6 g (kind-fits g.segment k))
+    grind (arith, contents-append, contents-one, kind-fits)
 
 contents-body : (before : List (List ℕ)) (g : GroupFields) → IsKind g.segment →
     contents 4 (before ++ bytes_of_group g ∷ [])
     ≡ contents 4 before ++ (if g.segment.kind == 6 then [] else segment_content g.segment ∷ [])
 contents-body before g k =
-    contents-append 4 before (bytes_of_group g ∷ [])
-    ∙ ap (λ cs. contents 4 before ++ cs)
-    (contents-one 4 g (kind-fits g.segment k)
-    ∙ one_type g.segment k (segment_content g.segment ∷ []) [])
+    grind (arith, contents-append, contents-one, kind-fits, one_type)
 
 index-of_begun : (before : List (List ℕ)) (place : Place) (s : Segment) → IsKind s →
     IsLast place.last_directory (contents 6 before) → IsLast place.last_body (contents 4 before) →

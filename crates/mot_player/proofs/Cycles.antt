@@ -1,10 +1,9 @@
 -- Contents that come sixteen times change by a multiple of sixteen, so groups that are sent round
 -- and round keep their indexes.
-use Rattle.std.proofs.Common.{◌≡◌, ℕ, zero, suc, ◌+◌, ◌%◌, List, [], ◌∷◌, ◌++◌, Bool, refl}
-use Rattle.std.proofs.Common.{sym, ap, ◌∙◌, map, length, arith, append_assoc, append-nil, eq-eqb}
-use Rattle.std.proofs.Common.{add-zero}
+use Rattle.std.proofs.Common.{◌≡◌, ℕ, zero, suc, ◌+◌, ◌%◌, List, [], ◌∷◌, ◌++◌, refl, sym, ap, ◌∙◌}
+use Rattle.std.proofs.Common.{map, length, arith, append_assoc, append-nil, add-zero}
 use Rattle.std.proofs.lemmas.List.{map-append}
-use Rattle.std.specs.Prelude.{if◌then◌else◌, slice_index_or}
+use Rattle.std.specs.Prelude.{slice_index_or}
 use Rattle.mot_groups.specs.Group.{content_of}
 use Rattle.mot_player.specs.Continuity.{changes, contents, index_after, group_index, indexes_after}
 use Rattle.mot_player.specs.Continuity.{kind_of}
@@ -86,9 +85,7 @@ contents-rounds kind (suc n) groups =
 
 -- a group's own content is the last of its type
 contents-own : (group : List ℕ) → contents (kind_of group) (group ∷ []) ≡ content_of group ∷ []
-contents-own group =
-    ap (λ (b : Bool). map content_of (if b then group ∷ [] else []))
-    (eq-eqb (kind_of group) (kind_of group) refl)
+contents-own group = grind arith
 
 -- what two lists begin with that have a front and an element in common
 heads : (front : List (List ℕ)) (x : List ℕ) (behind : List (List ℕ)) →
@@ -154,11 +151,7 @@ indexes-append : (before groups more : List (List ℕ)) →
 indexes-append before [] more =
     ap (λ (l : List (List ℕ)). indexes_after l more) (sym (append-nil before))
 indexes-append before (group ∷ groups) more =
-    ap (λ (l : List ℕ). index_after before group ∷ l)
-    (indexes-append (before ++ group ∷ []) groups more
-    ∙ ap (λ (l : List (List ℕ)).
-    indexes_after (before ++ group ∷ []) groups ++ indexes_after l more)
-    (append_assoc before (group ∷ []) groups))
+    grind (arith, indexes-append (before ++ group ∷ []) groups more, append_assoc)
 
 round-behind : (n : ℕ) (groups : List (List ℕ)) →
     rounds_of n groups ++ groups ≡ rounds_of (suc n) groups

@@ -1,8 +1,6 @@
 -- What the code finds that changed of a turn's bodies.
-use Rattle.std.proofs.Common.{◌≡◌, ℕ, suc, zero, ◌+◌, ◌<◌, List, [], ◌∷◌, length, drop, refl}
-use Rattle.std.proofs.Common.{sym, ap, ◌∙◌, arith, Bool, true, false, Option, Some, None, nat_eq}
-use Rattle.std.proofs.Common.{eq-eqb}
-use Rattle.std.proofs.lemmas.Bool.{eqb-true, eqb-false, ne_eqb}
+use Rattle.std.proofs.Common.{◌≡◌, ℕ, suc, zero, ◌+◌, ◌<◌, List, [], ◌∷◌, length, drop, refl, sym}
+use Rattle.std.proofs.Common.{ap, ◌∙◌, arith, Bool, true, false, Option, Some, None, nat_eq}
 use Rattle.std.proofs.lemmas.List.{length-map}
 use Rattle.std.specs.Prelude.{◌&&◌, if◌then◌else◌}
 use Rattle.mot_player.specs.Inner.Difference.{added, alike, are_alike, difference_from}
@@ -16,16 +14,11 @@ pub alike-none : (os : List BodyPlan) → alike os [] ≡ 0
 alike-none [] = refl
 alike-none (o ∷ os) = refl
 
-suc-cases : (a b : ℕ) (t : Bool) → nat_eq a b ≡ t → nat_eq (suc a) (suc b) ≡ t
-suc-cases a b true e = eq-eqb (suc a) (suc b) (ap suc (eqb-true a b e))
-suc-cases a b false e = ne_eqb (suc a) (suc b) (λ h. eqb-false a b e (omega (arith, h)))
-
 -- all of the bodies are alike where as many begin alike as there are
 all-cases : (o n : BodyPlan) (os ns : List BodyPlan) (b : Bool) →
     nat_eq (alike os ns) (length os) ≡ are_alike os ns →
     nat_eq (if b then suc (alike os ns) else 0) (suc (length os)) ≡ (b && are_alike os ns)
-all-cases o n os ns true h = suc-cases (alike os ns) (length os) (are_alike os ns) h
-all-cases o n os ns false h = ne_eqb 0 (suc (length os)) (λ e. omega (arith, e))
+all-cases o n os ns b h = grind arith
 
 pub all-alike : (os ns : List BodyPlan) → length os ≡ length ns →
     nat_eq (alike os ns) (length os) ≡ are_alike os ns
@@ -36,8 +29,7 @@ all-alike (o ∷ os) (n ∷ ns) e =
     all-cases o n os ns (is_same o n) (all-alike os ns (omega (arith, e)))
 
 other-cases : (b c : Bool) → c ≡ false → (b && c) ≡ false
-other-cases true c e = e
-other-cases false c e = refl
+other-cases b c e = grind arith
 
 pub other-length : (os ns : List BodyPlan) → (length os ≡ length ns → ⊥) → are_alike os ns ≡ false
 other-length [] [] e = absurd (e refl)
@@ -51,8 +43,7 @@ ends-cases : (o n : BodyPlan) (os ns : List BodyPlan) (b : Bool) → is_same o n
     alike (drop (alike os ns) os) (drop (alike os ns) ns) ≡ 0 →
     alike (drop (if b then suc (alike os ns) else 0) (o ∷ os))
     (drop (if b then suc (alike os ns) else 0) (n ∷ ns)) ≡ 0
-ends-cases o n os ns true e h = h
-ends-cases o n os ns false e h = rw e refl
+ends-cases o n os ns b e h = grind arith
 
 alike-ends : (os ns : List BodyPlan) → alike (drop (alike os ns) os) (drop (alike os ns) ns) ≡ 0
 alike-ends [] ns = refl
@@ -63,19 +54,13 @@ abbrev from-behind : ℕ → ℕ → List BodyPlan → List BodyPlan → Option 
 from-behind n at os ns = difference_from (n + at) (drop at os) (drop at ns)
 
 none-behind : (n : ℕ) (os ns : List BodyPlan) → difference_from n os ns ≡ from-behind n 0 os ns
-none-behind n os ns =
-    let none : n ≡ n + 0 = omega arith in ap (λ (k : ℕ). difference_from k os ns) none
+none-behind n os ns = grind arith
 
 behind-cases : (n : ℕ) (o m : BodyPlan) (os ns : List BodyPlan) (b : Bool) → is_same o m ≡ b →
     difference_from (n + 1) os ns ≡ from-behind (n + 1) (alike os ns) os ns →
     difference_from n (o ∷ os) (m ∷ ns)
     ≡ from-behind n (if b then suc (alike os ns) else 0) (o ∷ os) (m ∷ ns)
-behind-cases n o m os ns true e h =
-    let k : ℕ = alike os ns in
-    let one : n + 1 + k ≡ n + suc k = omega arith in
-    ap (λ (t : Bool). if t then difference_from (n + 1) os ns else difference_here n os (m ∷ ns)) e
-    ∙ h ∙ ap (λ (j : ℕ). difference_from j (drop k os) (drop k ns)) one
-behind-cases n o m os ns false e h = none-behind n (o ∷ os) (m ∷ ns)
+behind-cases n o m os ns b e h = grind arith
 
 from-alike : (n : ℕ) (os ns : List BodyPlan) →
     difference_from n os ns ≡ from-behind n (alike os ns) os ns
@@ -83,18 +68,6 @@ from-alike n [] ns = none-behind n [] ns
 from-alike n (o ∷ os) [] = none-behind n (o ∷ os) []
 from-alike n (o ∷ os) (m ∷ ns) =
     behind-cases n o m os ns (is_same o m) refl (from-alike (n + 1) os ns)
-
-here-cases : (n : ℕ) (o m : BodyPlan) (os ns : List BodyPlan) (b : Bool) → is_same o m ≡ b →
-    (if b then suc (alike os ns) else 0) ≡ 0 →
-    (if b then difference_from (n + 1) os ns else difference_here n os (m ∷ ns))
-    ≡ difference_here n os (m ∷ ns)
-here-cases n o m os ns true e h = absurd (omega (arith, h))
-here-cases n o m os ns false e h = refl
-
-from-here : (n : ℕ) (o : BodyPlan) (os ns : List BodyPlan) → alike (o ∷ os) ns ≡ 0 →
-    difference_from n (o ∷ os) ns ≡ difference_here n os ns
-from-here n o os [] e = refl
-from-here n o os (m ∷ ns) e = here-cases n o m os ns (is_same o m) refl e
 
 -- where no body is left of the old ones, and where one is
 none-left : (n : ℕ) (os ns : List BodyPlan) → length os ≡ 0 →
@@ -104,8 +77,7 @@ none-left n (o ∷ os) ns e = absurd (omega (arith, e))
 
 one-left : (n : ℕ) (os ns : List BodyPlan) → 0 < length os → alike os ns ≡ 0 →
     difference_here n (drop 1 os) ns ≡ difference_from n os ns
-one-left n [] ns l e = absurd (omega (arith, l))
-one-left n (o ∷ os) ns l e = sym (from-here n o os ns e)
+one-left n os ns l e = grind arith
 
 map-drop : (n : ℕ) (bs : List PlannedBody) → plans_of (drop n bs) ≡ drop n (plans_of bs)
 map-drop zero bs = refl
@@ -118,10 +90,7 @@ length-plans_of bs = length-map bs plan_of_body
 from-at : (olds news : List PlannedBody) (at : ℕ) → at ≡ alike (plans_of olds) (plans_of news) →
     difference_from (at + 1) (plans_of (drop at olds)) (plans_of (drop at news))
     ≡ difference_from 1 (plans_of olds) (plans_of news)
-from-at olds news at e =
-    let one : at + 1 ≡ 1 + at = omega arith in
-    rw (map-drop at olds, map-drop at news, one, e)
-    (sym (from-alike 1 (plans_of olds) (plans_of news)))
+from-at olds news at e = grind (arith, map-drop, from-alike)
 
 ends-at : (olds news : List PlannedBody) (at : ℕ) → at ≡ alike (plans_of olds) (plans_of news) →
     alike (plans_of (drop at olds)) (plans_of (drop at news)) ≡ 0
@@ -150,24 +119,20 @@ between-some olds news at e some =
 
 pub removed-here : (n : ℕ) (os ns : List BodyPlan) → are_alike os ns ≡ true →
     difference_here n os ns ≡ Some (Removed n)
-removed-here n os [] e = rw e refl
-removed-here n os (m ∷ ns) e = rw e refl
+removed-here n os ns e = grind arith
 
 pub changed-here : (n : ℕ) (os : List BodyPlan) (news : List PlannedBody) → 0 < length news →
     are_alike os (plans_of news) ≡ false → are_alike os (plans_of (drop 1 news)) ≡ true →
     difference_here n os (plans_of news) ≡ Some (Changed n)
-changed-here n os [] l e f = absurd (omega (arith, l))
-changed-here n os (m ∷ ns) l e f = rw (e, f) refl
+changed-here n os news l e f = grind arith
 
 pub none-here : (n : ℕ) (os : List BodyPlan) (news : List PlannedBody) →
     are_alike os (plans_of news) ≡ false →
     (0 < length news → are_alike os (plans_of (drop 1 news)) ≡ false) →
     difference_here n os (plans_of news) ≡ None
-none-here n os [] e f = rw e refl
-none-here n os (m ∷ ns) e f = rw (e, f (omega arith)) refl
+none-here n os news e f = grind arith
 
 -- the test of equal bodies
 pub same-test : (os ns olds news : List PlannedBody) (t : Bool) → os ≡ olds → ns ≡ news →
     t ≡ are_alike (plans_of os) (plans_of ns) → are_alike (plans_of olds) (plans_of news) ≡ t
-same-test os ns olds news t e f h =
-    rw (← e, ← f) (sym h)
+same-test os ns olds news t e f h = grind arith

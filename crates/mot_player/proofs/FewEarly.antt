@@ -1,22 +1,20 @@
 -- Of what comes early no more bodies are not begun than may be, whatever comes between the requests.
 use Rattle.std.proofs.Common.{◌≡◌, ℕ, suc, zero, ◌+◌, ◌-◌, ◌<◌, ◌≤◌, Bool, true, false, List, []}
-use Rattle.std.proofs.Common.{◌∷◌, ◌++◌, length, refl, sym, ap, ◌∙◌, arith, subst, Option, Some, None}
-use Rattle.std.proofs.Common.{take}
+use Rattle.std.proofs.Common.{◌∷◌, ◌++◌, length, refl, sym, ◌∙◌, arith, subst, Option, Some, take}
 use Rattle.std.proofs.Math.Seq.{take-append_seam}
-use Rattle.std.proofs.lemmas.Bool.{eqb-true, ltb-true, ne_eqb}
+use Rattle.std.proofs.lemmas.Bool.{eqb-true, ltb-true}
 use Rattle.std.proofs.lemmas.List.{length-append}
 use Rattle.std.proofs.lemmas.List.Elements.{filter-append}
 use Rattle.std.proofs.lemmas.Option.{none-some, same_Some, some_pair_parts}
-use Rattle.std.specs.Prelude.{◌==◌, filter, if◌then◌else◌, is_some, nat_lt, unwrap_or}
-use Rattle.mot_groups.specs.Entity.{numbered_segments, pieces}
+use Rattle.std.specs.Prelude.{◌==◌, if◌then◌else◌, is_some, nat_lt}
+use Rattle.mot_groups.specs.Entity.{numbered_segments}
 use Rattle.mot_groups.specs.Group.{GroupFields, Segment, bytes_of_group}
 use Rattle.mot_numbers.specs.Reading.{is_empty}
-use Rattle.mot_player.specs.Place.{Change, Same, Put, Replaced, Withdrawn, Place, Sent, Step}
-use Rattle.mot_player.specs.Place.{Request, NewTurn, Directory, Follow, UnderWay, bodies_not_begun}
-use Rattle.mot_player.specs.Place.{change_between, change_turn, changed, directory_segments}
-use Rattle.mot_player.specs.Place.{early_after, early_of, first_sent, follow, followed_by}
-use Rattle.mot_player.specs.Place.{fresh_segments, goes_early, group_for, hear_directory, left_with}
-use Rattle.mot_player.specs.Place.{most_early, next_sent, of_bodies, opened_place}
+use Rattle.mot_player.specs.Place.{Change, Place, Sent, Step, Request, NewTurn, Directory, Follow}
+use Rattle.mot_player.specs.Place.{UnderWay, bodies_not_begun, change_between, change_turn, changed}
+use Rattle.mot_player.specs.Place.{directory_segments, early_after, early_of, first_sent, follow}
+use Rattle.mot_player.specs.Place.{followed_by, fresh_segments, goes_early, group_for}
+use Rattle.mot_player.specs.Place.{hear_directory, most_early, next_sent, of_bodies, opened_place}
 use Rattle.mot_player.specs.Place.{packet_sent, request, sent_by, that_stay, to_send, with_begun}
 use Rattle.mot_player.specs.Staying.{AreFewEarly, FewGoEarly}
 use Rattle.mot_player.specs.Turn.{Turn, segments_of_turn}
@@ -29,63 +27,25 @@ abbrev pub AreFew : ℕ → ℕ → List Segment → Type 0
 AreFew n most segments =
     (n ≤ length segments) × (bodies_not_begun (take n segments) ≤ most)
 
--- what comes early of what is left is of what waits
-early-cases : (n : ℕ) (waiting whole : List Segment) → n ≤ length (of_bodies waiting) →
-    take n (of_bodies (if is_empty waiting then whole else waiting)) ≡ take n (of_bodies waiting)
-early-cases n [] whole l = let none : n ≡ 0 = omega (arith, l) in rw none refl
-early-cases n (s ∷ waiting) whole l = refl
-
-early-left : (place : Place) (u : Option UnderWay) →
-    place.early ≤ length (of_bodies place.waiting) →
-    take place.early (of_bodies (left_with place u)) ≡ take place.early (of_bodies place.waiting)
-early-left place None l =
-    early-cases place.early place.waiting (segments_of_turn place.turn place.segment_size) l
-early-left place (Some u) l = refl
-
 few-of : (place : Place) → AreFewEarly place →
     AreFew place.early (most_early place) (of_bodies place.waiting)
-few-of place few = (
-  few.counted,
-  subst (λ (ss : List Segment). bodies_not_begun ss ≤ most_early place)
-      (early-left place place.under_way few.counted) few.few,
-)
+few-of place few = grind arith
 
 pub few-place : (place : Place) → AreFew place.early (most_early place) (of_bodies place.waiting) →
     AreFewEarly place
-few-place place few = record {
-  counted = few.0;
-  few = subst (λ (ss : List Segment). bodies_not_begun ss ≤ most_early place)
-      (sym (early-left place place.under_way few.0)) few.1;
-}
-
--- nothing comes early
-few-nothing : (most : ℕ) (segments : List Segment) → AreFew 0 most segments
-few-nothing most segments = (omega arith, omega arith)
+few-place place few = grind arith
 
 few-none : (n most : ℕ) (segments : List Segment) → n ≡ 0 → AreFew n most segments
-few-none n most segments e =
-    subst (λ (k : ℕ). AreFew k most segments) (sym e) (few-nothing most segments)
+few-none n most segments e = grind arith
 
 pub few-opened : (address room size : ℕ) (turn : Turn) (follows : Option ℕ) →
     AreFewEarly (record (opened_place address room size turn) { follows = follows })
-few-opened address room size turn follows =
-    let place : Place = record (opened_place address room size turn) { follows = follows } in
-    few-place place (few-nothing (most_early place) [])
-
--- one less
-few-cases : (b : Bool) (x : Segment) (ys : List Segment) → (x.number == 0) ≡ b →
-    bodies_not_begun ys ≤ bodies_not_begun (x ∷ ys)
-few-cases true x ys e = rw e (omega arith)
-few-cases false x ys e = rw e (omega arith)
-
-few-tail : (x : Segment) (ys : List Segment) → bodies_not_begun ys ≤ bodies_not_begun (x ∷ ys)
-few-tail x ys = few-cases (x.number == 0) x ys refl
+few-opened address room size turn follows = grind arith
 
 more-cases : (b : Bool) (x : Segment) (ys zs : List Segment) → (x.number == 0) ≡ b →
     bodies_not_begun ys ≤ bodies_not_begun zs →
     bodies_not_begun (x ∷ ys) ≤ bodies_not_begun (x ∷ zs)
-more-cases true x ys zs e l = rw e (omega (arith, l))
-more-cases false x ys zs e l = rw e l
+more-cases b x ys zs e l = grind arith
 
 few-front : (n : ℕ) (xs : List Segment) →
     bodies_not_begun (take n xs) ≤ bodies_not_begun (take (suc n) xs)
@@ -104,11 +64,7 @@ few-less (suc n) most xs few =
 
 few-behind : (n most : ℕ) (x : Segment) (xs : List Segment) → AreFew n most (x ∷ xs) →
     AreFew (n - 1) most xs
-few-behind zero most x xs few = few-nothing most xs
-few-behind (suc n) most x xs few =
-    let one : suc n - 1 ≡ n = omega arith in
-    subst (λ (k : ℕ). AreFew k most xs) (sym one)
-    (omega (arith, few.0), omega (arith, few.1, few-tail x (take n xs)))
+few-behind n most x xs few = grind arith
 
 -- the first of what waits is begun
 begun-cases : (n most : ℕ) (s : Segment) (others : List Segment) (six four : Bool) →
@@ -123,8 +79,7 @@ begun-cases n most s others false true e f few = few-behind n most s (of_bodies 
 begun-cases n most s others false false e f few = few-less n most (of_bodies others) few
 
 less-none : (b : Bool) (n : ℕ) → n ≡ 0 → (if b then n else n - 1) ≡ 0
-less-none true n e = e
-less-none false n e = omega (arith, e)
+less-none b n e = grind arith
 
 begun-few : (n most : ℕ) (waiting whole : List Segment) (s : Segment) (others : List Segment) →
     AreFew n most (of_bodies waiting) →
@@ -157,11 +112,7 @@ first-few place (t ∷ segments) s few is e =
 
 next-few : (place : Place) (u : Option UnderWay) (s : Sent) → AreFewEarly place →
     next_sent place u ≡ Some s → StaysFew place s.place
-next-few place None s few e = first-few place (to_send place) s few refl e
-next-few place (Some u) s few e =
-    let first : Sent = packet_sent place u.group u.sent in
-    subst (λ (x : Sent). StaysFew place x.place) (same_Some first s e)
-    (few-place first.place (few-of place few), refl)
+next-few place u s few e = grind (arith, first-few, same_Some, few-place, few-of)
 
 -- a request
 pub few-sent : (place : Place) (s : Sent) → AreFewEarly place → request place ≡ Some s →
@@ -173,35 +124,24 @@ few-sent place s few e = next-few place place.under_way s few e
 heard-bodies : (turn : Turn) (size : ℕ) (waiting : List Segment) →
     of_bodies (if is_empty waiting then [] else directory_segments turn size ++ of_bodies waiting)
     ≡ of_bodies waiting
-heard-bodies turn size [] = refl
-heard-bodies turn size (s ∷ waiting) =
-    let bodies : List Segment = of_bodies (s ∷ waiting) in
-    filter-append (λ (t : Segment). t.kind == 4) (directory_segments turn size) bodies
-    ∙ ap (λ (ss : List Segment). ss ++ of_bodies bodies)
-    (of_bodies-directory turn.tid 0 (pieces size turn.directory))
-    ∙ of_bodies-same bodies (bodies-of_bodies (s ∷ waiting))
+heard-bodies turn size waiting =
+    grind (arith, filter-append, of_bodies-directory, of_bodies-same, bodies-of_bodies)
 
 pub few-heard : (place : Place) → AreFewEarly place → AreFewEarly (hear_directory place)
 unfolding hear_directory
-few-heard place few =
-    few-place (hear_directory place)
-    (subst (AreFew place.early (most_early place))
-    (sym (heard-bodies place.turn place.segment_size place.waiting)) (few-of place few))
+few-heard place few = grind (arith, few-place, heard-bodies, few-of)
 
 -- a turn that begins anew
 pub few-anew : (turn : Turn) (place : Place) → AreFewEarly (change_turn turn place)
 unfolding change_turn
-few-anew turn place =
-    few-place (change_turn turn place)
-    (few-nothing (most_early place) (of_bodies (segments_of_turn turn place.segment_size)))
+few-anew turn place = grind arith
 
 -- of the body that came at most one is not begun
 pub none-later : (kind tid n : ℕ) (ps : List (List ℕ)) → 0 < n →
     bodies_not_begun (numbered_segments kind tid n ps) ≡ 0
 none-later kind tid n [] some = refl
 none-later kind tid n (p ∷ ps) some =
-    rw (ne_eqb n 0 (λ e. absurd (omega (arith, e, some))))
-    (none-later kind tid (n + 1) ps (omega arith))
+    grind (arith, none-later kind tid (n + 1) ps (omega arith))
 
 pub one-numbered : (kind tid : ℕ) (ps : List (List ℕ)) →
     bodies_not_begun (numbered_segments kind tid 0 ps) ≤ 1
@@ -212,26 +152,18 @@ one-numbered kind tid (p ∷ ps) =
     omega (arith, later)
 
 one-fresh : (size : ℕ) (change : Change) → bodies_not_begun (fresh_segments size change) ≤ 1
-one-fresh size Same = omega arith
-one-fresh size (Put new) = one-numbered 4 new.0 (pieces size new.1)
-one-fresh size (Replaced old new) = one-numbered 4 new.0 (pieces size new.1)
-one-fresh size (Withdrawn old) = omega arith
+one-fresh size change = grind (arith, one-numbered)
 
 pub both-counted : (xs ys : List Segment) →
     bodies_not_begun (xs ++ ys) ≡ bodies_not_begun xs + bodies_not_begun ys
-both-counted xs ys =
-    let test : Segment → Bool = λ (s : Segment). s.number == 0 in
-    ap length (filter-append test xs ys) ∙ length-append (filter test xs) (filter test ys)
+both-counted xs ys = grind (arith, filter-append, length-append)
 
 -- the body that came goes early only where fewer do so than may
 goes-cases : (most : ℕ) (stay fresh : List Segment) (b : Bool) →
     bodies_not_begun stay ≤ most → bodies_not_begun fresh ≤ 1 →
     nat_lt (bodies_not_begun stay) most ≡ b →
     bodies_not_begun (stay ++ (if b then fresh else [])) ≤ most
-goes-cases most stay fresh true l one e =
-    omega (arith, both-counted stay fresh, one, ltb-true (bodies_not_begun stay) most e)
-goes-cases most stay fresh false l one e =
-    omega (arith, both-counted stay [], l)
+goes-cases most stay fresh b l one e = grind (arith, both-counted, ltb-true)
 
 few-after : (change : Change) (place : Place) → AreFewEarly place →
     bodies_not_begun (early_after change place) ≤ most_early place
@@ -308,8 +240,4 @@ few-steps (Follow turn ∷ steps) place new sents few h =
 -- however many changes are followed
 pub few-go-early : FewGoEarly
 few-go-early address room size most turn steps sents new h =
-    let start : Place = record (opened_place address room size turn) { follows = Some most } in
-    let behind : StaysFew start new =
-    few-steps steps start new sents (few-opened address room size turn (Some most)) h in
-    subst (λ (follows : Option ℕ). bodies_not_begun (early_of new) ≤ unwrap_or follows 0)
-    behind.1 behind.0.few
+    grind (arith, few-steps, few-opened)

@@ -148,9 +148,7 @@ first-few test most (b ∷ bodies) =
 -- the newest are bodies of the turn
 pub newest-one : (most cursor : ℕ) (bodies : List Pair) →
     AllByRecursion (IsOneOf bodies) (newest most cursor bodies)
-newest-one most cursor bodies =
-    first-one (is_new most cursor (map (λ (b : Pair). b.0) bodies)) most bodies bodies
-    (λ b one. one)
+newest-one most cursor bodies = grind (arith, first-one)
 
 -- and no more than may be
 pub newest-few : (most cursor : ℕ) (bodies : List Pair) →

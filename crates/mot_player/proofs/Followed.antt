@@ -8,9 +8,8 @@ use Rattle.std.proofs.lemmas.Bool.{not_from_true, or_parts}
 use Rattle.std.proofs.lemmas.Grind.{div_ceil_times, flat_map-append}
 use Rattle.std.proofs.lemmas.List.{take-append-drop}
 use Rattle.std.proofs.lemmas.List.Elements.{filter-append}
-use Rattle.std.specs.Int.{div_ceil}
 use Rattle.std.specs.List.{AllByRecursion}
-use Rattle.std.specs.Prelude.{◌==◌, ◌&&◌, not, filter, flat_map, if◌then◌else◌}
+use Rattle.std.specs.Prelude.{◌==◌, ◌&&◌, filter, flat_map, if◌then◌else◌}
 use Rattle.mot_groups.specs.Entity.{first_pieces, numbered_segments, own_segments, pieces}
 use Rattle.mot_groups.specs.Entity.{segments_of}
 use Rattle.mot_groups.specs.Group.{Segment}
@@ -18,13 +17,12 @@ use Rattle.mot_numbers.specs.Reading.{is_empty}
 use Rattle.mot_player.specs.Place.{Place, Change, Same, Put, Replaced, Withdrawn, change_between}
 use Rattle.mot_player.specs.Place.{directory_segments, early_after, early_of, follow, followed_by}
 use Rattle.mot_player.specs.Place.{fresh_segments, goes_early, in_its_place, left_of, of_bodies}
-use Rattle.mot_player.specs.Place.{bodies_not_begun, most_early, rest_after}
-use Rattle.mot_player.specs.Place.{rest_of, that_stay, to_send, without}
+use Rattle.mot_player.specs.Place.{bodies_not_begun, rest_after, rest_of, that_stay, to_send}
+use Rattle.mot_player.specs.Place.{without}
 use Rattle.mot_player.specs.Staying.{ChangesComeNext, ChangesGoEarly, HasDirectory}
 use Rattle.mot_player.specs.Staying.{ReplacedKeepsItsPlace, touches}
 use Rattle.mot_player.specs.Turn.{Turn}
-use Rattle.mot_player.proofs.Left.{filter-within, is_empty-append, left-some, own}
-use Rattle.mot_player.proofs.Left.{own-of_bodies, some-directory}
+use Rattle.mot_player.proofs.Left.{filter-within, own, own-of_bodies}
 
 -- segments of bodies
 abbrev pub AreBodies : List Segment → Type 0
@@ -32,8 +30,7 @@ AreBodies segments = AllByRecursion (λ (s : Segment). s.kind ≡ 4) segments
 
 bodies-kept : (b : Bool) (s : Segment) (xs : List Segment) → (b ≡ true → s.kind ≡ 4) →
     AreBodies xs → AreBodies (if b then s ∷ xs else xs)
-bodies-kept true s xs k r = (k refl, r)
-bodies-kept false s xs k r = r
+bodies-kept b s xs k r = grind arith
 
 pub bodies-of_bodies : (xs : List Segment) → AreBodies (of_bodies xs)
 bodies-of_bodies [] = tt
@@ -91,31 +88,21 @@ bodies-rest_of place =
     bodies-drop place.early (of_bodies (left_of place)) (bodies-of_bodies (left_of place))
 
 bodies-fresh : (size : ℕ) (change : Change) → AreBodies (fresh_segments size change)
-bodies-fresh size Same = tt
-bodies-fresh size (Put new) = bodies-numbered new.0 0 (pieces size new.1)
-bodies-fresh size (Replaced old new) = bodies-numbered new.0 0 (pieces size new.1)
-bodies-fresh size (Withdrawn old) = tt
+bodies-fresh size change = grind (arith, bodies-numbered)
 
 bodies-that_stay : (change : Change) (xs : List Segment) → AreBodies xs →
     AreBodies (that_stay change xs)
-bodies-that_stay Same xs k = k
-bodies-that_stay (Put new) xs k = k
-bodies-that_stay (Replaced old new) xs k = bodies-filter (λ (s : Segment). not (s.tid == old)) xs k
-bodies-that_stay (Withdrawn old) xs k = bodies-filter (λ (s : Segment). not (s.tid == old)) xs k
+bodies-that_stay change xs k = grind (arith, bodies-filter)
 
 bodies-one_place : (fresh : List Segment) (s : Segment) (b c : Bool) → AreBodies fresh →
     s.kind ≡ 4 → AreBodies (if b then if c then fresh else [] else s ∷ [])
-bodies-one_place fresh s true true f k = f
-bodies-one_place fresh s true false f k = tt
-bodies-one_place fresh s false c f k = (k, tt)
+bodies-one_place fresh s b c f k = grind arith
 
 bodies-in_place : (old : ℕ) (fresh xs : List Segment) → AreBodies fresh → AreBodies xs →
     AreBodies (flat_map (in_its_place old fresh) xs)
 bodies-in_place old fresh [] f k = tt
 bodies-in_place old fresh (x ∷ xs) f k =
-    bodies-append (in_its_place old fresh x) (flat_map (in_its_place old fresh) xs)
-    (bodies-one_place fresh x (x.tid == old) (x.number == 0) f k.0)
-    (bodies-in_place old fresh xs f k.1)
+    grind (arith, bodies-in_place old fresh xs f k.1, bodies-append, bodies-one_place)
 
 bodies-put : (fresh rest : List Segment) (b : Bool) → AreBodies fresh → AreBodies rest →
     AreBodies (if b then [] else rest ++ fresh)
@@ -124,24 +111,15 @@ bodies-put fresh rest false f k = bodies-append rest fresh k f
 
 bodies-rest_after : (change : Change) (early : Bool) (fresh rest : List Segment) →
     AreBodies fresh → AreBodies rest → AreBodies (rest_after change early fresh rest)
-bodies-rest_after Same early fresh rest f k = k
-bodies-rest_after (Put new) early fresh rest f k =
-    bodies-put fresh rest (is_empty rest && early) f k
-bodies-rest_after (Replaced old new) early fresh rest f k = bodies-in_place old fresh rest f k
-bodies-rest_after (Withdrawn old) early fresh rest f k =
-    bodies-filter (λ (s : Segment). not (s.tid == old)) rest k
+bodies-rest_after change early fresh rest f k =
+    grind (arith, bodies-put, bodies-in_place, bodies-filter)
 
 bodies-if : (b : Bool) (xs : List Segment) → AreBodies xs → AreBodies (if b then xs else [])
-bodies-if true xs k = k
-bodies-if false xs k = tt
+bodies-if b xs k = grind arith
 
 pub bodies-early_after : (change : Change) (place : Place) → AreBodies (early_after change place)
 bodies-early_after change place =
-    let fresh : List Segment = fresh_segments place.segment_size change in
-    let goes : Bool = goes_early change place in
-    bodies-append (that_stay change (early_of place)) (if goes then fresh else [])
-    (bodies-that_stay change (early_of place) (bodies-early_of place))
-    (bodies-if goes fresh (bodies-fresh place.segment_size change))
+    grind (arith, bodies-append, bodies-that_stay, bodies-early_of, bodies-if, bodies-fresh)
 
 -- the rest of the turn of a place after a change
 abbrev pub renewed : Change → Place → List Segment
@@ -151,30 +129,17 @@ renewed change place =
 
 pub bodies-renewed : (change : Change) (place : Place) → AreBodies (renewed change place)
 bodies-renewed change place =
-    bodies-rest_after change (goes_early change place) (fresh_segments place.segment_size change)
-    (rest_of place) (bodies-fresh place.segment_size change) (bodies-rest_of place)
-
--- the new directory waits, and so something is left
-followed-waits : (change : Change) (turn : Turn) (place : Place) → 0 < place.segment_size →
-    HasDirectory turn → is_empty (followed_by change turn place).waiting ≡ false
-followed-waits change turn place some has =
-    let directory : List Segment = directory_segments turn place.segment_size in
-    is_empty-append (directory ++ early_after change place) (renewed change place)
-    (is_empty-append directory (early_after change place)
-    (some-directory turn place.segment_size some has))
+    grind (arith, bodies-rest_after, bodies-fresh, bodies-rest_of)
 
 followed-to_send : (change : Change) (turn : Turn) (place : Place) → 0 < place.segment_size →
     HasDirectory turn →
     to_send (followed_by change turn place) ≡ (followed_by change turn place).waiting
-followed-to_send change turn place some has =
-    rw (followed-waits change turn place some has) refl
+followed-to_send change turn place some has = grind arith
 
 pub followed-left : (change : Change) (turn : Turn) (place : Place) → 0 < place.segment_size →
     HasDirectory turn →
     left_of (followed_by change turn place) ≡ (followed_by change turn place).waiting
-followed-left change turn place some has =
-    left-some (followed_by change turn place) place.under_way
-    (followed-waits change turn place some has)
+followed-left change turn place some has = grind arith
 
 -- of bodies, those that come early wait, and the rest
 pub followed-waiting : (change : Change) (turn : Turn) (place : Place) →
@@ -205,21 +170,16 @@ followed-bodies change turn place some has =
 followed-early : (change : Change) (turn : Turn) (place : Place) → 0 < place.segment_size →
     HasDirectory turn → early_of (followed_by change turn place) ≡ early_after change place
 followed-early change turn place some has =
-    let early : List Segment = early_after change place in
-    ap (take (length early)) (followed-bodies change turn place some has)
-    ∙ take-append_seam early (renewed change place)
+    grind (arith, followed-bodies, take-append_seam)
 
 followed-rest : (change : Change) (turn : Turn) (place : Place) → 0 < place.segment_size →
     HasDirectory turn → rest_of (followed_by change turn place) ≡ renewed change place
 followed-rest change turn place some has =
-    let early : List Segment = early_after change place in
-    ap (drop (length early)) (followed-bodies change turn place some has)
-    ∙ drop-append_seam early (renewed change place)
+    grind (arith, followed-bodies, drop-append_seam)
 
 -- a test that fails where another holds
 other-test : (a b : Bool) → (a ≡ true → b ≡ false) → b ≡ true → a ≡ false
-other-test true b w e = absurd (let f : b ≡ false = w refl in cc)
-other-test false b w e = refl
+other-test a b w e = grind arith
 
 -- of segments of one entity, none passes that its id forbids
 none-numbered : (p : Segment → Bool) (kind tid n : ℕ) (ps : List (List ℕ)) →
@@ -227,54 +187,38 @@ none-numbered : (p : Segment → Bool) (kind tid n : ℕ) (ps : List (List ℕ))
     filter p (numbered_segments kind tid n ps) ≡ []
 none-numbered p kind tid n [] w = refl
 none-numbered p kind tid n (b ∷ ps) w =
-    rw (w (record { kind = kind; tid = tid; number = n; last = is_empty ps; bytes = b }) refl)
-    (none-numbered p kind tid (n + 1) ps w)
+    grind (arith, none-numbered p kind tid (n + 1) ps w)
 
 none-of : (p : Segment → Bool) (size : ℕ) (body : ℕ × List ℕ) →
     ((s : Segment) → p s ≡ true → (s.tid == body.0) ≡ false) →
     filter p (segments_of 4 body.0 size body.1) ≡ []
-none-of p size body w =
-    none-numbered p 4 body.0 0 (pieces size body.1)
-    (λ s same. other-test (p s) (s.tid == body.0) (w s) (eq-eqb s.tid body.0 same))
+none-of p size body w = grind (arith, none-numbered, other-test)
 
 -- a test that passes none of the body that went, where another came in its place
 other-place : (p : Segment → Bool) (fresh : List Segment) (x : Segment) (t z q : Bool) →
     p x ≡ q → (q ≡ true → t ≡ false) → filter p fresh ≡ [] →
     filter p (if t then if z then fresh else [] else x ∷ []) ≡ filter p (x ∷ [])
-other-place p fresh x true z true e w f = absurd (let g : true ≡ false = w refl in cc)
-other-place p fresh x true true false e w f = rw e f
-other-place p fresh x true false false e w f = rw e refl
-other-place p fresh x false z q e w f = refl
+other-place p fresh x t z q e w f = grind arith
 
 others-in_place : (p : Segment → Bool) (old : ℕ) (fresh xs : List Segment) →
     ((s : Segment) → p s ≡ true → (s.tid == old) ≡ false) → filter p fresh ≡ [] →
     filter p (flat_map (in_its_place old fresh) xs) ≡ filter p xs
 others-in_place p old fresh [] w f = refl
 others-in_place p old fresh (x ∷ xs) w f =
-    filter-append p (in_its_place old fresh x) (flat_map (in_its_place old fresh) xs)
-    ∙ ap (λ (ss : List Segment). ss ++ filter p (flat_map (in_its_place old fresh) xs))
-    (other-place p fresh x (x.tid == old) (x.number == 0) (p x) refl (w x) f)
-    ∙ ap (λ (ss : List Segment). filter p (x ∷ []) ++ ss) (others-in_place p old fresh xs w f)
-    ∙ sym (filter-append p (x ∷ []) xs)
+    grind (arith, others-in_place p old fresh xs w f, filter-append, other-place)
 
 -- and one that passes no other
 own-place : (p : Segment → Bool) (fresh : List Segment) (x : Segment) (t z q : Bool) →
     p x ≡ q → (q ≡ true → t ≡ true) → filter p fresh ≡ [] →
     filter p (if t then if z then fresh else [] else x ∷ []) ≡ []
-own-place p fresh x true true q e w f = f
-own-place p fresh x true false q e w f = refl
-own-place p fresh x false z true e w f = absurd (let g : false ≡ true = w refl in cc)
-own-place p fresh x false z false e w f = rw e refl
+own-place p fresh x t z q e w f = grind arith
 
 own-in_place : (p : Segment → Bool) (old : ℕ) (fresh xs : List Segment) →
     ((s : Segment) → p s ≡ true → (s.tid == old) ≡ true) → filter p fresh ≡ [] →
     filter p (flat_map (in_its_place old fresh) xs) ≡ []
 own-in_place p old fresh [] w f = refl
 own-in_place p old fresh (x ∷ xs) w f =
-    filter-append p (in_its_place old fresh x) (flat_map (in_its_place old fresh) xs)
-    ∙ ap (λ (ss : List Segment). ss ++ filter p (flat_map (in_its_place old fresh) xs))
-    (own-place p fresh x (x.tid == old) (x.number == 0) (p x) refl (w x) f)
-    ∙ own-in_place p old fresh xs w f
+    grind (arith, own-in_place p old fresh xs w f, filter-append, own-place)
 
 -- a test passes only bodies that neither came nor went
 abbrev pub IsOfOthers : (Segment → Bool) → Change → Type 0
@@ -283,64 +227,33 @@ IsOfOthers p change = (s : Segment) → p s ≡ true → touches change s.tid �
 -- of the body that came none pass
 none-fresh : (p : Segment → Bool) (change : Change) (size : ℕ) → IsOfOthers p change →
     filter p (fresh_segments size change) ≡ []
-none-fresh p Same size w = refl
-none-fresh p (Put new) size w = none-of p size new w
-none-fresh p (Replaced old new) size w =
-    none-of p size new (λ s e. (or_parts (s.tid == old) (s.tid == new.0) (w s e)).1)
-none-fresh p (Withdrawn old) size w = refl
+none-fresh p change size w = grind (arith, none-of, or_parts)
 
 none-if : (p : Segment → Bool) (b : Bool) (xs : List Segment) → filter p xs ≡ [] →
     filter p (if b then xs else []) ≡ []
-none-if p true xs e = e
-none-if p false xs e = refl
+none-if p b xs e = grind arith
 
 -- of what stays those that pass are as they were
 others-stay : (p : Segment → Bool) (change : Change) (xs : List Segment) → IsOfOthers p change →
     filter p (that_stay change xs) ≡ filter p xs
-others-stay p Same xs w = refl
-others-stay p (Put new) xs w = refl
-others-stay p (Replaced old new) xs w =
-    filter-within p (λ (s : Segment). not (s.tid == old))
-    (λ s e. not_from_false (s.tid == old) (or_parts (s.tid == old) (s.tid == new.0) (w s e)).0) xs
-others-stay p (Withdrawn old) xs w =
-    filter-within p (λ (s : Segment). not (s.tid == old))
-    (λ s e. not_from_false (s.tid == old) (w s e)) xs
+others-stay p change xs w = grind (arith, filter-within, not_from_false, or_parts)
 
 -- of what comes early, and of the rest, those that pass are as they were
 others-early : (p : Segment → Bool) (change : Change) (place : Place) → IsOfOthers p change →
     filter p (early_after change place) ≡ filter p (early_of place)
 others-early p change place w =
-    let stays : List Segment = that_stay change (early_of place) in
-    let fresh : List Segment = fresh_segments place.segment_size change in
-    let goes : Bool = goes_early change place in
-    filter-append p stays (if goes then fresh else [])
-    ∙ ap (λ (ss : List Segment). filter p stays ++ ss)
-    (none-if p goes fresh (none-fresh p change place.segment_size w))
-    ∙ append-nil (filter p stays) ∙ others-stay p change (early_of place) w
+    grind (arith, filter-append, none-if, none-fresh, append-nil, others-stay)
 
 others-put : (p : Segment → Bool) (fresh rest : List Segment) (early : Bool) →
     filter p fresh ≡ [] →
     filter p (if is_empty rest && early then [] else rest ++ fresh) ≡ filter p rest
-others-put p fresh [] true f = refl
-others-put p fresh [] false f = f
-others-put p fresh (x ∷ rest) early f =
-    filter-append p (x ∷ rest) fresh
-    ∙ ap (λ (ss : List Segment). filter p (x ∷ rest) ++ ss) f
-    ∙ append-nil (filter p (x ∷ rest))
+others-put p fresh rest early f = grind (arith, filter-append, append-nil)
 
 others-rest : (p : Segment → Bool) (change : Change) (early : Bool) (size : ℕ)
     (rest : List Segment) → IsOfOthers p change →
     filter p (rest_after change early (fresh_segments size change) rest) ≡ filter p rest
-others-rest p Same early size rest w = refl
-others-rest p (Put new) early size rest w =
-    others-put p (segments_of 4 new.0 size new.1) rest early (none-of p size new w)
-others-rest p (Replaced old new) early size rest w =
-    others-in_place p old (segments_of 4 new.0 size new.1) rest
-    (λ s e. (or_parts (s.tid == old) (s.tid == new.0) (w s e)).0)
-    (none-of p size new (λ s e. (or_parts (s.tid == old) (s.tid == new.0) (w s e)).1))
-others-rest p (Withdrawn old) early size rest w =
-    filter-within p (λ (s : Segment). not (s.tid == old))
-    (λ s e. not_from_false (s.tid == old) (w s e)) rest
+others-rest p change early size rest w =
+    grind (arith, others-put, none-of, others-in_place, or_parts, filter-within, not_from_false)
 
 own-id : (id : ℕ) (s : Segment) → own id s ≡ true → s.tid ≡ id
 own-id id s e = eqb-true s.tid id (and_parts (s.kind == 4) (s.tid == id) e).1
@@ -374,28 +287,18 @@ IsApart (Put new) = Unit {0}
 IsApart (Replaced old new) = (old == new.0) ≡ false
 IsApart (Withdrawn old) = Unit {0}
 
-apart-cases : (old : ℕ) (new : ℕ × List ℕ) (later : Change) (same level : Bool) →
-    (old == new.0) ≡ same → IsApart later →
-    IsApart (if same then later else if level then Replaced old new else Withdrawn old)
-apart-cases old new later true level e ih = ih
-apart-cases old new later false true e ih = e
-apart-cases old new later false false e ih = tt
-
 change_between-apart : (olds news : List (ℕ × List ℕ)) → IsApart (change_between olds news)
 change_between-apart [] [] = tt
 change_between-apart [] (new ∷ news) = tt
 change_between-apart (old ∷ olds) [] = tt
 change_between-apart (old ∷ olds) (new ∷ news) =
-    apart-cases old.0 new (change_between olds news) (old.0 == new.0) (length olds == length news)
-    refl (change_between-apart olds news)
+    grind (arith, change_between-apart olds news)
 
 -- of those that fail a test, none is left where only others pass the first
 outside-cases : (p : Segment → Bool) (x : Segment) (ys : List Segment) (b c : Bool) →
     p x ≡ c → (c ≡ true → b ≡ false) → filter p ys ≡ [] →
     filter p (if b then x ∷ ys else ys) ≡ []
-outside-cases p x ys true true e w h = absurd (let f : true ≡ false = w refl in cc)
-outside-cases p x ys true false e w h = rw e h
-outside-cases p x ys false c e w h = h
+outside-cases p x ys b c e w h = grind arith
 
 filter-outside : (p q : Segment → Bool) → ((s : Segment) → p s ≡ true → q s ≡ false) →
     (xs : List Segment) → filter p (filter q xs) ≡ []
@@ -406,14 +309,11 @@ filter-outside p q w (x ∷ xs) =
 without-none : (id old : ℕ) (xs : List Segment) → id ≡ old →
     own_segments 4 id (without old xs) ≡ []
 without-none id old xs same =
-    filter-outside (own id) (λ (s : Segment). not (s.tid == old))
-    (λ s e. not_from_true (s.tid == old) (eq-eqb s.tid old (own-id id s e ∙ same))) xs
+    grind (arith, filter-outside, not_from_true, own-id)
 
 fresh-none : (id size old : ℕ) (new : ℕ × List ℕ) → id ≡ old → (old == new.0) ≡ false →
     own_segments 4 id (segments_of 4 new.0 size new.1) ≡ []
-fresh-none id size old new same apart =
-    none-of (own id) size new
-    (λ s e. ap (λ (n : ℕ). n == new.0) (own-id id s e ∙ same) ∙ apart)
+fresh-none id size old new same apart = grind (arith, none-of, own-id)
 
 -- the body of this id went with a change
 abbrev pub takes_away : Change → ℕ → Bool
@@ -422,49 +322,21 @@ takes_away (Put new) id = false
 takes_away (Replaced old new) id = id == old
 takes_away (Withdrawn old) id = id == old
 
--- its segments do not stay
-gone-one : (s : Segment) (b : Bool) → (if not b then s ∷ [] else []) ≡ [] → b ≡ true
-gone-one s true e = refl
-gone-one s false e = absurd (let f : s ∷ [] ≡ [] = e in cc)
-
 gone-taken : (change : Change) (s : Segment) → that_stay change (s ∷ []) ≡ [] →
     takes_away change s.tid ≡ true
-gone-taken Same s e = absurd (let f : s ∷ [] ≡ [] = e in cc)
-gone-taken (Put new) s e = absurd (let f : s ∷ [] ≡ [] = e in cc)
-gone-taken (Replaced old new) s e = gone-one s (s.tid == old) e
-gone-taken (Withdrawn old) s e = gone-one s (s.tid == old) e
+gone-taken change s e = grind arith
 
 -- of a body that is gone nothing is left
 gone-early : (change : Change) (id : ℕ) (place : Place) → IsApart change →
     takes_away change id ≡ true → own_segments 4 id (early_after change place) ≡ []
-gone-early Same id place apart e = absurd (let f : false ≡ true = e in cc)
-gone-early (Put new) id place apart e = absurd (let f : false ≡ true = e in cc)
-gone-early (Replaced old new) id place apart e =
-    let fresh : List Segment = segments_of 4 new.0 place.segment_size new.1 in
-    let goes : Bool = goes_early (Replaced old new) place in
-    filter-append (own id) (without old (early_of place)) (if goes then fresh else [])
-    ∙ ap (λ (ss : List Segment). ss ++ own_segments 4 id (if goes then fresh else []))
-    (without-none id old (early_of place) (eqb-true id old e))
-    ∙ none-if (own id) goes fresh
-    (fresh-none id place.segment_size old new (eqb-true id old e) apart)
-gone-early (Withdrawn old) id place apart e =
-    let goes : Bool = goes_early (Withdrawn old) place in
-    filter-append (own id) (without old (early_of place)) (if goes then [] else [])
-    ∙ ap (λ (ss : List Segment). ss ++ own_segments 4 id (if goes then [] else []))
-    (without-none id old (early_of place) (eqb-true id old e))
-    ∙ none-if (own id) goes [] refl
+gone-early change id place apart e =
+    grind (arith, filter-append, without-none, eqb-true, none-if, fresh-none)
 
 gone-rest : (change : Change) (early : Bool) (id size : ℕ) (rest : List Segment) →
     IsApart change → takes_away change id ≡ true →
     own_segments 4 id (rest_after change early (fresh_segments size change) rest) ≡ []
-gone-rest Same early id size rest apart e = absurd (let f : false ≡ true = e in cc)
-gone-rest (Put new) early id size rest apart e = absurd (let f : false ≡ true = e in cc)
-gone-rest (Replaced old new) early id size rest apart e =
-    own-in_place (own id) old (segments_of 4 new.0 size new.1) rest
-    (λ s f. eq-eqb s.tid old (own-id id s f ∙ eqb-true id old e))
-    (fresh-none id size old new (eqb-true id old e) apart)
-gone-rest (Withdrawn old) early id size rest apart e =
-    without-none id old rest (eqb-true id old e)
+gone-rest change early id size rest apart e =
+    grind (arith, own-in_place, own-id, eqb-true, fresh-none, without-none)
 
 own-gone : (change : Change) (id : ℕ) (turn : Turn) (place : Place) → 0 < place.segment_size →
     HasDirectory turn → IsApart change → takes_away change id ≡ true →
@@ -483,8 +355,7 @@ pub gone-none : (id : ℕ) (turn : Turn) (place : Place) → 0 < place.segment_s
     own_segments 4 id (left_of (follow turn place)) ≡ []
 unfolding follow
 gone-none id turn place some has e =
-    own-gone (change_between place.turn.bodies turn.bodies) id turn place some has
-    (change_between-apart place.turn.bodies turn.bodies) e
+    grind (arith, own-gone, change_between-apart)
 
 -- changes come next
 pub changes-come-next : ChangesComeNext
@@ -510,10 +381,7 @@ changes-come-next place turn some has =
 fewer-cases : (b c : Bool) (x : Segment) (ys zs : List Segment) →
     bodies_not_begun ys ≤ bodies_not_begun zs → (x.number == 0) ≡ c →
     bodies_not_begun (if b then x ∷ ys else ys) ≤ bodies_not_begun (x ∷ zs)
-fewer-cases true true x ys zs l e = rw e (omega (arith, l))
-fewer-cases true false x ys zs l e = rw e l
-fewer-cases false true x ys zs l e = rw e (omega (arith, l))
-fewer-cases false false x ys zs l e = rw e l
+fewer-cases b c x ys zs l e = grind arith
 
 fewer-filter : (p : Segment → Bool) (xs : List Segment) →
     bodies_not_begun (filter p xs) ≤ bodies_not_begun xs
@@ -523,47 +391,23 @@ fewer-filter p (x ∷ xs) =
 
 pub fewer-stay : (change : Change) (xs : List Segment) →
     bodies_not_begun (that_stay change xs) ≤ bodies_not_begun xs
-fewer-stay Same xs = omega arith
-fewer-stay (Put new) xs = omega arith
-fewer-stay (Replaced old new) xs = fewer-filter (λ (s : Segment). not (s.tid == old)) xs
-fewer-stay (Withdrawn old) xs = fewer-filter (λ (s : Segment). not (s.tid == old)) xs
+fewer-stay change xs = grind (arith, fewer-filter)
 
 -- changes go early where fewer do so than may
 pub changes-go-early : ChangesGoEarly
 unfolding follow
 changes-go-early place turn some has fewer =
-    let change : Change = change_between place.turn.bodies turn.bodies in
-    let early : List Segment = early_of place in
-    let goes : goes_early change place ≡ true =
-    lt-ltb (bodies_not_begun (that_stay change early)) (most_early place)
-    (omega (arith, fewer, fewer-stay change early)) in
-    followed-early change turn place some has
-    ∙ ap (λ (b : Bool). that_stay change early
-    ++ (if b then fresh_segments place.segment_size change else [])) goes
-
--- where none of the old body stood, all stays
-kept-place : (fresh : List Segment) (x : Segment) (rest : List Segment) (t z k : Bool) →
-    (x.kind == 4) ≡ k → k ≡ true → (if k && t then x ∷ rest else rest) ≡ [] →
-    (if t then if z then fresh else [] else x ∷ []) ≡ x ∷ []
-kept-place fresh x rest true z true e f h = absurd (let g : x ∷ rest ≡ [] = h in cc)
-kept-place fresh x rest true z false e f h = absurd (let g : false ≡ true = f in cc)
-kept-place fresh x rest false z k e f h = refl
+    grind (arith, lt-ltb, fewer-stay, followed-early)
 
 others-none : (x : Segment) (rest : List Segment) (t : Bool) →
     (if t then x ∷ rest else rest) ≡ [] → rest ≡ []
-others-none x rest true h = absurd (let g : x ∷ rest ≡ [] = h in cc)
-others-none x rest false h = h
+others-none x rest t h = grind arith
 
 kept-in_place : (old : ℕ) (fresh xs : List Segment) → AreBodies xs →
     own_segments 4 old xs ≡ [] → flat_map (in_its_place old fresh) xs ≡ xs
 kept-in_place old fresh [] k h = refl
 kept-in_place old fresh (x ∷ xs) k h =
-    ap (λ (ss : List Segment). ss ++ flat_map (in_its_place old fresh) xs)
-    (kept-place fresh x (own_segments 4 old xs) (x.tid == old) (x.number == 0) (x.kind == 4) refl
-    (eq-eqb x.kind 4 k.0) h)
-    ∙ ap (λ (ss : List Segment). x ∷ ss)
-    (kept-in_place old fresh xs k.1
-    (others-none x (own_segments 4 old xs) (own old x) h))
+    grind (arith, kept-in_place old fresh xs k.1 (others-none x (own_segments 4 old xs) (own old x) h))
 
 -- the later segments of the old body go
 later-go : (old n k : ℕ) (fresh : List Segment) (ps : List (List ℕ)) →
@@ -571,10 +415,7 @@ later-go : (old n k : ℕ) (fresh : List Segment) (ps : List (List ℕ)) →
 later-go old n zero fresh [] = refl
 later-go old n (suc k) fresh [] = refl
 later-go old n zero fresh (p ∷ ps) =
-    rw (
-      eq-eqb old old refl,
-      ne_eqb (n + 1) 0 (λ e. absurd (omega (arith, e))),
-    ) (later-go old (n + 1) zero fresh ps)
+    grind (arith, later-go old (n + 1) zero fresh ps)
 later-go old n (suc k) fresh (p ∷ ps) = later-go old (n + 1) k fresh ps
 
 first-goes : (old k size count : ℕ) (bytes : List ℕ) (fresh : List Segment) → 0 < length bytes →
@@ -598,8 +439,7 @@ pub place-of_gone : (old k size : ℕ) (bytes : List ℕ) (fresh : List Segment)
     flat_map (in_its_place old fresh) (drop k (segments_of 4 old size bytes))
     ≡ (if k == 0 then fresh else [])
 place-of_gone old k size bytes fresh some body =
-    first-goes old k size (div_ceil (length bytes) size) bytes fresh body
-    (div_ceil_times (length bytes) size some).0
+    grind (arith, first-goes, div_ceil_times)
 
 -- a replaced body keeps its place
 pub replaced-keeps-its_place : ReplacedKeepsItsPlace

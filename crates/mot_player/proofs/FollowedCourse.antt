@@ -6,7 +6,7 @@ use Rattle.std.proofs.lemmas.Bool.{cases_lt, eqb-false, eqb-true, le-ltb, lt-ltb
 use Rattle.std.proofs.lemmas.List.{length-append}
 use Rattle.std.proofs.lemmas.List.Elements.{filter-append}
 use Rattle.std.specs.List.{AllByRecursion}
-use Rattle.std.specs.Prelude.{◌==◌, ◌&&◌, not, if◌then◌else◌}
+use Rattle.std.specs.Prelude.{◌==◌, ◌&&◌, if◌then◌else◌}
 use Rattle.mot_groups.specs.Entity.{segments_of}
 use Rattle.mot_groups.specs.Group.{Segment}
 use Rattle.mot_numbers.specs.Reading.{is_empty}
@@ -60,16 +60,10 @@ OneGoesOn size new olds news difference change =
 
 stay-append : (change : Change) (xs ys : List Segment) →
     that_stay change (xs ++ ys) ≡ that_stay change xs ++ that_stay change ys
-stay-append Same xs ys = refl
-stay-append (Put new) xs ys = refl
-stay-append (Replaced old new) xs ys = filter-append (λ (s : Segment). not (s.tid == old)) xs ys
-stay-append (Withdrawn old) xs ys = filter-append (λ (s : Segment). not (s.tid == old)) xs ys
+stay-append change xs ys = grind (arith, filter-append)
 
 stay-none : (change : Change) → that_stay change [] ≡ []
-stay-none Same = refl
-stay-none (Put new) = refl
-stay-none (Replaced old new) = refl
-stay-none (Withdrawn old) = refl
+stay-none change = grind arith
 
 one-of : (size : ℕ) (old new : Entity) (olds news : List (ℕ × List ℕ)) (d : Difference)
     (change : Change) (e s : ℕ) (q : List Waiting) → OneGoesOn size new olds news d change →
@@ -77,11 +71,8 @@ one-of : (size : ℕ) (old new : Entity) (olds news : List (ℕ × List ℕ)) (d
     queued size (entities new news) (one_more (kept d (waits e s)) q)
     ≡ that_stay change (queued size (entities old olds) (waits e s ∷ []))
     ++ queued size (entities new news) q
-one-of size old new olds news d change zero s q one some l = absurd (omega (arith, some))
-one-of size old new olds news d change (suc k) s q one some l =
-    one k s q (omega (arith, l))
-    ∙ ap (λ (ss : List Segment). that_stay change ss ++ queued size (entities new news) q)
-    (sym (append-nil (of_one size olds k s)))
+one-of size old new olds news d change e s q one some l =
+    grind (arith, append-nil, of_one)
 
 queue-of : (size : ℕ) (old new : Entity) (olds news : List (ℕ × List ℕ)) (d : Difference)
     (change : Change) (q : List Waiting) → OneGoesOn size new olds news d change →
@@ -102,8 +93,7 @@ queue-of size old new olds news d change (w ∷ q) one all =
 -- where the bodies stay
 rest-same : (size : ℕ) (old new : Entity) (bodies : List (ℕ × List ℕ)) (e s : ℕ) → 0 < e →
     segments_from size (entities new bodies) e s ≡ segments_from size (entities old bodies) e s
-rest-same size old new bodies zero s some = absurd (omega (arith, some))
-rest-same size old new bodies (suc k) s some = refl
+rest-same size old new bodies e s some = grind arith
 
 pub goes_on-same : (size : ℕ) (old new : Entity) (bodies : List (ℕ × List ℕ)) →
     GoesOn size old new bodies bodies (length bodies + 1) Nothing Same
@@ -116,9 +106,7 @@ goes_on-same size old new bodies = record {
 -- where one is put behind them
 one-put : (size : ℕ) (new : Entity) (olds : List (ℕ × List ℕ)) (f : ℕ × List ℕ) →
     OneGoesOn size new olds (olds ++ f ∷ []) Added (Put f)
-one-put size new olds f k s q l =
-    ap (λ (ss : List Segment). ss ++ queued size (entities new (olds ++ f ∷ [])) q)
-    (one-append size olds (f ∷ []) k s l)
+one-put size new olds f k s q l = grind (arith, one-append)
 
 fresh-put : (size : ℕ) (new : Entity) (olds : List (ℕ × List ℕ)) (f : ℕ × List ℕ) (e : ℕ) →
     e ≡ length olds + 1 →
@@ -129,8 +117,7 @@ fresh-put size new olds f (suc k) h =
     ∙ append-nil (segments_of 4 f.0 size f.1)
 
 none-empty : (xs : List Segment) → is_empty xs ≡ true → xs ≡ []
-none-empty [] e = refl
-none-empty (x ∷ xs) e = absurd (let g : false ≡ true = e in cc)
+none-empty xs e = grind arith
 
 rest-put : (size : ℕ) (old new : Entity) (olds : List (ℕ × List ℕ)) (f : ℕ × List ℕ)
     (k s : ℕ) (t early : Bool) → suc k ≤ length olds + 1 → (suc k ≡ length olds + 1 → s ≡ 0) →
@@ -164,11 +151,7 @@ rest-put-at : (size : ℕ) (old new : Entity) (olds : List (ℕ × List ℕ)) (f
     (rest_from Added early (length olds + 1) (waits e s)).segment
     ≡ rest_after (Put f) early (segments_of 4 f.0 size f.1)
     (segments_from size (entities old olds) e s)
-rest-put-at size old new olds f early zero s some l ends empty = absurd (omega (arith, some))
-rest-put-at size old new olds f early (suc k) s some l ends empty =
-    rest-put size old new olds f k s (suc k == length olds + 1) early l ends refl empty
-    ∙ ap (λ (t : Bool). if t && early then []
-    else from size olds k s ++ segments_of 4 f.0 size f.1) (sym empty)
+rest-put-at size old new olds f early e s some l ends empty = grind (arith, rest-put)
 
 pub goes_on-put : (size : ℕ) (old new : Entity) (olds : List (ℕ × List ℕ)) (f : ℕ × List ℕ) →
     GoesOn size old new olds (olds ++ f ∷ []) (length olds + 1) Added (Put f)
@@ -324,8 +307,7 @@ one-withdrawn size new before after g some is k s q l =
     ]
 
 none-or : (b : Bool) (xs : List Segment) → (if b then [] else []) ++ xs ≡ xs
-none-or true xs = refl
-none-or false xs = refl
+none-or b xs = grind arith
 
 rest-withdrawn : (size : ℕ) (old new : Entity) (before after : List (ℕ × List ℕ))
     (g : ℕ × List ℕ) (early : Bool) (count e s : ℕ) → 0 < size → IsGoing before after g →

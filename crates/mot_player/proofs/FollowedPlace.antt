@@ -1,15 +1,14 @@
 -- A place from which a changed turn is followed, and the course that the code takes of it.
-use Rattle.std.proofs.Common.{◌≡◌, ℕ, ◌+◌, ◌<◌, ◌≤◌, Bool, true, false, List, []}
-use Rattle.std.proofs.Common.{◌∷◌, ◌++◌, length, refl, sym, ap, ◌∙◌, arith, subst, Option, Some, None}
-use Rattle.std.proofs.Common.{inl, inr, drop, map, take}
+use Rattle.std.proofs.Common.{◌≡◌, ℕ, ◌+◌, ◌<◌, ◌≤◌, Bool, true, false, List, [], ◌∷◌, ◌++◌, length}
+use Rattle.std.proofs.Common.{refl, sym, ap, ◌∙◌, arith, subst, Option, Some, None, drop, map, take}
 use Rattle.std.proofs.Math.Seq.{take-append_seam, drop-append_seam}
 use Rattle.std.proofs.lemmas.Bool.{lt-ltb}
 use Rattle.std.proofs.lemmas.List.{append_assoc, length-map}
 use Rattle.std.specs.List.{AllByRecursion}
-use Rattle.std.specs.Prelude.{if◌then◌else◌, nat_lt, slice_index, unwrap_or}
+use Rattle.std.specs.Prelude.{if◌then◌else◌, nat_lt, unwrap_or}
 use Rattle.mot_groups.specs.Group.{Segment}
-use Rattle.mot_player.specs.Course.{CourseView, Entity, entities_of, entity_in, queued}
-use Rattle.mot_player.specs.Course.{segments_from, segments_in, waiting_of}
+use Rattle.mot_player.specs.Course.{CourseView, Entity, entities_of, queued, segments_from}
+use Rattle.mot_player.specs.Course.{waiting_of}
 use Rattle.mot_player.specs.Inner.Course.{followed, fresh_of, has_ended, has_ended_with, is_queued}
 use Rattle.mot_player.specs.Inner.Course.{kept_of, left_course, one_more, whole_course}
 use Rattle.mot_player.specs.Inner.Difference.{difference_from, difference_in}
@@ -40,9 +39,7 @@ plans-are [] [] e = refl
 plans-are [] (x ∷ bodies) e = absurd (omega (arith, ap length e))
 plans-are (p ∷ ps) [] e = absurd (omega (arith, ap length e))
 plans-are (p ∷ ps) (x ∷ bodies) e =
-    ap (λ (n : ℕ). record { tid = p.tid; length = n } ∷ plans (with_bodies ps bodies))
-    (ap (λ (l : List ℕ). slice_index l 0) e)
-    ∙ ap (λ (bs : List BodyPlan). p ∷ bs) (plans-are ps bodies (ap (drop 1) e))
+    grind (arith, plans-are ps bodies (ap (drop 1) e))
 
 some-bodies : (ps : List BodyPlan) (bodies : List (List ℕ)) →
     map length bodies ≡ map (λ (b : BodyPlan). b.length) ps →
@@ -52,8 +49,7 @@ some-bodies [] [] e all = tt
 some-bodies [] (x ∷ bodies) e all = tt
 some-bodies (p ∷ ps) [] e all = tt
 some-bodies (p ∷ ps) (x ∷ bodies) e all =
-    let same : length x ≡ p.length = ap (λ (l : List ℕ). slice_index l 0) e in
-    (omega (arith, same, all.0.0), some-bodies ps bodies (ap (drop 1) e) all.1)
+    grind (arith, some-bodies ps bodies (ap (drop 1) e) all.1)
 
 count-bodies : (ps : List BodyPlan) (bodies : List (List ℕ)) →
     map length bodies ≡ map (λ (b : BodyPlan). b.length) ps →
@@ -73,14 +69,11 @@ queued-append : (size : ℕ) (es : List Entity) (xs ys : List Waiting) →
     queued size es (xs ++ ys) ≡ queued size es xs ++ queued size es ys
 queued-append size es [] ys = refl
 queued-append size es (x ∷ xs) ys =
-    let first : List Segment = drop x.segment (segments_in size (entity_in es x.entity)) in
-    ap (λ (ss : List Segment). first ++ ss) (queued-append size es xs ys)
-    ∙ sym (append_assoc first (queued size es xs) (queued size es ys))
+    grind (arith, queued-append size es xs ys, append_assoc)
 
 queued-if : (size : ℕ) (es : List Entity) (q : List Waiting) (ss : List Segment) (b : Bool) →
     queued size es q ≡ ss → queued size es (if b then q else []) ≡ (if b then ss else [])
-queued-if size es q ss true e = e
-queued-if size es q ss false e = refl
+queued-if size es q ss b e = grind arith
 
 -- What is left of a turn that goes on by this course, where so much is under way.
 pub record IsLeft (s : PlayerView) (bodies : List (List ℕ)) (under : Option UnderWay)
@@ -93,9 +86,7 @@ pub record IsLeft (s : PlayerView) (bodies : List (List ℕ)) (under : Option Un
 
 none-queued : (count : ℕ) (d : Option ℕ) (q : List Waiting) (e : ℕ) →
     has_ended_with count d q e ≡ true → q ≡ []
-none-queued count (Some s) q e h = absurd (let f : false ≡ true = h in cc)
-none-queued count None (w ∷ q) e h = absurd (let f : false ≡ true = h in cc)
-none-queued count None [] e h = refl
+none-queued count d q e h = grind arith
 
 left-cases : (s : PlayerView) (bodies : List (List ℕ)) (idle ended : Bool) (u : UnderWay) →
     0 < s.segment_size → AreBodiesFor s.turn bodies → IsPlannable s.turn →
@@ -145,8 +136,7 @@ pub record IsFollowedOn (s : PlayerView) (new : TurnPlan) (bodies next : List (L
 
 within-count : (plan : TurnPlan) (size e s : ℕ) → IsWithinTurn plan size e s →
     e ≤ length plan.bodies + 1
-within-count plan size e s (inl h) = omega (arith, h.0)
-within-count plan size e s (inr h) = omega (arith, h.0)
+within-count plan size e s h4 = grind arith
 
 pub followed-on : (s : PlayerView) (new : TurnPlan) (bodies next : List (List ℕ))
     (c : CourseView) → 0 < s.segment_size → AreBodiesFor s.turn bodies → AreBodiesFor new next →

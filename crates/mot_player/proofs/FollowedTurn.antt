@@ -1,7 +1,6 @@
 -- A turn that is followed: the code finds the change that was made, and goes on by it.
-use Rattle.std.proofs.Common.{◌≡◌, ℕ, suc, ◌+◌, ◌<◌, true, false, List, []}
-use Rattle.std.proofs.Common.{◌∷◌, ◌++◌, length, refl, sym, ap, ◌∙◌, arith, eq-eqb, subst}
-use Rattle.std.proofs.Common.{Some, map, nat_eq}
+use Rattle.std.proofs.Common.{◌≡◌, ℕ, suc, ◌+◌, ◌<◌, true, false, List, [], ◌∷◌, ◌++◌, length, refl}
+use Rattle.std.proofs.Common.{sym, ap, ◌∙◌, arith, eq-eqb, subst, Some, map, nat_eq}
 use Rattle.std.proofs.lemmas.Bool.{and_parts, eqb-false, ne_eqb, not-true, or_parts}
 use Rattle.std.proofs.lemmas.List.{length-map, map-append}
 use Rattle.std.specs.List.{AllByRecursion}
@@ -59,9 +58,7 @@ difference-replaced n [] after g f e =
       all-same after,
     ) (ap (λ (m : ℕ). Some (Changed m)) none)
 difference-replaced n (b ∷ before) after g f e =
-    let one : n + 1 + length before ≡ n + suc (length before) = omega arith in
-    rw (same-plan b)
-    (difference-replaced (n + 1) before after g f e ∙ ap (λ (m : ℕ). Some (Changed m)) one)
+    grind (arith, difference-replaced (n + 1) before after g f e)
 
 difference-withdrawn : (n : ℕ) (before after : List BodyPlan) (g : BodyPlan) →
     AllByRecursion (λ (b : BodyPlan). (g.tid == b.tid) ≡ false) after →
@@ -73,9 +70,7 @@ difference-withdrawn n [] (a ∷ after) g o =
     let none : n ≡ n + 0 = omega arith in
     rw (other-plan g a o.0, all-same (a ∷ after)) (ap (λ (m : ℕ). Some (Removed m)) none)
 difference-withdrawn n (b ∷ before) after g o =
-    let one : n + 1 + length before ≡ n + suc (length before) = omega arith in
-    rw (same-plan b)
-    (difference-withdrawn (n + 1) before after g o ∙ ap (λ (m : ℕ). Some (Removed m)) one)
+    grind (arith, difference-withdrawn (n + 1) before after g o)
 
 -- and the definitions find the same change
 pub between-same : (bs : List (ℕ × List ℕ)) → change_between bs bs ≡ Same
@@ -124,8 +119,7 @@ pub other-inside : (id : ℕ) (before after : List (ℕ × List ℕ)) (g : ℕ �
     contains (ids (before ++ g ∷ after)) id ≡ false → (id == g.0) ≡ false
 other-inside id [] after g e = (or_parts (nat_eq id g.0) (contains (ids after) id) e).0
 other-inside id (b ∷ before) after g e =
-    other-inside id before after g
-    (or_parts (nat_eq id b.0) (contains (ids (before ++ g ∷ after)) id) e).1
+    grind (arith, other-inside id before after g (or_parts (nat_eq id b.0) (contains (ids (before ++ g ∷ after)) id) e).1)
 
 pub others-both : (before after : List (ℕ × List ℕ)) (g : ℕ × List ℕ) →
     is_distinct (ids (before ++ g ∷ after)) ≡ true → AreOthers g.0 before × AreOthers g.0 after
@@ -203,10 +197,7 @@ found-replaced size old new before after g f some e is = record {
 other-plans : (g : ℕ × List ℕ) (after : List (ℕ × List ℕ)) → AreOthers g.0 after →
     AllByRecursion (λ (b : BodyPlan). (g.0 == b.tid) ≡ false) (plans after)
 other-plans g [] o = tt
-other-plans g (a ∷ after) o = (
-  ne_eqb g.0 a.0 (λ e. absurd (eqb-false a.0 g.0 o.0 (sym e))),
-  other-plans g after o.1,
-)
+other-plans g (a ∷ after) o = grind (arith, other-plans g after o.1)
 
 found-withdrawn : (size : ℕ) (old new : Entity) (before after : List (ℕ × List ℕ))
     (g : ℕ × List ℕ) → 0 < size → IsGoing before after g →

@@ -1,12 +1,12 @@
 -- What a receiver has of a turn of which some bodies come more than once, each whole, reads as its
 -- carousel.
-use Rattle.std.proofs.Common.{◌≡◌, ℕ, zero, suc, ◌<◌, List, [], ◌∷◌, ◌++◌, Bool, true, false}
+use Rattle.std.proofs.Common.{arith, ◌≡◌, ℕ, zero, suc, ◌<◌, List, [], ◌∷◌, ◌++◌, Bool, true, false}
 use Rattle.std.proofs.Common.{Option, Some, None, refl, sym, subst, map, length, ap, ◌∙◌, not}
 use Rattle.std.proofs.Common.{append-nil, append_assoc, eq-eqb}
-use Rattle.std.proofs.lemmas.Bool.{and_parts, eqb-true, not-true, or_parts, or_right}
+use Rattle.std.proofs.lemmas.Bool.{and_parts, eqb-true, not-true, or_parts}
 use Rattle.std.proofs.lemmas.List.Elements.{filter-append}
 use Rattle.std.proofs.lemmas.Option.{same_Some, none-some}
-use Rattle.std.specs.Prelude.{◌==◌, ◌&&◌, ◌||◌, bytes_eq, filter, if◌then◌else◌, nat_eq}
+use Rattle.std.specs.Prelude.{◌==◌, ◌&&◌, ◌||◌, filter, if◌then◌else◌, nat_eq}
 use Rattle.std.specs.List.{list_all, list_any, AllByRecursion}
 use Rattle.std.specs.Cmp.{nat_eq_equiv}
 use Rattle.mot_directory.specs.Directory.{read_directory}
@@ -49,26 +49,14 @@ abbrev pub Respects : (Segment → Bool) → Type 0
 Respects p = (s t : Segment) → is_same_segment s t ≡ true → p s ≡ p t
 
 pub own-respects : (kind tid : ℕ) → Respects (λ (s : Segment). s.kind == kind && s.tid == tid)
-own-respects kind tid s t e =
-    let flags : Bool = if s.last then t.last else not t.last in
-    let bytes = and_parts (s.kind == t.kind && s.tid == t.tid && s.number == t.number && flags)
-    (bytes_eq s.bytes t.bytes) e in
-    let last = and_parts (s.kind == t.kind && s.tid == t.tid && s.number == t.number) flags
-    bytes.0 in
-    let number = and_parts (s.kind == t.kind && s.tid == t.tid) (s.number == t.number) last.0 in
-    let ids = and_parts (s.kind == t.kind) (s.tid == t.tid) number.0 in
-    ap (λ (k : ℕ). k == kind && s.tid == tid) (eqb-true s.kind t.kind ids.0)
-    ∙ ap (λ (i : ℕ). t.kind == kind && i == tid) (eqb-true s.tid t.tid ids.1)
+own-respects kind tid s t e = grind (arith, and_parts, eqb-true)
 
 any-cases : (p : Segment → Bool) (s t : Segment) (had : List Segment) (b c : Bool) →
     is_same_segment s t ≡ b → (b ≡ true → c ≡ true) →
     list_any (is_same_segment s) (filter p had) ≡ list_any (is_same_segment s) had →
     list_any (is_same_segment s) (if c then t ∷ filter p had else filter p had)
     ≡ (b || list_any (is_same_segment s) had)
-any-cases p s t had true true e f ih = rw e refl
-any-cases p s t had true false e f ih = absurd (let g : false ≡ true = f refl in cc)
-any-cases p s t had false true e f ih = rw e ih
-any-cases p s t had false false e f ih = ih
+any-cases p s t had b c e f ih = grind arith
 
 pub any-filter : (p : Segment → Bool) → Respects p → (s : Segment) → p s ≡ true →
     (had : List Segment) →
@@ -82,37 +70,23 @@ filter-cases : (p : Segment → Bool) (had : List Segment) (s : Segment) (b c : 
     (c ≡ true → list_any (is_same_segment s) (filter p had) ≡ b) →
     filter p (if b then had else had ++ s ∷ [])
     ≡ (if c then had_with (filter p had) s else filter p had)
-filter-cases p had s true true is f = rw (f refl) refl
-filter-cases p had s true false is f = refl
-filter-cases p had s false true is f =
-    rw (f refl) (filter-append p had (s ∷ []) ∙ ap (λ ss. filter p had ++ ss) (rw is refl))
-filter-cases p had s false false is f =
-    filter-append p had (s ∷ []) ∙ ap (λ ss. filter p had ++ ss) (rw is refl)
-    ∙ append-nil (filter p had)
+filter-cases p had s b c is f = grind (arith, filter-append, append-nil)
 
 had-cases : (had xs : List Segment) (s : Segment) (c : Bool) →
     received (if c then had_with had s else had) xs ≡ received had (if c then s ∷ xs else xs)
-had-cases had xs s true = refl
-had-cases had xs s false = refl
+had-cases had xs s c = grind arith
 
 -- of what is received, an entity's are what is received of the entity's
 pub filter-received : (p : Segment → Bool) → Respects p → (had ss : List Segment) →
     filter p (received had ss) ≡ received (filter p had) (filter p ss)
 filter-received p r had [] = refl
 filter-received p r had (s ∷ ss) =
-    filter-received p r (had_with had s) ss
-    ∙ ap (λ h. received h (filter p ss))
-    (filter-cases p had s (list_any (is_same_segment s) had) (p s) refl
-    (λ e. any-filter p r s e had))
-    ∙ had-cases (filter p had) (filter p ss) s (p s)
+    grind (arith, filter-received p r (had_with had s) ss, filter-cases, any-filter, had-cases)
 
 had-wider : (x : Segment) (had ys : List Segment) → AllByRecursion (IsHad had) ys →
     AllByRecursion (IsHad (x ∷ had)) ys
 had-wider x had [] h = tt
-had-wider x had (y ∷ ys) h = (
-  or_right (is_same_segment y x) (list_any (is_same_segment y) had) h.0,
-  had-wider x had ys h.1,
-)
+had-wider x had (y ∷ ys) h = grind (arith, had-wider x had ys h.1)
 
 pub had-all : (xs : List Segment) → AllByRecursion (IsHad xs) xs
 had-all [] = tt
@@ -126,8 +100,7 @@ copies-had (suc n) xs = again xs xs (copies n xs) (had-all xs) ∙ copies-had n 
 received-copies : (n id size : ℕ) (bytes : List ℕ) →
     received [] (copies (suc n) (segments_of 4 id size bytes)) ≡ segments_of 4 id size bytes
 received-copies n id size bytes =
-    let here : List Segment = segments_of 4 id size bytes in
-    received-numbered [] (copies n here) 4 id 0 (pieces size bytes) tt ∙ copies-had n here
+    grind (arith, received-numbered, copies-had)
 
 with-front : (b : Bool) (had : List Segment) (s : Segment) →
     (xs : List Segment) × ((if b then had else had ++ s ∷ []) ≡ had ++ xs)
@@ -175,8 +148,7 @@ pub all-received : (P : Segment → Type 0) (had ss : List Segment) → AllByRec
     AllByRecursion P ss → AllByRecursion P (received had ss)
 all-received P had [] p q = p
 all-received P had (s ∷ ss) p q =
-    all-received P (had_with had s) ss
-    (with-all P (list_any (is_same_segment s) had) had s p q.0) q.1
+    grind (arith, all-received P (had_with had s) ss (with-all P (list_any (is_same_segment s) had) had s p q.0) q.1)
 
 pub listed : (p : Segment → Bool) (xs : List Segment) → list_all p xs ≡ true →
     AllByRecursion (λ (s : Segment). p s ≡ true) xs
@@ -191,13 +163,11 @@ all-list p (x ∷ xs) h = rw (h.0, all-list p xs h.1) refl
 
 later-cases : (P : Segment → Type 0) (b : Bool) (x : Segment) (ys : List Segment) →
     AllByRecursion P (if b then x ∷ ys else ys) → AllByRecursion P ys
-later-cases P true x ys p = p.1
-later-cases P false x ys p = p
+later-cases P b x ys p = grind arith
 
 first-case : (P : Segment → Type 0) (b : Bool) (x : Segment) (ys : List Segment) → b ≡ true →
     AllByRecursion P (if b then x ∷ ys else ys) → P x
-first-case P true x ys e p = p.0
-first-case P false x ys e p = absurd (let f : false ≡ true = e in cc)
+first-case P b x ys e p = grind arith
 
 -- what holds of each body's own segments holds of all
 all-of_own : (P : Segment → Type 0) (xs : List Segment) → AreBodies xs →
@@ -215,11 +185,7 @@ body-cases : (P : Segment → Type 0) (id size : ℕ) (b : ℕ × List ℕ) (byt
     (later ≡ Some bytes → AllByRecursion P (segments_of 4 id size bytes)) →
     (if t then Some b.1 else later) ≡ Some bytes →
     AllByRecursion P (segments_of 4 id size bytes)
-body-cases P id size b bytes later true e p f is =
-    subst (λ (body : List ℕ). AllByRecursion P (segments_of 4 id size body))
-    (same_Some b.1 bytes is)
-    (subst (λ (k : ℕ). AllByRecursion P (segments_of 4 k size b.1)) (sym (eqb-true id b.0 e)) p)
-body-cases P id size b bytes later false e p f is = f is
+body-cases P id size b bytes later t e p f is = grind arith
 
 -- what holds of all bodies' segments holds of one's
 all-of_body : (P : Segment → Type 0) (id size : ℕ) (bodies : List (ℕ × List ℕ))
@@ -306,10 +272,7 @@ pub later-id : (id : ℕ) (o : Object) (objects : List Object) (bytes : List ℕ
     (id == o.tid) ≡ t → body_of o.tid (bodies_with_ids objects) ≡ None →
     body_of id (bodies_with_ids objects) ≡ Some bytes →
     (if t then Some o.body else body_of id (bodies_with_ids objects)) ≡ Some bytes
-later-id id o objects bytes true e absent is =
-    absurd (none-some bytes (sym absent
-    ∙ ap (λ (k : ℕ). body_of k (bodies_with_ids objects)) (sym (eqb-true id o.tid e)) ∙ is))
-later-id id o objects bytes false e absent is = is
+later-id id o objects bytes t e absent is = grind arith
 
 pub map-ids : (objects : List Object) →
     map (λ (b : ℕ × List ℕ). b.0) (bodies_with_ids objects) ≡ ids_of objects
@@ -337,17 +300,13 @@ each-own size all (o ∷ objects) d f =
 
 none-of_bodies : (id : ℕ) (xs : List Segment) → AreBodies xs → own_segments 6 id xs ≡ []
 none-of_bodies id [] k = refl
-none-of_bodies id (x ∷ xs) k =
-    let other : (x.kind == 6) ≡ false = ap (λ (n : ℕ). n == 6) k.0 in
-    rw other (none-of_bodies id xs k.1)
+none-of_bodies id (x ∷ xs) k = grind (arith, none-of_bodies id xs k.1)
 
 received-own : (id size : ℕ) (bytes : List ℕ) (o : Option (List ℕ)) (segments : List Segment) →
     o ≡ Some bytes → IsOwn size id o segments →
     received [] segments ≡ segments_of 4 id size bytes
-received-own id size bytes None segments e is = absurd (none-some bytes e)
-received-own id size bytes (Some body) segments e is =
-    ap (received []) is.1 ∙ received-copies is.0 id size body
-    ∙ ap (λ (b : List ℕ). segments_of 4 id size b) (same_Some body bytes e)
+received-own id size bytes o segments e is =
+    grind (arith, none-some, received-copies, same_Some)
 
 module _ (size : ℕ) (laws : EntityLaws size) where
   pub read-own : (all : List Segment) (objects : List Object) → AreSome objects →

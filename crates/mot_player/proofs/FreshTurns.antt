@@ -4,60 +4,49 @@ use Rattle.std.proofs.Common.{◌≡◌, ℕ, suc, zero, ◌+◌, ◌<◌, ◌�
 use Rattle.std.proofs.Common.{false, Option, Some, None, ◌⊎◌, inl, inr, refl, sym, subst, map}
 use Rattle.std.proofs.Common.{length, ap, ◌∙◌, arith, append-nil, eq-eqb, not}
 use Rattle.std.proofs.lemmas.Bool.{and_parts, eqb-true, ltb-false, not-true, not_from_false}
-use Rattle.std.proofs.lemmas.Grind.{div_ceil_times}
 use Rattle.std.proofs.lemmas.List.{append_assoc, take-append-drop}
 use Rattle.std.proofs.lemmas.List.Elements.{filter-append}
-use Rattle.std.proofs.lemmas.Option.{none-some, same_Some}
-use Rattle.std.specs.Int.{div_ceil}
-use Rattle.std.specs.Prelude.{◌==◌, ◌&&◌, All, IfSome, filter, flat_map, if◌then◌else◌, is_some}
+use Rattle.std.specs.Prelude.{◌==◌, ◌&&◌, IfSome, filter, flat_map, if◌then◌else◌, is_some}
 use Rattle.std.specs.List.{AllByRecursion}
 use Rattle.std.specs.Cmp.{nat_eq_equiv}
-use Rattle.mot_directory.specs.Directory.{bytes_of_directory, bytes_of_entries}
-use Rattle.mot_directory.specs.Entries.{directory_of, entry_of}
+use Rattle.mot_directory.specs.Directory.{bytes_of_directory}
 use Rattle.mot_groups.specs.Entity.{own_segments, pieces, segments_of}
-use Rattle.mot_groups.specs.Group.{GroupFields, Segment, bytes_of_group}
+use Rattle.mot_groups.specs.Group.{Segment, bytes_of_group}
 use Rattle.mot_numbers.specs.Reading.{is_empty}
 use Rattle.mot_numbers.specs.declared.numbers.TheConstants.{MAX_SEGMENT}
-use Rattle.mot_objects.specs.Carousel.{Carousel, IsSound, Object}
+use Rattle.mot_objects.specs.Carousel.{Carousel, IsSound}
 use Rattle.mot_objects.specs.Ids.{contains, is_distinct}
 use Rattle.mot_packets.specs.Gather.{gather, gather_front, groups_after}
 use Rattle.mot_player.specs.Followable.{IsFollowable, IsOneChange, put, replaced, same, withdrawn}
 use Rattle.mot_player.specs.Laws.{AreSent, IsPlace}
 use Rattle.mot_player.specs.Place.{Change, Place, Put, Replaced, Same, Sent, Step, UnderWay}
 use Rattle.mot_player.specs.Place.{Withdrawn, bodies_not_begun, change_between, change_turn}
-use Rattle.mot_player.specs.Place.{changed, goes_early, most_early}
-use Rattle.mot_player.specs.Place.{directory_segments, early_after, early_of, first_sent, follow}
-use Rattle.mot_player.specs.Place.{followed_by, group_for, hear_directory}
-use Rattle.mot_player.specs.Place.{in_its_place, left_of, left_with, next_sent, of_bodies}
-use Rattle.mot_player.specs.Place.{opened_place, packet_sent, request, rest_of, sent_by}
-use Rattle.mot_player.specs.Place.{with_begun, without}
+use Rattle.mot_player.specs.Place.{changed, goes_early, most_early, directory_segments, early_after}
+use Rattle.mot_player.specs.Place.{early_of, follow, followed_by, hear_directory, in_its_place}
+use Rattle.mot_player.specs.Place.{left_of, left_with, next_sent, of_bodies, opened_place, request}
+use Rattle.mot_player.specs.Place.{rest_of, sent_by, without}
 use Rattle.mot_player.specs.Reading.{read_segments}
-use Rattle.mot_player.specs.Repeats.{ReadsOnceAs, ends_at_last}
-use Rattle.mot_player.specs.Repeats.{read_turn_once, received}
+use Rattle.mot_player.specs.Repeats.{ReadsOnceAs, ends_at_last, read_turn_once, received}
 use Rattle.mot_player.specs.Staying.{AreFewEarly, HasDirectory, touches}
-use Rattle.mot_player.specs.Turn.{IsPlayable, IsSendable, IsTurnOf, Turn}
-use Rattle.mot_player.specs.Turn.{segments_of_bodies, segments_of_turn, turn_of_carousel}
+use Rattle.mot_player.specs.Turn.{IsPlayable, IsTurnOf, Turn, segments_of_bodies, segments_of_turn}
+use Rattle.mot_player.specs.Turn.{turn_of_carousel}
 use Rattle.mot_player.proofs.Asked.{keep_turn}
 use Rattle.mot_player.proofs.Addresses.{one_address, steps-address}
 use Rattle.mot_player.proofs.Beginnings.{StandsAt}
 use Rattle.mot_player.proofs.FewEarly.{both-counted}
-use Rattle.mot_player.proofs.Followed.{AreBodies, bodies-append, bodies-early_after}
-use Rattle.mot_player.proofs.Followed.{takes_away}
-use Rattle.mot_player.proofs.Followed.{bodies-renewed, followed-bodies, gone-none}
-use Rattle.mot_player.proofs.Followed.{followed-left, own-followed, renewed}
-use Rattle.mot_player.proofs.Followed.{of_bodies-directory}
+use Rattle.mot_player.proofs.Followed.{AreBodies, bodies-append, bodies-early_after, takes_away}
+use Rattle.mot_player.proofs.Followed.{bodies-renewed, followed-bodies, gone-none, followed-left}
+use Rattle.mot_player.proofs.Followed.{own-followed, renewed, of_bodies-directory}
 use Rattle.mot_player.proofs.FollowedTurn.{between-put, between-replaced, between-same}
 use Rattle.mot_player.proofs.FollowedTurn.{AreSome, between-withdrawn, ids, other-inside}
 use Rattle.mot_player.proofs.FollowedTurn.{others-both, some-inside}
 use Rattle.mot_player.proofs.FreshReads.{IsOwn, all-again, body-absent, body_of, copies}
 use Rattle.mot_player.proofs.FreshReads.{map-ids, own-whole, reads-again}
 use Rattle.mot_player.proofs.Left.{filter-within, own, own-directory, own-of_bodies}
-use Rattle.mot_player.proofs.NotBegun.{first-counted}
 use Rattle.mot_player.proofs.Repeated.{heard-left, none-behind, of_bodies-all}
 use Rattle.mot_player.proofs.Requests.{packets_of}
-use Rattle.mot_player.proofs.TurnOnce.{IsWithin, bodies-bodies, steps-send}
+use Rattle.mot_player.proofs.TurnOnce.{IsWithin, bodies-bodies, steps-send, front-fit}
 use Rattle.mot_player.proofs.UnderWay.{front_of, group_of}
-use Rattle.mot_player.proofs.TurnOnce.{front-fit}
 use Rattle.mot_player.proofs.TurnReads.{EntityLaws, bodies-some, own-numbered_segments}
 use Rattle.mot_player.proofs.WholeTurn.{IsFit, append-fit, are_fit-turn, entity-laws, groups-read}
 use Rattle.mot_player.proofs.WholeTurn.{whole_or_none}
@@ -81,13 +70,7 @@ IsApartTurn turn = is_distinct (ids turn.bodies) ≡ true
 own-turn : (id size : ℕ) (turn : Turn) → IsApartTurn turn →
     IsOwn size id (body_of id turn.bodies) (own_segments 4 id (segments_of_turn turn size))
 own-turn id size turn d =
-    let directory : List Segment = directory_segments turn size in
-    let bodies : List Segment = segments_of_bodies size turn.bodies in
-    subst (IsOwn size id (body_of id turn.bodies))
-    (sym (filter-append (own id) directory bodies
-    ∙ ap (λ ss. ss ++ own_segments 4 id bodies)
-    (own-directory id turn.tid 0 (pieces size turn.directory))))
-    (own-whole id size turn.bodies d)
+    grind (arith, body_of, filter-append, own-directory, own-whole)
 
 pub fresh-whole : (place : Place) → place.under_way ≡ None →
     (place.waiting ≡ []) ⊎ (place.waiting ≡ segments_of_turn place.turn place.segment_size) →
@@ -110,49 +93,15 @@ fresh-whole place none next d =
 pub fresh-opened : (address room size : ℕ) (turn : Turn) (follows : Option ℕ) → IsApartTurn turn →
     IsFresh (record (opened_place address room size turn) { follows = follows })
 fresh-opened address room size turn follows d =
-    fresh-whole (record (opened_place address room size turn) { follows = follows }) refl
-    (inl refl) d
+    grind (arith, fresh-whole)
 
 -- where a turn has ended, nothing is under way and nothing waits
 abbrev HasEnded : Place → Type 0
 HasEnded place = (place.under_way ≡ None) × (place.waiting ≡ [])
 
-abbrev under_behind : List ℕ → ℕ → Bool → Option UnderWay
-under_behind group at last =
-    if last then None else Some (record { group = group; sent = at })
-
-ended-cases : (place : Place) (group : List ℕ) (at : ℕ) (last : Bool) (waiting : List Segment) →
-    (last && is_empty waiting) ≡ true →
-    (under_behind group at last ≡ None) × (waiting ≡ [])
-ended-cases place group at true [] e = (refl, refl)
-ended-cases place group at true (s ∷ waiting) e = absurd (let f : false ≡ true = e in cc)
-ended-cases place group at false waiting e = absurd (let f : false ≡ true = e in cc)
-
-packet-ended : (place : Place) (group : List ℕ) (at : ℕ) →
-    (packet_sent place group at).ends_turn ≡ true → HasEnded (packet_sent place group at).place
-packet-ended place group at e =
-    ended-cases place group (at + place.room) (packet_sent place group at).packet.last
-    place.waiting e
-
-first-ended : (place : Place) (segments : List Segment) (s : Sent) →
-    first_sent place segments ≡ Some s → s.ends_turn ≡ true → HasEnded s.place
-first-ended place [] s e f = absurd (none-some s e)
-first-ended place (t ∷ segments) s e f =
-    let g : GroupFields = group_for place t in
-    let begun : Place = with_begun place g segments in
-    let first : Sent = packet_sent begun (bytes_of_group g) 0 in
-    let is : first ≡ s = same_Some first s e in
-    subst (λ (x : Sent). HasEnded x.place) is
-    (packet-ended begun (bytes_of_group g) 0 (ap (λ (x : Sent). x.ends_turn) is ∙ f))
-
 pub next-ended : (place : Place) (u : Option UnderWay) (s : Sent) → next_sent place u ≡ Some s →
     s.ends_turn ≡ true → HasEnded s.place
-next-ended place None s e f = first-ended place _ s e f
-next-ended place (Some u) s e f =
-    let is : packet_sent place u.group u.sent ≡ s =
-    same_Some (packet_sent place u.group u.sent) s e in
-    subst (λ (x : Sent). HasEnded x.place) is
-    (packet-ended place u.group u.sent (ap (λ (x : Sent). x.ends_turn) is ∙ f))
+next-ended place u s e f = grind arith
 
 -- behind the packet that ends a turn
 pub fresh-sent : (place : Place) (s : Sent) → request place ≡ Some s → s.ends_turn ≡ true →
@@ -208,34 +157,27 @@ fresh-heard place some has fresh =
 abbrev Pair : Type 0
 Pair = ℕ × List ℕ
 
-body-of_put : (id : ℕ) (bodies : List Pair) (f : Pair) → (id == f.0) ≡ false →
-    body_of id (bodies ++ f ∷ []) ≡ body_of id bodies
-body-of_put id [] f e = rw e refl
-body-of_put id (b ∷ bodies) f e =
-    ap (λ (o : Option (List ℕ)). if id == b.0 then Some b.1 else o) (body-of_put id bodies f e)
-
-body-of_other : (id : ℕ) (before after : List Pair) (g f : Pair) → (id == g.0) ≡ false →
-    (id == f.0) ≡ false → body_of id (before ++ f ∷ after) ≡ body_of id (before ++ g ∷ after)
-body-of_other id [] after g f d e = rw (d, e) refl
-body-of_other id (b ∷ before) after g f d e =
-    ap (λ (o : Option (List ℕ)). if id == b.0 then Some b.1 else o)
-    (body-of_other id before after g f d e)
-
 body-of_out : (id : ℕ) (before after : List Pair) (g : Pair) → (id == g.0) ≡ false →
     body_of id (before ++ after) ≡ body_of id (before ++ g ∷ after)
 body-of_out id [] after g d = rw d refl
 body-of_out id (b ∷ before) after g d =
-    ap (λ (o : Option (List ℕ)). if id == b.0 then Some b.1 else o)
-    (body-of_out id before after g d)
+    grind (arith, body-of_out id before after g d)
+
+body-of_put : (id : ℕ) (bodies : List Pair) (f : Pair) → (id == f.0) ≡ false →
+    body_of id (bodies ++ f ∷ []) ≡ body_of id bodies
+body-of_put id bodies f e =
+    sym (body-of_out id bodies [] f e) ∙ ap (body_of id) (append-nil bodies)
+
+body-of_other : (id : ℕ) (before after : List Pair) (g f : Pair) → (id == g.0) ≡ false →
+    (id == f.0) ≡ false → body_of id (before ++ f ∷ after) ≡ body_of id (before ++ g ∷ after)
+body-of_other id before after g f d e =
+    sym (body-of_out id before after f e) ∙ body-of_out id before after g d
 
 -- one id differs from the ids before it
 first-differs : (b f : Pair) (before after : List Pair) →
     is_distinct (ids (b ∷ before ++ f ∷ after)) ≡ true → (f.0 == b.0) ≡ false
 first-differs b f before after d =
-    let all : List ℕ = ids (before ++ f ∷ after) in
-    let parts = and_parts (not (contains all b.0)) (is_distinct all) d in
-    nat_eq_equiv.symm f.0 b.0
-    ∙ other-inside b.0 before after f (not-true (contains all b.0) parts.0)
+    grind (arith, and_parts, other-inside, not-true)
 
 body-of_fresh : (before after : List Pair) (f : Pair) →
     is_distinct (ids (before ++ f ∷ after)) ≡ true →
@@ -247,17 +189,6 @@ body-of_fresh (b ∷ before) after f d =
     rw (first-differs b f before after d) (body-of_fresh before after f parts.1)
 
 -- and of one whose id stands once, none is where it is not
-body-of_none : (before after : List Pair) (f g : Pair) →
-    is_distinct (ids (before ++ f ∷ after)) ≡ true → (f.0 == g.0) ≡ false →
-    body_of f.0 (before ++ g ∷ after) ≡ None
-body-of_none [] after f g d e =
-    let parts = and_parts (not (contains (ids after) f.0)) (is_distinct (ids after)) d in
-    rw e (body-absent f.0 after (not-true (contains (ids after) f.0) parts.0))
-body-of_none (b ∷ before) after f g d e =
-    let all : List ℕ = ids (before ++ f ∷ after) in
-    let parts = and_parts (not (contains all b.0)) (is_distinct all) d in
-    rw (first-differs b f before after d) (body-of_none before after f g parts.1 e)
-
 body-of_gone : (before after : List Pair) (f : Pair) →
     is_distinct (ids (before ++ f ∷ after)) ≡ true → body_of f.0 (before ++ after) ≡ None
 body-of_gone [] after f d =
@@ -267,6 +198,12 @@ body-of_gone (b ∷ before) after f d =
     let all : List ℕ = ids (before ++ f ∷ after) in
     let parts = and_parts (not (contains all b.0)) (is_distinct all) d in
     rw (first-differs b f before after d) (body-of_gone before after f parts.1)
+
+body-of_none : (before after : List Pair) (f g : Pair) →
+    is_distinct (ids (before ++ f ∷ after)) ≡ true → (f.0 == g.0) ≡ false →
+    body_of f.0 (before ++ g ∷ after) ≡ None
+body-of_none before after f g d e =
+    sym (body-of_out f.0 before after g e) ∙ body-of_gone before after f d
 
 -- ---- the segments of the body that came
 
@@ -300,8 +237,7 @@ put-copies id rest fresh false false e f =
 
 none-first : (b : Bool) (x : Segment) (ys : List Segment) → (if b then x ∷ ys else ys) ≡ [] →
     (b ≡ false) × (ys ≡ [])
-none-first true x ys e = absurd (omega (arith, ap length e))
-none-first false x ys e = (refl, e)
+none-first b x ys e = grind arith
 
 -- of bodies, the first segments of those of this id
 abbrev is_of : ℕ → Segment → Bool
@@ -315,13 +251,7 @@ in_place-cases : (id old n : ℕ) (fresh later xs : List Segment) (x : Segment) 
     n ≡ bodies_not_begun xs → later ≡ copies n fresh →
     own_segments 4 id (if t then if z then fresh else [] else x ∷ []) ++ later
     ≡ copies (bodies_not_begun (if t then x ∷ xs else xs)) fresh
-in_place-cases id old n fresh later xs x true true o e f m l =
-    rw e (ap (λ ss. ss ++ later) f ∙ ap (λ ss. fresh ++ ss) l
-    ∙ ap (λ (k : ℕ). copies (suc k) fresh) m)
-in_place-cases id old n fresh later xs x true false o e f m l =
-    rw e (l ∙ ap (λ (k : ℕ). copies k fresh) m)
-in_place-cases id old n fresh later xs x false z o e f m l =
-    rw o (l ∙ ap (λ (k : ℕ). copies k fresh) m)
+in_place-cases id old n fresh later xs x t z o e f m l = grind arith
 
 -- each first segment of the one that went stands for the one that came
 in_place-copies : (id old : ℕ) (fresh xs : List Segment) → own_segments 4 id fresh ≡ fresh →
@@ -341,9 +271,7 @@ own-cases : (old : ℕ) (x : Segment) (bodies owns : List Segment) (four : Bool)
     filter (is_of old) bodies ≡ owns →
     filter (is_of old) (if four then x ∷ bodies else bodies)
     ≡ (if four && x.tid == old then x ∷ owns else owns)
-own-cases old x bodies owns true e =
-    ap (λ (ss : List Segment). if x.tid == old then x ∷ ss else ss) e
-own-cases old x bodies owns false e = e
+own-cases old x bodies owns four e = grind arith
 
 own-of : (old : ℕ) (xs : List Segment) →
     filter (is_of old) (of_bodies xs) ≡ own_segments 4 old xs
@@ -351,39 +279,20 @@ own-of old [] = refl
 own-of old (x ∷ xs) =
     own-cases old x (of_bodies xs) (own_segments 4 old xs) (x.kind == 4) (own-of old xs)
 
--- each first segment is one of those that stay, or of those of this id
-split-cases : (x : Segment) (xs ys zs : List Segment) (t z : Bool) → (x.number == 0) ≡ z →
-    bodies_not_begun xs ≡ bodies_not_begun ys + bodies_not_begun zs →
-    bodies_not_begun (x ∷ xs)
-    ≡ bodies_not_begun (if not t then x ∷ ys else ys) + bodies_not_begun (if t then x ∷ zs else zs)
-split-cases x xs ys zs true true e h = rw e (omega (arith, h))
-split-cases x xs ys zs true false e h = rw e h
-split-cases x xs ys zs false true e h = rw e (omega (arith, h))
-split-cases x xs ys zs false false e h = rw e h
-
 split-first : (id : ℕ) (xs : List Segment) →
     bodies_not_begun xs ≡ bodies_not_begun (without id xs) + first_ones id xs
 split-first id [] = refl
-split-first id (x ∷ xs) =
-    split-cases x xs (without id xs) (filter (is_of id) xs) (x.tid == id) (x.number == 0) refl
-    (split-first id xs)
+split-first id (x ∷ xs) = grind (arith, split-first id xs)
 
 both-first : (id : ℕ) (xs ys : List Segment) →
     first_ones id (xs ++ ys) ≡ first_ones id xs + first_ones id ys
-both-first id xs ys =
-    ap bodies_not_begun (filter-append (is_of id) xs ys)
-    ∙ both-counted (filter (is_of id) xs) (filter (is_of id) ys)
+both-first id xs ys = grind (arith, filter-append, both-counted)
 
 -- of a body that is left whole, at least one is not begun
 whole-first : (id size n : ℕ) (bytes : List ℕ) (segments : List Segment) → 0 < size →
     0 < length bytes → segments ≡ copies (suc n) (segments_of 4 id size bytes) →
     0 < bodies_not_begun segments
-whole-first id size n bytes segments some body e =
-    let whole : List Segment = segments_of 4 id size bytes in
-    let one : bodies_not_begun whole ≡ 1 =
-    first-counted 4 id (div_ceil (length bytes) size) size bytes body
-    (div_ceil_times (length bytes) size some).0 in
-    omega (arith, ap bodies_not_begun e, both-counted whole (copies n whole), one)
+whole-first id size n bytes segments some body e = grind arith
 
 replaced-copies : (id : ℕ) (fresh : List Segment) (b : Bool) (n : ℕ) →
     own_segments 4 id fresh ≡ fresh → (b ≡ false → 0 < n) →
@@ -405,14 +314,10 @@ module _ (id : ℕ) (turn : Turn) (place : Place) (some : 0 < place.segment_size
       ∙ own-of_bodies id (left_of place) ∙ none
 
   early-none : own_segments 4 id (early_of place) ≡ []
-  early-none =
-      none-front (own_segments 4 id (early_of place)) (own_segments 4 id (rest_of place))
-      both-none
+  early-none = grind (arith, none-front, both-none)
 
   rest-none : own_segments 4 id (rest_of place) ≡ []
-  rest-none =
-      none-behind (own_segments 4 id (early_of place)) (own_segments 4 id (rest_of place))
-      both-none
+  rest-none = grind (arith, none-behind, both-none)
 
   parts-of : (change : Change) →
       own_segments 4 id (left_of (followed_by change turn place))
@@ -500,19 +405,14 @@ module _ (turn : Turn) (place : Place) (some : 0 < place.segment_size) (has : Ha
 
   not-touched : (change : Change) → change_is change → touches change id ≡ false →
       IsThen (body_of id place.turn.bodies)
-  not-touched change is t =
-      subst (IsOwn place.segment_size id (body_of id place.turn.bodies))
-      (sym (own-followed id turn place some has
-      (ap (λ (c : Change). touches c id) is ∙ t))) (own_before id)
+  not-touched change is t = grind (arith, body_of, own-followed)
 
   taken : (change : Change) → change_is change → takes_away change id ≡ true → IsThen None
   taken change is t =
       gone-none id turn place some has (ap (λ (c : Change). takes_away c id) is ∙ t)
 
   none-before : body_of id place.turn.bodies ≡ None → own_segments 4 id (left_of place) ≡ []
-  none-before e =
-      subst (λ (o : Option (List ℕ)). IsOwn place.segment_size id o
-      (own_segments 4 id (left_of place))) e (own_before id)
+  none-before e = grind arith
 
   put-own : (f : Pair) (t : Bool) → (id == f.0) ≡ t → change_is (Put f) →
       is_distinct (ids (place.turn.bodies ++ f ∷ [])) ≡ true →
@@ -625,20 +525,15 @@ fresh-followed turn place some has followable apart few filled fresh =
           followable.distinct apart;
     }
 
-anew-fresh : (turn : Turn) (place : Place) → IsApartTurn turn → IsFresh place →
-    IsFresh (change_turn turn place)
-unfolding change_turn
-anew-fresh turn place apart fresh =
-    fresh-whole (change_turn turn place) fresh.under_way (inr refl) apart
-
 change-cases : (b : Bool) (turn : Turn) (place : Place) → 0 < place.segment_size →
     HasDirectory turn → IsFollowable place.turn turn → IsApartTurn turn → AreFewEarly place →
     AreSome place.turn.bodies → IsFresh place →
     IsFresh (if b then follow turn place else change_turn turn place)
+unfolding change_turn
 change-cases true turn place some has followable apart few filled fresh =
     fresh-followed turn place some has followable apart few filled fresh
 change-cases false turn place some has followable apart few filled fresh =
-    anew-fresh turn place apart fresh
+    fresh-whole (change_turn turn place) fresh.under_way (inr refl) apart
 
 -- the turn changed, of which no body was empty
 pub fresh-changed : (turn : Turn) (place : Place) → 0 < place.segment_size → HasDirectory turn →
@@ -653,18 +548,11 @@ fresh-changed turn place some has followable apart few filled fresh =
 -- it has a directory
 pub has-directory : (c : Carousel) (size : ℕ) → HasDirectory (turn_of_carousel c size)
 unfolding bytes_of_directory
-has-directory c size =
-    let entries : List ℕ = bytes_of_entries (map entry_of c.objects) in
-    let all : length (bytes_of_directory (directory_of c size)) ≡ 13 + length entries =
-    omega arith in
-    omega (arith, all)
+has-directory c size = grind arith
 
 -- and of a sound one no two bodies have one id
 pub apart-carousel : (c : Carousel) (size : ℕ) → IsSound c → IsApartTurn (turn_of_carousel c size)
-apart-carousel c size sound =
-    ap is_distinct (map-ids c.objects)
-    ∙ (and_parts (not (contains (map (λ (o : Object). o.tid) c.objects) c.directory))
-    (is_distinct (map (λ (o : Object). o.tid) c.objects)) sound.ids).1
+apart-carousel c size sound = grind (arith, map-ids, and_parts)
 
 -- ---- reading
 
@@ -677,16 +565,7 @@ pub fresh-place : (follows between whole : Bool) (size : ℕ) (turn : Turn) (pla
     StandsAt follows between whole size turn place → (0 < size) × (size ≤ MAX_SEGMENT) →
     IsPlayable turn size → IsFresh place → IsPlace place
 fresh-place follows between whole size turn place st range playable fresh =
-    let is : size ≡ place.segment_size = sym st.size_is in record {
-      room = st.room;
-      size = subst (λ n. (0 < n) × (n ≤ MAX_SEGMENT)) is range;
-      directory = st.keeps.directory;
-      body = st.keeps.body;
-      playable = subst (λ (t : Turn). IsPlayable t place.segment_size) (sym st.turn_is)
-          (subst (IsPlayable turn) is playable);
-      under_way = subst (λ (u : Option UnderWay).
-          IfSome u (λ (w : UnderWay). w.sent < length w.group)) (sym fresh.under_way) tt;
-    }
+    grind arith
 
 module _ (old : Place) (c : Carousel) (place : IsPlace old)
     (is_turn : IsTurnOf old.turn c old.segment_size) (sound : IsSound c) (fresh : IsFresh old) where
@@ -697,9 +576,7 @@ module _ (old : Place) (c : Carousel) (place : IsPlace old)
   directory = directory_segments old.turn piece_size
 
   fit-whole : AllByRecursion IsFit (segments_of_turn old.turn piece_size)
-  fit-whole =
-      are_fit-turn piece_size (entity-laws piece_size place.size.0) place.size.1 old.turn c is_turn
-      sound place.playable
+  fit-whole = grind (arith, are_fit-turn, entity-laws)
 
   fit-directory : AllByRecursion IsFit directory
   fit-directory = front-fit directory (segments_of_bodies piece_size old.turn.bodies) fit-whole
@@ -707,18 +584,11 @@ module _ (old : Place) (c : Carousel) (place : IsPlace old)
   -- what is left of each body is behind the directory
   own-bodies : (id : ℕ) → IsOwn piece_size id (body_of id old.turn.bodies)
       (own_segments 4 id fresh.bodies)
-  own-bodies id =
-      subst (IsOwn piece_size id (body_of id old.turn.bodies))
-      (ap (own_segments 4 id) fresh.left
-      ∙ filter-append (own id) directory fresh.bodies
-      ∙ ap (λ ss. ss ++ own_segments 4 id fresh.bodies)
-      (own-directory id old.turn.tid 0 (pieces piece_size old.turn.directory))) (fresh.own id)
+  own-bodies id = grind (arith, body_of, filter-append, own-directory)
 
   fit-left : AllByRecursion IsFit (directory ++ fresh.bodies)
   fit-left =
-      append-fit directory fresh.bodies fit-directory
-      (all-again IsFit piece_size old.turn.bodies fresh.bodies fresh.are_bodies
-      (behind-fit directory (segments_of_bodies piece_size old.turn.bodies) fit-whole) own-bodies)
+      grind (arith, append-fit, fit-directory, all-again, behind-fit, fit-whole, own-bodies)
 
   within-fresh : IsWithin [] old (left_of old)
   within-fresh = record {
@@ -747,18 +617,7 @@ module _ (old : Place) (c : Carousel) (place : IsPlace old)
         objects = c.objects;
       })
   reads-left =
-      let laws : EntityLaws piece_size = entity-laws piece_size place.size.0 in
-      ap (λ (ss : List Segment). read_segments (received [] ss)) fresh.left
-      ∙ ap (λ id. read_segments (received []
-      (segments_of 6 id piece_size old.turn.directory ++ fresh.bodies))) is_turn.tid
-      ∙ reads-again piece_size laws c.directory c.period old.turn.directory c.objects fresh.bodies
-      place.playable.directory.some is_turn.directory sound.ids
-      (bodies-some piece_size laws c.objects
-      (subst (All (λ (b : ℕ × List ℕ). IsSendable piece_size b.1)) is_turn.bodies
-      place.playable.bodies)) fresh.are_bodies
-      (λ id. subst (λ (bs : List (ℕ × List ℕ)).
-      IsOwn piece_size id (body_of id bs) (own_segments 4 id fresh.bodies)) is_turn.bodies
-      (own-bodies id))
+      grind (arith, entity-laws, reads-again, bodies-some, body_of, own-bodies)
 
   -- the packets up to the one that ends the turn
   pub fresh-reads : (new : Place) (steps : List Step) (sents : List Sent)

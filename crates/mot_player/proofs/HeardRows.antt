@@ -1,18 +1,16 @@
 -- Worked turns in which a directory comes between, and a changed turn is followed: which segments'
 -- groups are begun, and where the turn ends.
 use Rattle.std.proofs.Common.{◌≡◌, ℕ, List, [], ◌∷◌, ◌++◌, Bool, true, false, refl, map, replicate}
+use Rattle.std.proofs.Common.{take}
 use Rattle.std.specs.Prelude.{Option, Some, None}
-use Rattle.mot_groups.specs.Group.{Segment}
-use Rattle.mot_player.specs.Place.{Place, Sent, Step, Request, Directory, Follow}
+use Rattle.mot_groups.specs.Group.{Segment, bytes_of_group}
+use Rattle.mot_player.specs.Place.{Place, Step, Directory, Follow}
 use Rattle.mot_player.specs.Place.{opened_place, request, sent_by, hear_directory, follow}
 use Rattle.mot_player.specs.Staying.{begun_by}
 use Rattle.mot_player.specs.Turn.{Turn}
-use Rattle.mot_groups.specs.Group.{bytes_of_group}
 use Rattle.mot_base.specs.Checksum.{crc_of, bits_of, bits_of_bytes, number_of_bits, added_to_front}
 use Rattle.mot_base.specs.Checksum.{remainder}
-
-abbrev requests : ℕ → List Step
-requests n = replicate n Request
+use Rattle.mot_player.proofs.Rows.{ends_in, requests}
 
 -- of segments: type, transport id and number
 abbrev Seen : Type 0
@@ -22,10 +20,6 @@ abbrev seen : Option (List Segment) → List Seen
 seen None = []
 seen (Some segments) =
     map {B = ℕ × ℕ × ℕ} (λ (s : Segment). (s.kind, s.tid, s.number)) segments
-
-abbrev ends : Option (List Sent × Place) → List Bool
-ends None = []
-ends (Some played) = map (λ (s : Sent). s.ends_turn) played.0
 
 -- a directory of one segment of two bytes, a body of two segments, and one of one
 abbrev old_turn : Turn
@@ -70,321 +64,173 @@ short_start = record (opened_place 1 10 2 old_turn) { follows = Some 3 }
 abbrev one_end : ℕ → ℕ → List Bool
 one_end before behind = replicate before false ++ true ∷ replicate behind false
 
--- which segments' groups are begun, and where turns end
-abbrev played : Place → List Step → List Seen × List Bool
-played place steps = (seen (begun_by place steps), ends (sent_by place steps))
+-- a place and the steps there, which segments' groups they begin, and where turns end
+abbrev Row : Type 0
+Row = (Place × List Step) × (List Seen × List Bool)
 
--- the directory between two segments of one body: the body goes on, and the turn ends as before
-between-begun : seen (begun_by start (requests 2 ++ Directory ∷ requests 4))
-    ≡ (6, 9, 0) ∷ (4, 2, 0) ∷ (6, 9, 0) ∷ (4, 2, 1) ∷ (4, 4, 0) ∷ (6, 9, 0) ∷ []
-unfolding begun_by request hear_directory bytes_of_group crc_of bits_of bits_of_bytes
-    number_of_bits added_to_front remainder
-between-begun = refl
+abbrev row : Place → List Step → List Seen → List Bool → Row
+row place steps begun ends = ((place, steps), (begun, ends))
 
-between-ends : ends (sent_by start (requests 2 ++ Directory ∷ requests 4))
-    ≡ false ∷ false ∷ false ∷ false ∷ true ∷ false ∷ []
-unfolding sent_by request hear_directory bytes_of_group crc_of bits_of bits_of_bytes
-    number_of_bits added_to_front remainder
-between-ends = refl
+-- what each row's steps begin and end
+abbrev outcomes : List Row → List (List Seen × List Bool)
+outcomes =
+    map (λ (r : Row). (seen (begun_by r.0.0 r.0.1), ends_in (sent_by r.0.0 r.0.1)))
 
--- asked for twice, or at the turn's end, it comes once
-twice-begun : seen (begun_by start (requests 2 ++ Directory ∷ Directory ∷ requests 3
-    ++ Directory ∷ requests 2))
-    ≡ (6, 9, 0) ∷ (4, 2, 0) ∷ (6, 9, 0) ∷ (4, 2, 1) ∷ (4, 4, 0) ∷ (6, 9, 0) ∷ (4, 2, 0) ∷ []
-unfolding begun_by request hear_directory bytes_of_group crc_of bits_of bits_of_bytes
-    number_of_bits added_to_front remainder
-twice-begun = refl
+abbrev wanted : List Row → List (List Seen × List Bool)
+wanted = map (λ (r : Row). r.1)
 
--- with short packets, while the last group of a turn is under way: the turn ends with it
-late-ends : ends (sent_by (opened_place 1 10 2 old_turn) (requests 7 ++ Directory ∷ requests 2))
-    ≡ false ∷ false ∷ false ∷ false ∷ false ∷ false ∷ false ∷ true ∷ false ∷ []
-unfolding sent_by request hear_directory bytes_of_group crc_of bits_of bits_of_bytes
-    number_of_bits added_to_front remainder
-late-ends = refl
+-- a directory that is asked for
+abbrev between_rows : List Row
+between_rows =
+    -- the directory between two segments of one body: the body goes on, and the turn ends as before
+    row start (requests 2 ++ Directory ∷ requests 4)
+    ((6, 9, 0) ∷ (4, 2, 0) ∷ (6, 9, 0) ∷ (4, 2, 1) ∷ (4, 4, 0) ∷ (6, 9, 0) ∷ []) (one_end 4 1)
+    -- asked for twice, or at the turn's end, it comes once
+    ∷ row start (requests 2 ++ Directory ∷ Directory ∷ requests 3 ++ Directory ∷ requests 2)
+    ((6, 9, 0) ∷ (4, 2, 0) ∷ (6, 9, 0) ∷ (4, 2, 1) ∷ (4, 4, 0) ∷ (6, 9, 0) ∷ (4, 2, 0) ∷ [])
+    (one_end 4 2)
+    -- with short packets, while the last group of a turn is under way: the turn ends with it
+    ∷ row short_start (requests 7 ++ Directory ∷ requests 2)
+    ((6, 9, 0) ∷ (4, 2, 0) ∷ (4, 2, 1) ∷ (4, 4, 0) ∷ (6, 9, 0) ∷ []) (one_end 7 1) ∷ []
 
--- the directory alone has changed: it comes, and the turn goes on
-same-row : played start
-    (requests 2 ++ Follow same_turn ∷ requests 4)
-    ≡ (
-      (6, 9, 0) ∷ (4, 2, 0) ∷ (6, 11, 0) ∷ (4, 2, 1) ∷ (4, 4, 0) ∷ (6, 11, 0) ∷ [],
-      one_end 4 1,
-    )
+between-rows : outcomes between_rows ≡ wanted between_rows
 unfolding begun_by sent_by request hear_directory follow bytes_of_group crc_of bits_of
     bits_of_bytes number_of_bits added_to_front remainder
-same-row = refl
+between-rows = refl
 
--- a body that was put comes next and at the turn's end
-put-row : played start
-    (requests 2 ++ Follow put_turn ∷ requests 8)
-    ≡ (
-      (6, 9, 0) ∷ (4, 2, 0) ∷ (6, 11, 0) ∷ (4, 6, 0) ∷ (4, 6, 1) ∷ (4, 2, 1) ∷ (4, 4, 0) ∷
-          (4, 6, 0) ∷ (4, 6, 1) ∷ (6, 11, 0) ∷ [],
-      one_end 8 1,
-    )
-unfolding begun_by sent_by request hear_directory follow bytes_of_group crc_of bits_of
-    bits_of_bytes number_of_bits added_to_front remainder
-put-row = refl
-
--- a replaced body whose place is to come comes next and in its place
-second-row : played start
-    (requests 2 ++ Follow second_turn ∷ requests 7)
-    ≡ (
-      (6, 9, 0) ∷ (4, 2, 0) ∷ (6, 11, 0) ∷ (4, 6, 0) ∷ (4, 6, 1) ∷ (4, 2, 1) ∷ (4, 6, 0) ∷
-          (4, 6, 1) ∷ (6, 11, 0) ∷ [],
-      one_end 7 1,
-    )
-unfolding begun_by sent_by request hear_directory follow bytes_of_group crc_of bits_of
-    bits_of_bytes number_of_bits added_to_front remainder
-second-row = refl
-
--- of one that was begun the rest goes
-inside-row : played start
-    (requests 2 ++ Follow first_turn ∷ requests 6)
-    ≡ (
-      (6, 9, 0) ∷ (4, 2, 0) ∷ (6, 11, 0) ∷ (4, 6, 0) ∷ (4, 6, 1) ∷ (4, 4, 0) ∷ (6, 11, 0) ∷
-          (4, 6, 0) ∷ [],
-      one_end 5 2,
-    )
-unfolding begun_by sent_by request hear_directory follow bytes_of_group crc_of bits_of
-    bits_of_bytes number_of_bits added_to_front remainder
-inside-row = refl
-
--- and where its place is passed it comes next alone
-passed-row : played start
-    (requests 3 ++ Follow first_turn ∷ requests 6)
-    ≡ (
-      (6, 9, 0) ∷ (4, 2, 0) ∷ (4, 2, 1) ∷ (6, 11, 0) ∷ (4, 6, 0) ∷ (4, 6, 1) ∷ (4, 4, 0) ∷
-          (6, 11, 0) ∷ (4, 6, 0) ∷ [],
-      one_end 6 2,
-    )
-unfolding begun_by sent_by request hear_directory follow bytes_of_group crc_of bits_of
-    bits_of_bytes number_of_bits added_to_front remainder
-passed-row = refl
-
--- a body that is gone comes no more
-gone-row : played start
-    (requests 2 ++ Follow gone_turn ∷ requests 3)
-    ≡ (
-      (6, 9, 0) ∷ (4, 2, 0) ∷ (6, 11, 0) ∷ (4, 2, 1) ∷ (6, 11, 0) ∷ [],
-      one_end 3 1,
-    )
-unfolding begun_by sent_by request hear_directory follow bytes_of_group crc_of bits_of
-    bits_of_bytes number_of_bits added_to_front remainder
-gone-row = refl
-
--- nor where it was to come early, and had begun to
-gone_early-row : played start
-    (requests 2 ++ Follow put_turn ∷ requests 2 ++ Follow same_turn ∷ requests 4)
-    ≡ (
-      (6, 9, 0) ∷ (4, 2, 0) ∷ (6, 11, 0) ∷ (4, 6, 0) ∷ (6, 11, 0) ∷ (4, 2, 1) ∷ (4, 4, 0) ∷
-          (6, 11, 0) ∷ [],
-      one_end 6 1,
-    )
-unfolding begun_by sent_by request hear_directory follow bytes_of_group crc_of bits_of
-    bits_of_bytes number_of_bits added_to_front remainder
-gone_early-row = refl
-
--- of two changes running the first that stays comes before the second
-two_changes-row : played start
-    (requests 2 ++ Follow put_turn ∷ Follow (turn_of 12 ((2, 1 ∷ 2 ∷ 3 ∷ []) ∷ (8, 5 ∷ []) ∷ (
-      6,
-      7
-          ∷ 8 ∷ 9 ∷ [],
-    ) ∷ [])) ∷ requests 9)
-    ≡ (
-      (6, 9, 0) ∷ (4, 2, 0) ∷ (6, 12, 0) ∷ (4, 6, 0) ∷ (4, 6, 1) ∷ (4, 8, 0) ∷ (4, 2, 1) ∷
-          (4, 8, 0) ∷ (4, 6, 0) ∷ (4, 6, 1) ∷ (6, 12, 0) ∷ [],
-      one_end 9 1,
-    )
-unfolding begun_by sent_by request hear_directory follow bytes_of_group crc_of bits_of
-    bits_of_bytes number_of_bits added_to_front remainder
-two_changes-row = refl
-
--- a body that is replaced twice running comes once, and keeps its place
-again-row : played start
-    (requests 2 ++ Follow second_turn ∷ requests 2 ++ Follow (turn_of 12 ((2, 1 ∷ 2 ∷ 3 ∷ []) ∷ (
+-- a changed turn that is followed
+abbrev followed_rows : List Row
+followed_rows =
+    -- the directory alone has changed: it comes, and the turn goes on
+    row start (requests 2 ++ Follow same_turn ∷ requests 4)
+    ((6, 9, 0) ∷ (4, 2, 0) ∷ (6, 11, 0) ∷ (4, 2, 1) ∷ (4, 4, 0) ∷ (6, 11, 0) ∷ []) (one_end 4 1)
+    -- a body that was put comes next and at the turn's end
+    ∷ row start (requests 2 ++ Follow put_turn ∷ requests 8)
+    ((6, 9, 0) ∷ (4, 2, 0) ∷ (6, 11, 0) ∷ (4, 6, 0) ∷ (4, 6, 1) ∷ (4, 2, 1) ∷ (4, 4, 0) ∷
+    (4, 6, 0) ∷ (4, 6, 1) ∷ (6, 11, 0) ∷ []) (one_end 8 1)
+    -- a replaced body whose place is to come comes next and in its place
+    ∷ row start (requests 2 ++ Follow second_turn ∷ requests 7)
+    ((6, 9, 0) ∷ (4, 2, 0) ∷ (6, 11, 0) ∷ (4, 6, 0) ∷ (4, 6, 1) ∷ (4, 2, 1) ∷ (4, 6, 0) ∷
+    (4, 6, 1) ∷ (6, 11, 0) ∷ []) (one_end 7 1)
+    -- of one that was begun the rest goes
+    ∷ row start (requests 2 ++ Follow first_turn ∷ requests 6)
+    ((6, 9, 0) ∷ (4, 2, 0) ∷ (6, 11, 0) ∷ (4, 6, 0) ∷ (4, 6, 1) ∷ (4, 4, 0) ∷ (6, 11, 0) ∷
+    (4, 6, 0) ∷ []) (one_end 5 2)
+    -- and where its place is passed it comes next alone
+    ∷ row start (requests 3 ++ Follow first_turn ∷ requests 6)
+    ((6, 9, 0) ∷ (4, 2, 0) ∷ (4, 2, 1) ∷ (6, 11, 0) ∷ (4, 6, 0) ∷ (4, 6, 1) ∷ (4, 4, 0) ∷
+    (6, 11, 0) ∷ (4, 6, 0) ∷ []) (one_end 6 2)
+    -- a body that is gone comes no more
+    ∷ row start (requests 2 ++ Follow gone_turn ∷ requests 3)
+    ((6, 9, 0) ∷ (4, 2, 0) ∷ (6, 11, 0) ∷ (4, 2, 1) ∷ (6, 11, 0) ∷ []) (one_end 3 1)
+    -- nor where it was to come early, and had begun to
+    ∷ row start (requests 2 ++ Follow put_turn ∷ requests 2 ++ Follow same_turn ∷ requests 4)
+    ((6, 9, 0) ∷ (4, 2, 0) ∷ (6, 11, 0) ∷ (4, 6, 0) ∷ (6, 11, 0) ∷ (4, 2, 1) ∷ (4, 4, 0) ∷
+    (6, 11, 0) ∷ []) (one_end 6 1)
+    -- of two changes running the first that stays comes before the second
+    ∷ row start (requests 2 ++ Follow put_turn ∷ Follow (turn_of 12 ((2, 1 ∷ 2 ∷ 3 ∷ []) ∷ (
       8,
-      5 ∷ [],
-    ) ∷ [])) ∷ requests 5)
-    ≡ (
-      (6, 9, 0) ∷ (4, 2, 0) ∷ (6, 11, 0) ∷ (4, 6, 0) ∷ (6, 12, 0) ∷ (4, 8, 0) ∷ (4, 2, 1) ∷
-          (4, 8, 0) ∷ (6, 12, 0) ∷ [],
-      one_end 7 1,
-    )
-unfolding begun_by sent_by request hear_directory follow bytes_of_group crc_of bits_of
-    bits_of_bytes number_of_bits added_to_front remainder
-again-row = refl
+      5 ∷
+          [],
+    ) ∷ (6, 7 ∷ 8 ∷ 9 ∷ []) ∷ [])) ∷ requests 9)
+    ((6, 9, 0) ∷ (4, 2, 0) ∷ (6, 12, 0) ∷ (4, 6, 0) ∷ (4, 6, 1) ∷ (4, 8, 0) ∷ (4, 2, 1) ∷
+    (4, 8, 0) ∷ (4, 6, 0) ∷ (4, 6, 1) ∷ (6, 12, 0) ∷ []) (one_end 9 1)
+    -- a body that is replaced twice running comes once, and keeps its place
+    ∷ row start (requests 2 ++ Follow second_turn ∷ requests 2 ++ Follow (turn_of 12 ((
+      2,
+      1 ∷ 2 ∷ 3
+          ∷ [],
+    ) ∷ (8, 5 ∷ []) ∷ [])) ∷ requests 5)
+    ((6, 9, 0) ∷ (4, 2, 0) ∷ (6, 11, 0) ∷ (4, 6, 0) ∷ (6, 12, 0) ∷ (4, 8, 0) ∷ (4, 2, 1) ∷
+    (4, 8, 0) ∷ (6, 12, 0) ∷ []) (one_end 7 1)
+    -- a directory that is asked for while a changed body comes
+    ∷ row start (requests 2 ++ Follow second_turn ∷ requests 2 ++ Directory ∷ requests 5)
+    ((6, 9, 0) ∷ (4, 2, 0) ∷ (6, 11, 0) ∷ (4, 6, 0) ∷ (6, 11, 0) ∷ (4, 6, 1) ∷ (4, 2, 1) ∷
+    (4, 6, 0) ∷ (4, 6, 1) ∷ []) (one_end 8 0)
+    -- before the first packet
+    ∷ row start (Follow put_turn ∷ requests 9)
+    ((6, 11, 0) ∷ (4, 6, 0) ∷ (4, 6, 1) ∷ (4, 2, 0) ∷ (4, 2, 1) ∷ (4, 4, 0) ∷ (4, 6, 0) ∷
+    (4, 6, 1) ∷ (6, 11, 0) ∷ []) (one_end 7 1)
+    -- where a turn has ended
+    ∷ row start (requests 4 ++ Follow second_turn ∷ requests 8)
+    ((6, 9, 0) ∷ (4, 2, 0) ∷ (4, 2, 1) ∷ (4, 4, 0) ∷ (6, 11, 0) ∷ (4, 6, 0) ∷ (4, 6, 1) ∷
+    (4, 2, 0) ∷ (4, 2, 1) ∷ (4, 6, 0) ∷ (4, 6, 1) ∷ (6, 11, 0) ∷ []) (one_end 3 6 ++ one_end 0 1)
+    -- While the last group of a turn is under way: what was put or replaced comes behind the directory,
+    -- and then the turn ends.
+    ∷ row short_start (requests 7 ++ Follow put_turn ∷ requests 9)
+    ((6, 9, 0) ∷ (4, 2, 0) ∷ (4, 2, 1) ∷ (4, 4, 0) ∷ (6, 11, 0) ∷ (4, 6, 0) ∷ (4, 6, 1) ∷
+    (6, 11, 0) ∷ []) (one_end 13 2)
+    ∷ row short_start (requests 7 ++ Follow second_turn ∷ requests 9)
+    ((6, 9, 0) ∷ (4, 2, 0) ∷ (4, 2, 1) ∷ (4, 4, 0) ∷ (6, 11, 0) ∷ (4, 6, 0) ∷ (4, 6, 1) ∷
+    (6, 11, 0) ∷ []) (one_end 13 2)
+    ∷ row short_start (requests 7 ++ Follow gone_turn ∷ requests 5)
+    ((6, 9, 0) ∷ (4, 2, 0) ∷ (4, 2, 1) ∷ (4, 4, 0) ∷ (6, 11, 0) ∷ (6, 11, 0) ∷ []) (one_end 9 2) ∷ []
 
--- a directory that is asked for while a changed body comes
-heard_early-row : played start
-    (requests 2 ++ Follow second_turn ∷ requests 2 ++ Directory ∷ requests 5)
-    ≡ (
-      (6, 9, 0) ∷ (4, 2, 0) ∷ (6, 11, 0) ∷ (4, 6, 0) ∷ (6, 11, 0) ∷ (4, 6, 1) ∷ (4, 2, 1) ∷
-          (4, 6, 0) ∷ (4, 6, 1) ∷ [],
-      one_end 8 0,
-    )
+followed-rows : outcomes followed_rows ≡ wanted followed_rows
 unfolding begun_by sent_by request hear_directory follow bytes_of_group crc_of bits_of
     bits_of_bytes number_of_bits added_to_front remainder
-heard_early-row = refl
-
--- before the first packet
-first-row : played start
-    (Follow put_turn ∷ requests 9)
-    ≡ (
-      (6, 11, 0) ∷ (4, 6, 0) ∷ (4, 6, 1) ∷ (4, 2, 0) ∷ (4, 2, 1) ∷ (4, 4, 0) ∷ (4, 6, 0) ∷
-          (4, 6, 1) ∷ (6, 11, 0) ∷ [],
-      one_end 7 1,
-    )
-unfolding begun_by sent_by request hear_directory follow bytes_of_group crc_of bits_of
-    bits_of_bytes number_of_bits added_to_front remainder
-first-row = refl
-
--- where a turn has ended
-turn_end-row : played start
-    (requests 4 ++ Follow second_turn ∷ requests 8)
-    ≡ (
-      (6, 9, 0) ∷ (4, 2, 0) ∷ (4, 2, 1) ∷ (4, 4, 0) ∷ (6, 11, 0) ∷ (4, 6, 0) ∷ (4, 6, 1) ∷
-          (4, 2, 0) ∷ (4, 2, 1) ∷ (4, 6, 0) ∷ (4, 6, 1) ∷ (6, 11, 0) ∷ [],
-      one_end 3 6 ++ one_end 0 1,
-    )
-unfolding begun_by sent_by request hear_directory follow bytes_of_group crc_of bits_of
-    bits_of_bytes number_of_bits added_to_front remainder
-turn_end-row = refl
-
--- While the last group of a turn is under way: what was put or replaced comes behind the directory,
--- and then the turn ends.
-late_put-row : played short_start
-    (requests 7 ++ Follow put_turn ∷ requests 9)
-    ≡ (
-      (6, 9, 0) ∷ (4, 2, 0) ∷ (4, 2, 1) ∷ (4, 4, 0) ∷ (6, 11, 0) ∷ (4, 6, 0) ∷ (4, 6, 1) ∷
-          (6, 11, 0) ∷ [],
-      one_end 13 2,
-    )
-unfolding begun_by sent_by request hear_directory follow bytes_of_group crc_of bits_of
-    bits_of_bytes number_of_bits added_to_front remainder
-late_put-row = refl
-
-late_second-row : played short_start
-    (requests 7 ++ Follow second_turn ∷ requests 9)
-    ≡ (
-      (6, 9, 0) ∷ (4, 2, 0) ∷ (4, 2, 1) ∷ (4, 4, 0) ∷ (6, 11, 0) ∷ (4, 6, 0) ∷ (4, 6, 1) ∷
-          (6, 11, 0) ∷ [],
-      one_end 13 2,
-    )
-unfolding begun_by sent_by request hear_directory follow bytes_of_group crc_of bits_of
-    bits_of_bytes number_of_bits added_to_front remainder
-late_second-row = refl
-
-late_gone-row : played short_start
-    (requests 7 ++ Follow gone_turn ∷ requests 5)
-    ≡ (
-      (6, 9, 0) ∷ (4, 2, 0) ∷ (4, 2, 1) ∷ (4, 4, 0) ∷ (6, 11, 0) ∷ (6, 11, 0) ∷ [],
-      one_end 9 2,
-    )
-unfolding begun_by sent_by request hear_directory follow bytes_of_group crc_of bits_of
-    bits_of_bytes number_of_bits added_to_front remainder
-late_gone-row = refl
+followed-rows = refl
 
 -- Many changes, of bodies of one segment each: so many are put behind the old ones, one of them is
 -- replaced, or the first is gone.
 abbrev many_turn : List (ℕ × List ℕ) → Turn
 many_turn fresh = turn_of 11 ((2, 1 ∷ 2 ∷ 3 ∷ []) ∷ (4, 5 ∷ []) ∷ fresh)
 
+abbrev fresh_bodies : List (ℕ × List ℕ)
+fresh_bodies = (6, 1 ∷ []) ∷ (8, 2 ∷ []) ∷ (10, 3 ∷ []) ∷ (12, 4 ∷ []) ∷ (14, 5 ∷ []) ∷ []
+
 abbrev five_puts : List Step
 five_puts =
-    Follow (many_turn ((6, 1 ∷ []) ∷ []))
-    ∷ Follow (many_turn ((6, 1 ∷ []) ∷ (8, 2 ∷ []) ∷ []))
-    ∷ Follow (many_turn ((6, 1 ∷ []) ∷ (8, 2 ∷ []) ∷ (10, 3 ∷ []) ∷ []))
-    ∷ Follow (many_turn ((6, 1 ∷ []) ∷ (8, 2 ∷ []) ∷ (10, 3 ∷ []) ∷ (12, 4 ∷ []) ∷ []))
-    ∷ Follow (many_turn ((6, 1 ∷ []) ∷ (8, 2 ∷ []) ∷ (10, 3 ∷ []) ∷ (12, 4 ∷ []) ∷ (14, 5 ∷ [])
-    ∷ [])) ∷ []
+    map (λ (n : ℕ). Follow (many_turn (take n fresh_bodies))) (1 ∷ 2 ∷ 3 ∷ 4 ∷ 5 ∷ [])
 
--- of five bodies that are put in one look three come early, and all at the end
-five_puts-row : played start
-    (requests 2 ++ five_puts ++ requests 12)
-    ≡ (
-      (6, 9, 0) ∷ (4, 2, 0) ∷ (6, 11, 0) ∷ (4, 6, 0) ∷ (4, 8, 0) ∷ (4, 10, 0) ∷ (4, 2, 1) ∷
-          (4, 4, 0) ∷ (4, 6, 0) ∷ (4, 8, 0) ∷ (4, 10, 0) ∷ (4, 12, 0) ∷ (4, 14, 0) ∷
-          (6, 11, 0) ∷ [],
-      one_end 12 1,
-    )
+abbrev many_rows : List Row
+many_rows =
+    -- of five bodies that are put in one look three come early, and all at the end
+    row start (requests 2 ++ five_puts ++ requests 12)
+    ((6, 9, 0) ∷ (4, 2, 0) ∷ (6, 11, 0) ∷ (4, 6, 0) ∷ (4, 8, 0) ∷ (4, 10, 0) ∷ (4, 2, 1) ∷
+    (4, 4, 0) ∷ (4, 6, 0) ∷ (4, 8, 0) ∷ (4, 10, 0) ∷ (4, 12, 0) ∷ (4, 14, 0) ∷ (6, 11, 0) ∷ [])
+    (one_end 12 1)
+    -- one that waits early and is replaced makes room for the new one
+    ∷ row start (requests 2 ++ five_puts ++ Follow (many_turn ((6, 1 ∷ []) ∷ (16, 6 ∷ []) ∷ (
+      10,
+      3
+          ∷ [],
+    ) ∷ (12, 4 ∷ []) ∷ (14, 5 ∷ []) ∷ [])) ∷ requests 12)
+    ((6, 9, 0) ∷ (4, 2, 0) ∷ (6, 11, 0) ∷ (4, 6, 0) ∷ (4, 10, 0) ∷ (4, 16, 0) ∷ (4, 2, 1) ∷
+    (4, 4, 0) ∷ (4, 6, 0) ∷ (4, 16, 0) ∷ (4, 10, 0) ∷ (4, 12, 0) ∷ (4, 14, 0) ∷ (6, 11, 0) ∷ [])
+    (one_end 12 1)
+    -- and one that waits only at the end does not, and keeps its place
+    ∷ row start (requests 2 ++ five_puts ++ Follow (many_turn ((6, 1 ∷ []) ∷ (8, 2 ∷ []) ∷ (
+      10,
+      3 ∷
+          [],
+    ) ∷ (16, 6 ∷ []) ∷ (14, 5 ∷ []) ∷ [])) ∷ requests 12)
+    ((6, 9, 0) ∷ (4, 2, 0) ∷ (6, 11, 0) ∷ (4, 6, 0) ∷ (4, 8, 0) ∷ (4, 10, 0) ∷ (4, 2, 1) ∷
+    (4, 4, 0) ∷ (4, 6, 0) ∷ (4, 8, 0) ∷ (4, 10, 0) ∷ (4, 16, 0) ∷ (4, 14, 0) ∷ (6, 11, 0) ∷ [])
+    (one_end 12 1)
+    -- one that is begun leaves room for another: of one at most, a body of two segments is begun, and
+    -- then one more comes early
+    ∷ row (start_with 1) (requests 2 ++ Follow put_turn ∷ requests 2 ++ Follow (turn_of 11 ((
+      2,
+      1 ∷
+          2 ∷ 3 ∷ [],
+    ) ∷ (4, 5 ∷ []) ∷ (6, 7 ∷ 8 ∷ 9 ∷ []) ∷ (8, 2 ∷ []) ∷ [])) ∷ requests 9)
+    ((6, 9, 0) ∷ (4, 2, 0) ∷ (6, 11, 0) ∷ (4, 6, 0) ∷ (6, 11, 0) ∷ (4, 6, 1) ∷ (4, 8, 0) ∷
+    (4, 2, 1) ∷ (4, 4, 0) ∷ (4, 6, 0) ∷ (4, 6, 1) ∷ (4, 8, 0) ∷ (6, 11, 0) ∷ []) (one_end 11 1)
+    -- with none early a body that is put comes at the end
+    ∷ row (start_with 0) (requests 2 ++ Follow put_turn ∷ requests 6)
+    ((6, 9, 0) ∷ (4, 2, 0) ∷ (6, 11, 0) ∷ (4, 2, 1) ∷ (4, 4, 0) ∷ (4, 6, 0) ∷ (4, 6, 1) ∷
+    (6, 11, 0) ∷ []) (one_end 6 1)
+    -- also where nothing of the rest is left, while the last group is under way
+    ∷ row (record short_start { follows = Some 0 }) (requests 7 ++ Follow put_turn ∷ requests 9)
+    ((6, 9, 0) ∷ (4, 2, 0) ∷ (4, 2, 1) ∷ (4, 4, 0) ∷ (6, 11, 0) ∷ (4, 6, 0) ∷ (4, 6, 1) ∷
+    (6, 11, 0) ∷ []) (one_end 13 2)
+    -- and in a turn of no bodies
+    ∷ row (record (opened_place 1 91 2 (turn_of 9 [])) { follows = Some 0 }) (Follow (turn_of 11
+    ((6, 1 ∷ []) ∷ [])) ∷ requests 3)
+    ((6, 11, 0) ∷ (4, 6, 0) ∷ (6, 11, 0) ∷ []) (one_end 1 1) ∷ []
+
+many-rows : outcomes many_rows ≡ wanted many_rows
 unfolding begun_by sent_by request hear_directory follow bytes_of_group crc_of bits_of
     bits_of_bytes number_of_bits added_to_front remainder
-five_puts-row = refl
-
--- one that waits early and is replaced makes room for the new one
-replaced_early-row : played start
-    (requests 2 ++ five_puts
-    ++ Follow (many_turn ((6, 1 ∷ []) ∷ (16, 6 ∷ []) ∷ (10, 3 ∷ []) ∷ (12, 4 ∷ [])
-    ∷ (14, 5 ∷ []) ∷ [])) ∷ requests 12)
-    ≡ (
-      (6, 9, 0) ∷ (4, 2, 0) ∷ (6, 11, 0) ∷ (4, 6, 0) ∷ (4, 10, 0) ∷ (4, 16, 0) ∷ (4, 2, 1) ∷
-          (4, 4, 0) ∷ (4, 6, 0) ∷ (4, 16, 0) ∷ (4, 10, 0) ∷ (4, 12, 0) ∷ (4, 14, 0) ∷
-          (6, 11, 0) ∷ [],
-      one_end 12 1,
-    )
-unfolding begun_by sent_by request hear_directory follow bytes_of_group crc_of bits_of
-    bits_of_bytes number_of_bits added_to_front remainder
-replaced_early-row = refl
-
--- and one that waits only at the end does not, and keeps its place
-replaced_late-row : played start
-    (requests 2 ++ five_puts
-    ++ Follow (many_turn ((6, 1 ∷ []) ∷ (8, 2 ∷ []) ∷ (10, 3 ∷ []) ∷ (16, 6 ∷ [])
-    ∷ (14, 5 ∷ []) ∷ [])) ∷ requests 12)
-    ≡ (
-      (6, 9, 0) ∷ (4, 2, 0) ∷ (6, 11, 0) ∷ (4, 6, 0) ∷ (4, 8, 0) ∷ (4, 10, 0) ∷ (4, 2, 1) ∷
-          (4, 4, 0) ∷ (4, 6, 0) ∷ (4, 8, 0) ∷ (4, 10, 0) ∷ (4, 16, 0) ∷ (4, 14, 0) ∷
-          (6, 11, 0) ∷ [],
-      one_end 12 1,
-    )
-unfolding begun_by sent_by request hear_directory follow bytes_of_group crc_of bits_of
-    bits_of_bytes number_of_bits added_to_front remainder
-replaced_late-row = refl
-
--- one that is begun leaves room for another: of one at most, a body of two segments is begun, and
--- then one more comes early
-begun_early-row : played (start_with 1)
-    (requests 2 ++ Follow put_turn ∷ requests 2
-    ++ Follow (turn_of 11 ((2, 1 ∷ 2 ∷ 3 ∷ []) ∷ (4, 5 ∷ []) ∷ (6, 7 ∷ 8 ∷ 9 ∷ []) ∷ (8, 2 ∷ [])
-    ∷ [])) ∷ requests 9)
-    ≡ (
-      (6, 9, 0) ∷ (4, 2, 0) ∷ (6, 11, 0) ∷ (4, 6, 0) ∷ (6, 11, 0) ∷ (4, 6, 1) ∷ (4, 8, 0) ∷
-          (4, 2, 1) ∷ (4, 4, 0) ∷ (4, 6, 0) ∷ (4, 6, 1) ∷ (4, 8, 0) ∷ (6, 11, 0) ∷ [],
-      one_end 11 1,
-    )
-unfolding begun_by sent_by request hear_directory follow bytes_of_group crc_of bits_of
-    bits_of_bytes number_of_bits added_to_front remainder
-begun_early-row = refl
-
--- with none early a body that is put comes at the end
-none_early-row : played (start_with 0)
-    (requests 2 ++ Follow put_turn ∷ requests 6)
-    ≡ (
-      (6, 9, 0) ∷ (4, 2, 0) ∷ (6, 11, 0) ∷ (4, 2, 1) ∷ (4, 4, 0) ∷ (4, 6, 0) ∷ (4, 6, 1) ∷
-          (6, 11, 0) ∷ [],
-      one_end 6 1,
-    )
-unfolding begun_by sent_by request hear_directory follow bytes_of_group crc_of bits_of
-    bits_of_bytes number_of_bits added_to_front remainder
-none_early-row = refl
-
--- also where nothing of the rest is left, while the last group is under way
-none_left-row : played (record short_start { follows = Some 0 })
-    (requests 7 ++ Follow put_turn ∷ requests 9)
-    ≡ (
-      (6, 9, 0) ∷ (4, 2, 0) ∷ (4, 2, 1) ∷ (4, 4, 0) ∷ (6, 11, 0) ∷ (4, 6, 0) ∷ (4, 6, 1) ∷
-          (6, 11, 0) ∷ [],
-      one_end 13 2,
-    )
-unfolding begun_by sent_by request hear_directory follow bytes_of_group crc_of bits_of
-    bits_of_bytes number_of_bits added_to_front remainder
-none_left-row = refl
-
--- and in a turn of no bodies
-empty_turn-row : played (record (opened_place 1 91 2 (turn_of 9 [])) { follows = Some 0 })
-    (Follow (turn_of 11 ((6, 1 ∷ []) ∷ [])) ∷ requests 3)
-    ≡ ((6, 11, 0) ∷ (4, 6, 0) ∷ (6, 11, 0) ∷ [], one_end 1 1)
-unfolding begun_by sent_by request hear_directory follow bytes_of_group crc_of bits_of
-    bits_of_bytes number_of_bits added_to_front remainder
-empty_turn-row = refl
+many-rows = refl

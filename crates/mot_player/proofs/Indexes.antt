@@ -1,10 +1,10 @@
 -- The index that a group gets is the one that the contents before it give.
-use Rattle.std.proofs.Common.{◌≡◌, ℕ, ◌+◌, ◌%◌, ◌<◌, List, [], ◌∷◌, ◌++◌, Bool, true, false, Option}
-use Rattle.std.proofs.Common.{Some, None, refl, sym, map, length, arith, ap, ◌∙◌, append_assoc}
+use Rattle.std.proofs.Common.{◌≡◌, ℕ, ◌+◌, ◌%◌, ◌<◌, List, [], ◌∷◌, ◌++◌, Bool, Option, Some, None}
+use Rattle.std.proofs.Common.{length, arith, append_assoc}
 use Rattle.std.proofs.lemmas.List.{map-append}
 use Rattle.std.proofs.lemmas.List.Elements.{filter-append}
-use Rattle.std.specs.Prelude.{◌==◌, if◌then◌else◌, filter, bytes_eq}
-use Rattle.mot_groups.specs.Group.{GroupFields, content_of, bytes_of_group}
+use Rattle.std.specs.Prelude.{if◌then◌else◌, bytes_eq}
+use Rattle.mot_groups.specs.Group.{GroupFields, bytes_of_group}
 use Rattle.mot_player.specs.Continuity.{kind_of, group_index, contents, changes}
 use Rattle.mot_player.specs.Place.{Last, next_index}
 
@@ -23,34 +23,19 @@ changes-more (x ∷ y ∷ before) c d =
 
 one-more : (same : Bool) (last index changed : ℕ) → last ≡ changed % 16 →
     (if same then last else (last + 1) % 16) ≡ (changed + (if same then 0 else 1)) % 16
-one-more true last index changed e = omega arith
-one-more false last index changed e = omega arith
+one-more same last index changed e = grind arith
 
 -- a content with its next index is the last one behind the contents before it
 pub IsLast-next : (last : Option Last) (cs : List (List ℕ)) (content : List ℕ) → IsLast last cs →
     IsLast (Some (record { index = next_index last content; content = content }))
     (cs ++ content ∷ [])
-IsLast-next None cs content e = (cs, refl, ap (λ xs. changes (xs ++ content ∷ []) % 16) (sym e))
-IsLast-next (Some last) cs content h =
-    let all : cs ++ content ∷ [] ≡ h.0 ++ last.content ∷ content ∷ [] =
-    ap (λ xs. xs ++ content ∷ []) h.1 ∙ append_assoc h.0 (last.content ∷ []) (content ∷ []) in
-    let count : changes (cs ++ content ∷ [])
-    ≡ changes cs + (if bytes_eq last.content content then 0 else 1) =
-    ap changes all ∙ changes-more h.0 last.content content
-    ∙ ap (λ xs. changes xs + (if bytes_eq last.content content then 0 else 1)) (sym h.1) in (
-      cs,
-      refl,
-      one-more (bytes_eq last.content content) last.index 0 (changes cs) h.2
-          ∙ ap (λ n. n % 16) (sym count),
-    )
+IsLast-next last cs content e = grind (arith, append_assoc, changes-more, one-more)
 
 -- the contents of a type of two runs of groups, one after the other
 pub contents-append : (kind : ℕ) (groups more : List (List ℕ)) →
     contents kind (groups ++ more) ≡ contents kind groups ++ contents kind more
 contents-append kind groups more =
-    ap (map content_of) (filter-append (λ (g : List ℕ). kind_of g == kind) groups more)
-    ∙ map-append content_of (filter (λ (g : List ℕ). kind_of g == kind) groups)
-    (filter (λ (g : List ℕ). kind_of g == kind) more)
+    grind (arith, filter-append, map-append)
 
 -- the type and the index in a group's first two bytes
 pub kind_of-group : (g : GroupFields) → g.segment.kind < 16

@@ -1,11 +1,9 @@
 -- What is left of a turn, and a body's own segments among it.
-use Rattle.std.proofs.Common.{◌≡◌, ℕ, suc, zero, ◌+◌, ◌*◌, ◌<◌, ◌≤◌, Bool, true, false, List, []}
-use Rattle.std.proofs.Common.{◌∷◌, ◌++◌, length, Option, Some, None, refl, arith}
+use Rattle.std.proofs.Common.{◌≡◌, ℕ, ◌+◌, ◌<◌, Bool, true, false, List, [], ◌∷◌, ◌++◌, Option}
+use Rattle.std.proofs.Common.{refl, arith}
 use Rattle.std.proofs.lemmas.Bool.{and_parts}
-use Rattle.std.proofs.lemmas.Grind.{div_ceil_times}
-use Rattle.std.specs.Int.{div_ceil}
 use Rattle.std.specs.Prelude.{◌==◌, ◌&&◌, filter, if◌then◌else◌}
-use Rattle.mot_groups.specs.Entity.{first_pieces, numbered_segments, own_segments}
+use Rattle.mot_groups.specs.Entity.{numbered_segments, own_segments}
 use Rattle.mot_groups.specs.Group.{Segment}
 use Rattle.mot_numbers.specs.Reading.{is_empty}
 use Rattle.mot_player.specs.Place.{Place, UnderWay, directory_segments, left_with, of_bodies}
@@ -16,10 +14,7 @@ use Rattle.mot_player.specs.Turn.{Turn}
 within-cases : (p : Segment → Bool) (x : Segment) (ys zs : List Segment) (b c : Bool) →
     p x ≡ c → (c ≡ true → b ≡ true) → filter p ys ≡ zs →
     filter p (if b then x ∷ ys else ys) ≡ (if c then x ∷ zs else zs)
-within-cases p x ys zs true true e w h = rw (e, h) refl
-within-cases p x ys zs true false e w h = rw (e, h) refl
-within-cases p x ys zs false true e w h = absurd (let f : false ≡ true = w refl in cc)
-within-cases p x ys zs false false e w h = h
+within-cases p x ys zs b c e w h = grind arith
 
 pub filter-within : (p q : Segment → Bool) → ((s : Segment) → p s ≡ true → q s ≡ true) →
     (xs : List Segment) → filter p (filter q xs) ≡ filter p xs
@@ -33,34 +28,21 @@ own id = λ (s : Segment). s.kind == 4 && s.tid == id
 
 pub own-of_bodies : (id : ℕ) (xs : List Segment) → own_segments 4 id (of_bodies xs)
     ≡ own_segments 4 id xs
-own-of_bodies id xs =
-    filter-within (own id) (λ (s : Segment). s.kind == 4)
-    (λ s e. (and_parts (s.kind == 4) (s.tid == id) e).0) xs
+own-of_bodies id xs = grind (arith, filter-within, and_parts)
 
 pub own-directory : (id tid n : ℕ) (ps : List (List ℕ)) →
     own_segments 4 id (numbered_segments 6 tid n ps) ≡ []
 own-directory id tid n [] = refl
 own-directory id tid n (p ∷ ps) = own-directory id tid (n + 1) ps
 
--- a directory that is not empty has segments
-some-pieces : (count size : ℕ) (bytes : List ℕ) (tid : ℕ) → 0 < length bytes →
-    length bytes ≤ count * size →
-    is_empty (numbered_segments 6 tid 0 (first_pieces count size bytes)) ≡ false
-some-pieces zero size bytes tid some enough = absurd (omega (arith, some, enough))
-some-pieces (suc count) size bytes tid some enough = refl
-
 pub some-directory : (turn : Turn) (size : ℕ) → 0 < size → HasDirectory turn →
     is_empty (directory_segments turn size) ≡ false
-some-directory turn size some has =
-    let all = div_ceil_times (length turn.directory) size some in
-    some-pieces (div_ceil (length turn.directory) size) size turn.directory turn.tid has all.0
+some-directory turn size some has = grind arith
 
 pub is_empty-append : (xs ys : List Segment) → is_empty xs ≡ false → is_empty (xs ++ ys) ≡ false
-is_empty-append [] ys e = absurd (let f : true ≡ false = e in cc)
-is_empty-append (x ∷ xs) ys e = refl
+is_empty-append xs ys e = grind arith
 
 -- where some wait, those are left
 pub left-some : (place : Place) (u : Option UnderWay) → is_empty place.waiting ≡ false →
     left_with place u ≡ place.waiting
-left-some place None e = rw e refl
-left-some place (Some u) e = refl
+left-some place u e = grind arith

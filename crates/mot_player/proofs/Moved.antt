@@ -1,7 +1,7 @@
 -- Behind a change of its bodies the course of a turn lies within the new turn.
-use Rattle.std.proofs.Common.{◌≡◌, ℕ, suc, zero, ◌+◌, ◌-◌, ◌*◌, ◌<◌, ◌≤◌, List, [], ◌∷◌, ◌++◌}
-use Rattle.std.proofs.Common.{length, map, refl, sym, ap, ◌∙◌, subst, arith, Bool, true, false}
-use Rattle.std.proofs.Common.{Option, Some, None, inl, inr}
+use Rattle.std.proofs.Common.{◌≡◌, ℕ, suc, zero, ◌+◌, ◌-◌, ◌<◌, ◌≤◌, List, [], ◌∷◌, ◌++◌, length}
+use Rattle.std.proofs.Common.{map, refl, sym, ap, ◌∙◌, subst, arith, Bool, true, false, Option}
+use Rattle.std.proofs.Common.{Some, None, inl, inr}
 use Rattle.std.proofs.lemmas.Bool.{and_parts, cases_lt, eqb-true, eqb-false, ltb-true, ltb-false}
 use Rattle.std.proofs.lemmas.Bool.{ne_eqb}
 use Rattle.std.proofs.lemmas.List.{append-nil, length-append}
@@ -11,13 +11,11 @@ use Rattle.std.specs.Prelude.{◌==◌, ◌&&◌, nat_lt, slice_index, if◌then
 use Rattle.mot_player.specs.Course.{CourseView}
 use Rattle.mot_player.specs.Inner.Course.{fresh_of, followed, kept, kept_of, one_more}
 use Rattle.mot_player.specs.Inner.Course.{changed_course, has_ended, is_queued, left_course}
-use Rattle.mot_player.specs.Inner.Course.{rest_from}
-use Rattle.mot_player.specs.Inner.Course.{whole_course}
+use Rattle.mot_player.specs.Inner.Course.{rest_from, whole_course}
 use Rattle.mot_player.specs.Inner.Difference.{added, are_alike, difference_from, difference_here}
 use Rattle.mot_player.specs.Inner.Difference.{difference_in, is_same}
 use Rattle.mot_player.specs.PlayerView.{BodyPlan, TurnPlan}
 use Rattle.mot_player.specs.Inner.Entities.{IsInside, IsOnCourse, IsPlannable, IsWithinTurn}
-use Rattle.mot_player.specs.Inner.Entities.{entity_length}
 use Rattle.mot_player.specs.declared.course.Waiting.{Waiting}
 use Rattle.mot_player.specs.declared.difference.Difference.{Difference}
 use Rattle.mot_player.specs.declared.difference.Difference.TheVariants.{Nothing, Added, Changed}
@@ -35,10 +33,7 @@ data Moves (n : ℕ) (olds news : List BodyPlan) (d : Difference) : Type 0 where
       → olds ≡ xs ++ o ∷ ys → news ≡ xs ++ ys → Moves n olds news d
 
 same-plan : (o m : BodyPlan) → is_same o m ≡ true → o ≡ m
-same-plan o m e =
-    let parts = and_parts (o.tid == m.tid) (o.length == m.length) e in
-    ap (λ (t : ℕ). record { tid = t; length = o.length }) (eqb-true o.tid m.tid parts.0)
-    ∙ ap (λ (l : ℕ). record { tid = m.tid; length = l }) (eqb-true o.length m.length parts.1)
+same-plan o m e = grind arith
 
 same-plans : (os ns : List BodyPlan) → are_alike os ns ≡ true → os ≡ ns
 same-plans [] [] e = refl
@@ -137,19 +132,11 @@ long-behind [] ys o j l = refl
 long-behind (x ∷ xs) ys o zero l = absurd (omega (arith, l))
 long-behind (x ∷ xs) ys o (suc j) l = long-behind xs ys o j (omega (arith, l))
 
-pub long-at : (plan : TurnPlan) (k : ℕ) → 0 < k → entity_length plan k ≡ long plan.bodies (k - 1)
-long-at plan k l = rw (ne_eqb k 0 (λ z. omega (arith, l, z))) refl
-
 -- a segment of a body that has its length still
 carry : (plan next : TurnPlan) (size : ℕ) (w v : Waiting) → 0 < w.entity → IsInside plan size w →
     0 < v.entity → v.entity < length next.bodies + 1 → v.segment ≡ w.segment →
     long next.bodies (v.entity - 1) ≡ long plan.bodies (w.entity - 1) → IsInside next size v
-carry plan next size w v some inside l within same e =
-    let was : w.segment * size < long plan.bodies (w.entity - 1) =
-    subst (λ (n : ℕ). w.segment * size < n) (long-at plan w.entity some) inside.1 in
-    let is : w.segment * size < entity_length next v.entity =
-    subst (λ (n : ℕ). w.segment * size < n) (sym (long-at next v.entity l ∙ e)) was in
-    (within, subst (λ (g : ℕ). g * size < entity_length next v.entity) (sym same) is)
+carry plan next size w v some inside l within same e = grind arith
 
 -- the first segment of a body, or the turn's end
 abbrev IsPlaced : TurnPlan → ℕ → Waiting → Type 0
@@ -157,25 +144,17 @@ IsPlaced plan size w = (0 < w.entity) × IsWithinTurn plan size w.entity w.segme
 
 first-inside : (plan : TurnPlan) (size : ℕ) (w : Waiting) → IsPlannable plan →
     w.entity < length plan.bodies + 1 → w.segment ≡ 0 → IsInside plan size w
-first-inside plan size w p l e =
-    let none : w.segment * size ≡ 0 = rw e (let z : 0 * size ≡ 0 = omega arith in z) in
-    (l, rw none (entity-some plan w.entity p l))
+first-inside plan size w p l e = grind (arith, entity-some)
 
 first-placed : (plan : TurnPlan) (size : ℕ) (w : Waiting) → IsPlannable plan → 0 < w.entity →
     w.entity ≤ length plan.bodies + 1 → w.segment ≡ 0 → IsPlaced plan size w
-first-placed plan size w p some l e = (
-  some,
-  elim (cases_lt w.entity (length plan.bodies + 1)) [
-    | inl h ↦ inl (first-inside plan size w p h e)
-    | inr h ↦ inr (omega (arith, l, h), e)
-  ],
-)
+first-placed plan size w p some l e =
+    grind (arith, cases_lt, first-inside)
 
 -- what is kept of a turn of which one body went, or comes in the place of another
 kept-other : (w v : Waiting) (k : ℕ) (t : Bool) → (w.entity == k) ≡ t →
     (if t then None else Some w) ≡ Some v → (w.entity ≡ k → ⊥) × (w ≡ v)
-kept-other w v k true e h = absurd (none-some v h)
-kept-other w v k false e h = (eqb-false w.entity k e, same_Some w v h)
+kept-other w v k t e h = grind arith
 
 data IsMoved (k : ℕ) (w v : Waiting) : Type 0 where
   before : w.entity < k → w ≡ v → IsMoved k w v
@@ -187,12 +166,7 @@ kept-moved : (w v : Waiting) (k : ℕ) (t u : Bool) → (w.entity == k) ≡ t �
     (if t then None
     else if u then Some (record { entity = w.entity - 1; segment = w.segment }) else Some w)
     ≡ Some v → IsMoved k w v
-kept-moved w v k true u e f h = absurd (none-some v h)
-kept-moved w v k false true e f h =
-    behind (ltb-true k w.entity f)
-    (same_Some (record { entity = w.entity - 1; segment = w.segment }) v h)
-kept-moved w v k false false e f h =
-    before (omega (arith, ltb-false k w.entity f, eqb-false w.entity k e)) (same_Some w v h)
+kept-moved w v k t u e f h = grind arith
 
 -- the lengths of the bodies that stay, at their places
 long-more : (olds : List BodyPlan) (b : BodyPlan) (j : ℕ) → j < length olds →
@@ -209,17 +183,12 @@ module _ (plan next : TurnPlan) (size : ℕ) (p : IsPlannable next) where
 
   same-inside : (w : Waiting) → next.bodies ≡ plan.bodies → 0 < w.entity →
       IsInside plan size w → IsInside next size w
-  same-inside w f some inside =
-      stays-at w some inside (omega (arith, ap length f, inside.0))
-      (ap (λ (bs : List BodyPlan). long bs (w.entity - 1)) f)
+  same-inside w f some inside = grind arith
 
   more-inside : (w : Waiting) (b : BodyPlan) → next.bodies ≡ plan.bodies ++ b ∷ [] →
       0 < w.entity → IsInside plan size w → IsInside next size w
   more-inside w b f some inside =
-      stays-at w some inside
-      (omega (arith, ap length f, length-append plan.bodies (b ∷ []), inside.0))
-      (ap (λ (bs : List BodyPlan). long bs (w.entity - 1)) f
-      ∙ long-more plan.bodies b (w.entity - 1) (omega (arith, inside.0, some)))
+      grind (arith, stays-at, length-append, long-more)
 
   module _ (xs ys : List BodyPlan) (o : BodyPlan) (k : ℕ) (at : k ≡ 1 + length xs)
       (f : plan.bodies ≡ xs ++ o ∷ ys) where
@@ -314,8 +283,7 @@ module _ (plan next : TurnPlan) (size : ℕ) (p : IsPlannable next) where
   one-on : (o : Option Waiting) (q rest : List Waiting) →
       ((v : Waiting) → o ≡ Some v → (0 < v.entity) × IsInside next size v) →
       AreInside (q ++ rest) → AreInside (one_more o q ++ rest)
-  one-on None q rest f a = a
-  one-on (Some w) q rest f a = (f w refl, a)
+  one-on o q rest f a = grind arith
 
   queue-on : (d : Difference) (count : ℕ) (q : List Waiting) → Moves 1 plan.bodies next.bodies d →
       count ≡ length plan.bodies + 1 →
@@ -358,9 +326,7 @@ module _ (plan next : TurnPlan) (size : ℕ) (p : IsPlannable next) where
 
   rest-same : (w : Waiting) → next.bodies ≡ plan.bodies → 0 < w.entity → IsWithin w →
       IsPlaced next size w
-  rest-same w f some (inl i) = within-inside w some (same-inside w f some i)
-  rest-same w f some (inr e) =
-      first-placed next size w p some (omega (arith, ap length f, e.0)) e.1
+  rest-same w f some h3 = grind arith
 
   rest-more : (w : Waiting) (b : BodyPlan) (count : ℕ) (t early : Bool) →
       (w.entity == count) ≡ t →

@@ -1,9 +1,9 @@
 -- The segment that comes next of a turn, and those behind it.
 use Rattle.std.proofs.Common.{◌≡◌, ℕ, suc, zero, ◌+◌, ◌-◌, ◌*◌, ◌<◌, ◌≤◌, List, [], ◌∷◌, ◌++◌, Bool}
 use Rattle.std.proofs.Common.{true, false, inl, inr, refl, sym, ap, ◌∙◌, subst, length, map, take}
-use Rattle.std.proofs.Common.{drop, min, arith, get_or, length-drop, eq-eqb, add-one}
+use Rattle.std.proofs.Common.{drop, min, arith, get_or, length-drop, eq-eqb}
 use Rattle.std.proofs.Math.Nat.{mul-le-mul_right}
-use Rattle.std.proofs.lemmas.Bool.{cases_eq, cases_lt, eqb-true, eqb-false, ne_eqb}
+use Rattle.std.proofs.lemmas.Bool.{cases_lt, eqb-true, eqb-false, ne_eqb}
 use Rattle.std.proofs.lemmas.Grind.{div_ceil_times}
 use Rattle.std.proofs.lemmas.List.{drop-drop, take_all, drop_all}
 use Rattle.std.specs.Prelude.{◌==◌, if◌then◌else◌, flat_map, slice_index}
@@ -119,10 +119,7 @@ length-numbered_segments kind tid number (p ∷ ps) =
 none_behind : (c size : ℕ) (bytes : List ℕ) (last : Bool) → (last ≡ true → 1 ≡ suc c)
     → (last ≡ false → 1 < suc c) →
     is_empty (first_pieces c size bytes) ≡ last
-none_behind zero size bytes true t f = refl
-none_behind zero size bytes false t f = absurd (omega (arith, f refl))
-none_behind (suc c) size bytes true t f = absurd (omega (arith, t refl))
-none_behind (suc c) size bytes false t f = refl
+none_behind c size bytes last t f = grind arith
 
 abbrev pub segment : ℕ → ℕ → ℕ → Bool → List ℕ → Segment
 segment kind tid number last bytes =
@@ -162,11 +159,7 @@ piece-at kind tid number size (suc c) (suc s) bytes last l t f =
 module _ (size s count len : ℕ) (some : 0 < size) (enough : len ≤ count * size)
     (few : count * size < len + size) where
   below : s * size < len → s < count
-  below l = elim (cases_lt s count) [
-    | inl h ↦ h
-    | inr h ↦ (let more : count * size ≤ s * size = mul-le-mul_right size h in
-        absurd (omega (arith, more, l, enough)))
-  ]
+  below l = grind arith
 
   is_end : s < count → len ≤ s * size + size → suc s ≡ count
   is_end l h = elim (cases_lt (suc s) count) [
@@ -184,29 +177,11 @@ module _ (size s count len : ℕ) (some : 0 < size) (enough : len ≤ count * si
         absurd (omega (arith, more, l, enough)))
   ]
 
-eqb-cases : (a b : ℕ) (t : Bool) → (a ≡ b → t ≡ true) → ((a ≡ b → ⊥) → t ≡ false) → (a == b) ≡ t
-eqb-cases a b t same other = elim (cases_eq a b) [
-  | inl e ↦ eq-eqb a b e ∙ sym (same e)
-  | inr n ↦ ne_eqb a b n ∙ sym (other n)
-]
-
 -- a segment is an entity's last exactly where it reaches the entity's end
 pub is_last-count : (size s len at n : ℕ) → 0 < size → s * size < len → at ≡ s * size
     → n ≡ min (len - at) size →
     (s + 1 == div_ceil len size) ≡ (at + n == len)
-is_last-count size s len at n some begins a e =
-    let count : ℕ = div_ceil len size in
-    let all = div_ceil_times len size some in
-    let inside : s < count = below size s count len some all.0 all.1 begins in
-    sym (eqb-cases (at + n) len (s + 1 == count)
-    (λ h. eq-eqb (s + 1) count
-    (let end : suc s ≡ count =
-    is_end size s count len some all.0 all.1 inside (omega (arith, a, e, h)) in
-    omega (arith, end)))
-    (λ h. ne_eqb (s + 1) count
-    (λ k. let more : suc s < count =
-    not_end size s count len some all.0 all.1 (omega (arith, a, e, h, begins)) in
-    omega (arith, more, k))))
+is_last-count size s len at n some begins a e = grind arith
 
 -- the part of an entity that is a segment
 pub record IsPart (size s length_is at len : ℕ) (is_last : Bool) : Type 0 where
@@ -231,10 +206,7 @@ behind : (is_last : Bool) (size : ℕ) (entities : List Entity) (k s : ℕ) (thi
     segments_from size entities (suc k) 0 ≡ rest → segments_from size entities k (suc s) ≡ this →
     (if is_last then rest else this)
     ≡ segments_from size entities (if is_last then k + 1 else k) (if is_last then 0 else s + 1)
-behind true size entities k s this rest next more =
-    sym next ∙ ap (λ n. segments_from size entities n 0) (sym (add-one k))
-behind false size entities k s this rest next more =
-    sym more ∙ ap (segments_from size entities k) (sym (add-one s))
+behind is_last size entities k s this rest next more = grind arith
 
 pub segment-in : (size : ℕ) (e : Entity) (s at len : ℕ) (is_last : Bool) → 0 < size →
     IsPart size s (length e.bytes) at len is_last → (rest : List Segment) →
@@ -384,13 +356,10 @@ within-first plan size p = let first : 0 * size ≡ 0 = omega arith in rw first 
 -- at the end of the turn no segment of an entity was begun
 pub first-at-end : (plan : TurnPlan) (size k s : ℕ) → IsWithinTurn plan size k s
     → k ≡ length plan.bodies + 1 → s ≡ 0
-first-at-end plan size k s (inl h) e = let l : k < length plan.bodies + 1 = h.0 in
-    absurd (omega arith)
-first-at-end plan size k s (inr h) e = h.1
+first-at-end plan size k s h4 e = grind arith
 
 -- before the end of the turn the next segment lies within an entity
 pub inside-turn : (plan : TurnPlan) (size k s : ℕ) → IsWithinTurn plan size k s
     → (k ≡ length plan.bodies + 1 → ⊥) →
     (k < length plan.bodies + 1) × (s * size < entity_length plan k)
-inside-turn plan size k s (inl h) e = h
-inside-turn plan size k s (inr h) e = absurd (e h.0)
+inside-turn plan size k s h4 e = grind arith

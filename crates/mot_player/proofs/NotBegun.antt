@@ -3,10 +3,9 @@ use Rattle.std.proofs.Common.{◌≡◌, ℕ, suc, zero, ◌+◌, ◌*◌, ◌<�
 use Rattle.std.proofs.Common.{◌∷◌, drop, length, refl, ap, ◌∙◌, arith}
 use Rattle.std.proofs.lemmas.Bool.{ne_eqb}
 use Rattle.std.proofs.lemmas.Grind.{div_ceil_times}
-use Rattle.std.specs.Int.{div_ceil}
 use Rattle.std.specs.List.{AllByRecursion}
 use Rattle.std.specs.Prelude.{◌==◌, if◌then◌else◌}
-use Rattle.mot_groups.specs.Entity.{first_pieces, numbered_segments, pieces}
+use Rattle.mot_groups.specs.Entity.{first_pieces, numbered_segments}
 use Rattle.mot_player.specs.Course.{Entity, entities_of, entity_in, queued, segments_in}
 use Rattle.mot_player.specs.Inner.Course.{entities_not_begun}
 use Rattle.mot_player.specs.Inner.Entities.{IsInside, entity_length}
@@ -26,12 +25,7 @@ none-behind kind tid n (suc k) (p ∷ ps) some = none-behind kind tid (n + 1) k 
 pub first-counted : (kind tid count size : ℕ) (bytes : List ℕ) → 0 < length bytes →
     length bytes ≤ count * size →
     bodies_not_begun (numbered_segments kind tid 0 (first_pieces count size bytes)) ≡ 1
-first-counted kind tid zero size bytes some enough = absurd (omega (arith, some, enough))
-first-counted kind tid (suc count) size bytes some enough =
-    let later : bodies_not_begun (numbered_segments kind tid (0 + 1)
-    (first_pieces count size (drop size bytes))) ≡ 0 =
-    none-later kind tid (0 + 1) (first_pieces count size (drop size bytes)) (omega arith) in
-    omega (arith, later)
+first-counted kind tid count size bytes some enough = grind (arith, none-later)
 
 behind-counted : (kind tid k : ℕ) (ps : List (List ℕ)) →
     bodies_not_begun (drop (suc k) (numbered_segments kind tid 0 ps)) ≡ 0
@@ -41,12 +35,8 @@ behind-counted kind tid k (p ∷ ps) = none-behind kind tid (0 + 1) k ps (omega 
 -- of one that is not empty and that is sent from a segment of it on
 pub one-counted : (size s : ℕ) (x : Entity) → 0 < size → s * size < length x.bytes →
     bodies_not_begun (drop s (segments_in size x)) ≡ (if s == 0 then 1 else 0)
-one-counted size zero x some l =
-    first-counted x.kind x.tid (div_ceil (length x.bytes) size) size x.bytes (omega (arith, l))
-    (div_ceil_times (length x.bytes) size some).0
-one-counted size (suc k) x some l =
-    behind-counted x.kind x.tid k (pieces size x.bytes)
-    ∙ rw (ne_eqb (suc k) 0 (λ e. absurd (omega (arith, e)))) refl
+one-counted size s x some l =
+    grind (arith, first-counted, div_ceil_times, behind-counted, ne_eqb)
 
 -- as many as are queued from their beginnings on
 pub queued-not_begun : (plan : TurnPlan) (bodies : List (List ℕ)) (size : ℕ) (q : List Waiting) →

@@ -1,6 +1,6 @@
 -- How many packets an entity takes.
-use Rattle.std.proofs.Common.{◌≡◌, ℕ, zero, suc, ◌+◌, ◌*◌, ◌-◌, ◌<◌, ◌≤◌, List, [], ◌∷◌}
-use Rattle.std.proofs.Common.{length, drop, take, refl, sym, ap, ◌∙◌, arith, subst}
+use Rattle.std.proofs.Common.{◌≡◌, ℕ, zero, suc, ◌+◌, ◌*◌, ◌-◌, ◌<◌, ◌≤◌, List, [], ◌∷◌, length}
+use Rattle.std.proofs.Common.{drop, take, refl, sym, ap, ◌∙◌, arith}
 use Rattle.std.proofs.lemmas.List.{length-drop, length-take}
 use Rattle.std.proofs.lemmas.List.Sums.{sum_by-cons}
 use Rattle.std.specs.Int.{div_ceil}
@@ -79,7 +79,4 @@ pub packets-entity : (room size kind tid len : ℕ) (bytes : List ℕ) → 0 < s
     → packets_of_segments room (segments_of kind tid size bytes)
     ≡ packets_at room size (div_ceil len size - 1) len
 packets-entity room size kind tid len bytes some more is =
-    let has : 0 < length bytes = subst (λ n. 0 < n) (sym is) more in
-    entity-cases room size kind tid (div_ceil (length bytes) size) bytes
-    (pieces_rounded_up size (length bytes) some has)
-    ∙ ap (λ n. packets_at room size (div_ceil n size - 1) n) is
+    grind (arith, entity-cases, pieces_rounded_up)

@@ -1,9 +1,7 @@
 -- The course of a turn: what is due of it, and what waits behind.
 use Rattle.std.proofs.Common.{◌≡◌, ℕ, suc, zero, ◌+◌, ◌-◌, ◌*◌, ◌<◌, List, [], ◌∷◌, ◌++◌, length}
-use Rattle.std.proofs.Common.{drop}
-use Rattle.std.proofs.Common.{take, refl, sym, ap, ◌∙◌, subst, arith, Bool, true, false, Option}
-use Rattle.std.proofs.Common.{Some}
-use Rattle.std.proofs.Common.{None, inl, inr, map, min, add-one}
+use Rattle.std.proofs.Common.{drop, take, refl, sym, ap, ◌∙◌, subst, arith, Bool, true, false}
+use Rattle.std.proofs.Common.{Option, Some, None, inl, inr, map, min, add-one}
 use Rattle.std.proofs.lemmas.Bool.{cases_lt, eqb-true, eqb-false, lt-ltb, ne_eqb}
 use Rattle.std.proofs.lemmas.List.{append_assoc}
 use Rattle.std.proofs.lemmas.List.Elements.{filter-append}
@@ -30,8 +28,7 @@ use Rattle.mot_player.proofs.NextSegment.{segment-in, waits-none, within-first, 
 use Rattle.mot_player.proofs.Segments.{body_entity, segments-bodies, segments_from-end}
 
 drop-none : (n : ℕ) → drop {A = Segment} n [] ≡ []
-drop-none zero = refl
-drop-none (suc n) = refl
+drop-none n = grind arith
 
 drop-suc : (xs : List Waiting) (n : ℕ) → n < length xs →
     (w : Waiting) × (drop n xs ≡ w ∷ drop (suc n) xs)
@@ -58,34 +55,15 @@ pub record IsPartAt (plan : TurnPlan) (size : ℕ) (w : Waiting) (p : Part) : Ty
   -- and its bytes
   pub part : IsPart size w.segment (entity_length plan w.entity) p.from p.len p.is_last
 
--- what is due is a segment of the turn
-inside-with : (plan : TurnPlan) (size : ℕ) (d : Option ℕ) (q : List Waiting) (e g : ℕ) (t : Bool) →
-    (e == length plan.bodies + 1) ≡ t → IsPlannable plan →
-    IsOnCourse plan size (record { directory = d; queue = q; entity = e; segment = g }) →
-    IsInside plan size (due_with (length plan.bodies + 1) d q e g)
-inside-with plan size (Some s) q e g t test p on = (omega arith, on.directory)
-inside-with plan size None (w ∷ q) e g t test p on = on.queue.0.1
-inside-with plan size None [] e g true test p on =
-    rw test (omega arith, within-first plan size p)
-inside-with plan size None [] e g false test p on =
-    rw test (inside-turn plan size e g on.within (eqb-false e (length plan.bodies + 1) test))
-
 pub due-inside : (plan : TurnPlan) (size : ℕ) (c : CourseView) → IsPlannable plan →
     IsOnCourse plan size c → IsInside plan size (due_of (length plan.bodies + 1) c)
-due-inside plan size c p on =
-    inside-with plan size c.directory c.queue c.entity c.segment
-    (c.entity == length plan.bodies + 1) refl p on
+due-inside plan size c p on = grind arith
 
 -- an entity's next segment, where it has one
 more-inside : (plan : TurnPlan) (size k s at len : ℕ) → IsPlannable plan →
     k < length plan.bodies + 1 → IsPart size s (entity_length plan k) at len false →
     (s + 1) * size < entity_length plan k
-more-inside plan size k s at len p l part =
-    let goes_on : at + len ≡ entity_length plan k → ⊥ =
-    eqb-false (at + len) (entity_length plan k) (sym part.last) in
-    let more : at + len < entity_length plan k = omega (arith, part.range, goes_on) in
-    let whole : len ≡ size = part.full more in
-    omega (arith, part.from, whole, more)
+more-inside plan size k s at len p l part = grind arith
 
 -- behind a directory comes the first body, or the turn's end
 first-body : (plan : TurnPlan) (size : ℕ) → IsPlannable plan → IsWithinTurn plan size 1 0
@@ -110,23 +88,10 @@ queue-on : (plan : TurnPlan) (size : ℕ) (w : Waiting) (q : List Waiting) (p : 
     AllByRecursion (λ (v : Waiting). (0 < v.entity) × IsInside plan size v) (w ∷ q) →
     AllByRecursion (λ (v : Waiting). (0 < v.entity) × IsInside plan size v)
     (if last then q else record { entity = p.entity; segment = p.next_segment } ∷ q)
-queue-on plan size w q p true plannable same next part on = on.1
-queue-on plan size w q p false plannable same next part on =
-    rw (same, next) (
-      (
-        on.0.0,
-        (
-          on.0.1.0,
-          more-inside plan size w.entity w.segment p.from p.len plannable on.0.1.0
-              part,
-        ),
-      ),
-      on.1,
-    )
+queue-on plan size w q p last plannable same next part on = grind (arith, more-inside)
 
 some-next : (last : Bool) (e : ℕ) → 0 < e → 0 < (if last then e + 1 else e)
-some-next true e l = omega arith
-some-next false e l = l
+some-next last e l = grind arith
 
 on-with : (plan : TurnPlan) (size : ℕ) (d : Option ℕ) (q : List Waiting) (e g : ℕ) (t : Bool)
     (p : Part) → (e == length plan.bodies + 1) ≡ t → IsPlannable plan →
@@ -211,9 +176,7 @@ entity-part plan bodies size w p rest some are inside at =
 due-some : (plan : TurnPlan) (bodies : List (List ℕ)) (size : ℕ) (waiting : List Segment)
     (x : Segment) (xs : List Segment) → waiting ≡ x ∷ xs →
     (if is_empty waiting then segments_of_turn (turn_with plan bodies) size else waiting) ≡ x ∷ xs
-due-some plan bodies size waiting x xs e =
-    ap (λ (w : List Segment). if is_empty w then segments_of_turn (turn_with plan bodies) size
-    else w) e
+due-some plan bodies size waiting x xs e = grind arith
 
 three : (xs ys zs : List Segment) → xs ++ ys ++ zs ≡ xs ++ (ys ++ zs)
 three xs ys zs = append_assoc xs ys zs
@@ -345,8 +308,7 @@ pub course-next : (plan : TurnPlan) (bodies : List (List ℕ)) (size : ℕ) (c :
     ≡ segment_of plan bodies p
     ∷ waiting_of size (turn_with plan bodies) (passed (length plan.bodies + 1) p c)
 course-next plan bodies size c p some are on inside at =
-    next-with plan bodies size c.directory c.queue c.entity c.segment
-    (c.entity == length plan.bodies + 1) p refl some are on inside at
+    grind (arith, next-with)
 
 -- a segment that is due comes
 first-some : (plan : TurnPlan) (bodies : List (List ℕ)) (size : ℕ) (w : Waiting)
@@ -396,8 +358,7 @@ ended-with plan bodies size None [] e g some are on =
     waits-none plan bodies size e g some are on.within
 
 not-none : (xs : List Segment) → is_empty xs ≡ false → (length xs == 0) ≡ false
-not-none [] e = absurd (let f : true ≡ false = e in cc)
-not-none (x ∷ xs) e = ne_eqb (suc (length xs)) 0 (λ z. omega (arith, z))
+not-none xs e = grind arith
 
 -- segments of a queue wait exactly where an entity is queued
 pub queue-early : (plan : TurnPlan) (bodies : List (List ℕ)) (size : ℕ) (q : List Waiting) →
@@ -423,8 +384,7 @@ early-directory early p e = rw e refl
 
 early-body : (early next : ℕ) (p : Part) (k : ℕ) → p.entity ≡ k → 0 < k → early ≡ suc next →
     next ≡ (if (if p.entity == 0 then 6 else 4) == 6 then early else early - 1)
-early-body early next p k e body one =
-    rw (e, ne_eqb k 0 (λ z. absurd (omega (arith, z, body)))) (omega (arith, one))
+early-body early next p k e body one = grind arith
 
 early-behind : (size : ℕ) (plan : TurnPlan) (bodies : List (List ℕ)) (w : Waiting)
     (q : List Waiting) (p : Part) (last : Bool) → AreBodiesFor plan bodies →
@@ -435,12 +395,7 @@ early-behind : (size : ℕ) (plan : TurnPlan) (bodies : List (List ℕ)) (w : Wa
     ++ queued size (entities_of (turn_with plan bodies)) q)
     ≡ queued size (entities_of (turn_with plan bodies))
     (if last then q else record { entity = p.entity; segment = p.next_segment } ∷ q)
-early-behind size plan bodies w q p true are l same next = refl
-early-behind size plan bodies w q p false are l same next =
-    let entities : List Entity = entities_of (turn_with plan bodies) in
-    rw (same, next)
-    (ap (λ (x : Entity). drop (w.segment + 1) (segments_in size x) ++ queued size entities q)
-    (sym (entities-at plan bodies w.entity (record { kind = 4; tid = 0; bytes = [] }) are l)))
+early-behind size plan bodies w q p last are l same next = grind (arith, entities-at)
 
 -- of a queued body's part
 early-queued : (plan : TurnPlan) (bodies : List (List ℕ)) (size : ℕ) (w : Waiting)
@@ -471,8 +426,7 @@ early-queued plan bodies size w q p some are body inside at =
     w.entity at.entity body one
 
 early-none : (early : ℕ) (b : Bool) → early ≡ 0 → early ≡ (if b then early else early - 1)
-early-none early true e = refl
-early-none early false e = omega (arith, e)
+early-none early b e = grind arith
 
 early-with : (plan : TurnPlan) (bodies : List (List ℕ)) (size : ℕ) (d : Option ℕ)
     (q : List Waiting) (e g : ℕ) (t : Bool) (p : Part) → (e == length plan.bodies + 1) ≡ t →
@@ -484,14 +438,8 @@ early-with : (plan : TurnPlan) (bodies : List (List ℕ)) (size : ℕ) (d : Opti
     ≡ (if (segment_of plan bodies p).kind == 6
     then length (queued size (entities_of (turn_with plan bodies)) q)
     else length (queued size (entities_of (turn_with plan bodies)) q) - 1)
-early-with plan bodies size (Some s) q e g t p test some are on at =
-    early-directory (length (queued size (entities_of (turn_with plan bodies)) q)) p at.entity
-early-with plan bodies size None (w ∷ q) e g t p test some are on at =
-    early-queued plan bodies size w q p some are on.queue.0.0 on.queue.0.1 at
-early-with plan bodies size None [] e g true p test some are on at =
-    rw test (early-none 0 ((segment_of plan bodies p).kind == 6) refl)
-early-with plan bodies size None [] e g false p test some are on at =
-    rw test (early-none 0 ((segment_of plan bodies p).kind == 6) refl)
+early-with plan bodies size d q e g t p test some are on at =
+    grind (arith, early-directory, early-queued, early-none)
 
 -- how many come early behind the part that is due
 pub course-early : (plan : TurnPlan) (bodies : List (List ℕ)) (size : ℕ) (c : CourseView)
@@ -503,8 +451,7 @@ pub course-early : (plan : TurnPlan) (bodies : List (List ℕ)) (size : ℕ) (c 
     then length (queued size (entities_of (turn_with plan bodies)) c.queue)
     else length (queued size (entities_of (turn_with plan bodies)) c.queue) - 1)
 course-early plan bodies size c p some are on at =
-    early-with plan bodies size c.directory c.queue c.entity c.segment
-    (c.entity == length plan.bodies + 1) p refl some are on at
+    grind (arith, early-with)
 
 -- nothing waits exactly where the course has ended
 pub course-ended : (plan : TurnPlan) (bodies : List (List ℕ)) (size : ℕ) (c : CourseView) →
@@ -533,8 +480,7 @@ on-whole plan size p = record {
 
 heard-queue-cases : (c : CourseView) (b : Bool) →
     (if b then c else record c { directory = Some 0 }).queue ≡ c.queue
-heard-queue-cases c true = refl
-heard-queue-cases c false = refl
+heard-queue-cases c b = grind arith
 
 -- a directory that is asked for leaves the queue
 pub heard-queue : (count : ℕ) (c : CourseView) → (heard_course count c).queue ≡ c.queue
@@ -551,20 +497,12 @@ each-of_body : (tid n s : ℕ) (ps : List (List ℕ)) →
     of_bodies (drop s (numbered_segments 4 tid n ps)) ≡ drop s (numbered_segments 4 tid n ps)
 each-of_body tid n s [] = ap of_bodies (drop-none s) ∙ sym (drop-none s)
 each-of_body tid n zero (p ∷ ps) =
-    ap (λ (ss : List Segment). record {
-      kind = 4;
-      tid = tid;
-      number = n;
-      last = is_empty ps;
-      bytes = p;
-    } ∷ ss) (each-of_body tid (n + 1) zero ps)
+    grind (arith, each-of_body tid (n + 1) zero ps)
 each-of_body tid n (suc s) (p ∷ ps) = each-of_body tid (n + 1) s ps
 
 each-append : (xs ys : List Segment) → of_bodies xs ≡ xs → of_bodies ys ≡ ys →
     of_bodies (xs ++ ys) ≡ xs ++ ys
-each-append xs ys e f =
-    filter-append (λ (s : Segment). s.kind == 4) xs ys
-    ∙ ap (λ (ss : List Segment). ss ++ of_bodies ys) e ∙ ap (λ (ss : List Segment). xs ++ ss) f
+each-append xs ys e f = grind (arith, filter-append)
 
 each-bodies : (size : ℕ) (bodies : List (ℕ × List ℕ)) →
     of_bodies (flat_map (segments_in size) (map body_entity bodies))
@@ -593,16 +531,13 @@ each-behind size (suc k) s turn l = each-from size k s turn.bodies
 
 each-of_kind : (kind tid size s : ℕ) (bytes : List ℕ) → kind ≡ 4 →
     of_bodies (drop s (segments_of kind tid size bytes)) ≡ drop s (segments_of kind tid size bytes)
-each-of_kind kind tid size s bytes e =
-    subst (λ (n : ℕ). of_bodies (drop s (segments_of n tid size bytes))
-    ≡ drop s (segments_of n tid size bytes)) (sym e) (each-of_body tid 0 s (pieces size bytes))
+each-of_kind kind tid size s bytes e = grind (arith, each-of_body)
 
 each-of_entity : (plan : TurnPlan) (bodies : List (List ℕ)) (size s k : ℕ) → 0 < k →
     of_bodies (drop s (segments_in size (entity_at plan bodies k)))
     ≡ drop s (segments_in size (entity_at plan bodies k))
 each-of_entity plan bodies size s k l =
-    each-of_kind (if k == 0 then 6 else 4) (entity_tid plan k) size s (entity_bytes plan bodies k)
-    (rw (ne_eqb k 0 (λ z. omega (arith, l, z))) refl)
+    grind (arith, each-of_kind, ne_eqb)
 
 each-queued : (plan : TurnPlan) (bodies : List (List ℕ)) (size : ℕ) (q : List Waiting) →
     AreBodiesFor plan bodies →
@@ -643,8 +578,7 @@ bodies-waiting plan bodies size c are on =
     (each-behind size c.entity c.segment turn on.body)
 
 empty-is : (xs : List Segment) → is_empty xs ≡ true → xs ≡ []
-empty-is [] e = refl
-empty-is (x ∷ xs) e = absurd (let f : false ≡ true = e in cc)
+empty-is xs e = grind arith
 
 course-heard-cases : (plan : TurnPlan) (bodies : List (List ℕ)) (size : ℕ) (c : CourseView)
     (b : Bool) → AreBodiesFor plan bodies → IsOnCourse plan size c →
@@ -676,5 +610,4 @@ pub course-heard : (plan : TurnPlan) (bodies : List (List ℕ)) (size : ℕ) (c 
     else directory_segments (turn_with plan bodies) size
     ++ of_bodies (waiting_of size (turn_with plan bodies) c))
 course-heard plan bodies size c some are on =
-    course-heard-cases plan bodies size c (has_ended (length plan.bodies + 1) c) are on
-    (course-ended plan bodies size c some are on)
+    grind (arith, course-heard-cases, course-ended)

@@ -1,7 +1,7 @@
 -- What is planned of a carousel's bodies is its turn, with them.
-use Rattle.std.proofs.Common.{◌≡◌, ℕ, suc, zero, ◌*◌, ◌<◌, ◌≤◌, List, [], ◌∷◌, refl, ap, ◌∙◌}
-use Rattle.std.proofs.Common.{length, map, drop, arith, All, get_or}
-use Rattle.std.proofs.lemmas.List.Elements.{All-cons, All-nil}
+use Rattle.std.proofs.Common.{◌≡◌, ℕ, suc, zero, ◌<◌, ◌≤◌, List, [], ◌∷◌, refl, ap, ◌∙◌, length}
+use Rattle.std.proofs.Common.{map, drop, arith, All, get_or}
+use Rattle.std.proofs.lemmas.List.Elements.{All-nil}
 use Rattle.std.specs.Prelude.{slice_index}
 use Rattle.std.specs.List.{AllByRecursion}
 use Rattle.mot_objects.specs.declared.object.Object.{Object}
@@ -57,10 +57,7 @@ with_bodies-objects [] (o ∷ objects) bodies e = absurd (omega (arith, ap lengt
 with_bodies-objects (b ∷ plans) [] bodies e = absurd (omega (arith, ap length e))
 with_bodies-objects (b ∷ plans) (o ∷ objects) [] e = refl
 with_bodies-objects (b ∷ plans) (o ∷ objects) (body ∷ bodies) e =
-    let first : b.tid ≡ o.tid = ap (λ l. slice_index l 0) e in
-    cons_eq (b.tid, body) (o.tid, body) (with_bodies plans bodies)
-    (bodies_with_ids (objects_of objects bodies))
-    (ap (λ id. (id, body)) first) (with_bodies-objects plans objects bodies (ap (drop 1) e))
+    grind (arith, with_bodies-objects plans objects bodies (ap (drop 1) e))
 
 -- a plan with the objects' ids and their bodies is these bodies with the ids
 pub with_bodies-planned : (planned : List PlannedBody) (objects : List Object)
@@ -77,25 +74,13 @@ are_sendable : (size : ℕ) (plans : List BodyPlan) (bodies : List (List ℕ)) �
 are_sendable size [] bodies s e h = All-nil (λ (b : ℕ × List ℕ). IsSendable size b.1)
 are_sendable size (b ∷ plans) [] s e h = All-nil (λ (b : ℕ × List ℕ). IsSendable size b.1)
 are_sendable size (b ∷ plans) (body ∷ bodies) s e h =
-    let long : length body ≡ b.length = ap (λ l. slice_index l 0) e in
-    let low : 1 ≤ b.length = h.0.0 in
-    let high : b.length ≤ 262144 = h.0.1 in
-    let numbered_segments : length body ≤ 32768 * size = omega arith in
-    All-cons (λ (b : ℕ × List ℕ). IsSendable size b.1) (b.tid, body) (with_bodies plans bodies)
-    (record { some = omega arith; numbered = numbered_segments })
-    (are_sendable size plans bodies s (ap (drop 1) e) h.1)
+    grind (arith, are_sendable size plans bodies s (ap (drop 1) e) h.1)
 
 -- a turn that was planned can be played in segments of 64 bytes or more
 pub is_playable : (size : ℕ) (plan : TurnPlan) (bodies : List (List ℕ)) → 64 ≤ size
     → IsPlannable plan →
     AreBodiesFor plan bodies → IsPlayable (turn_with plan bodies) size
-is_playable size plan bodies s p e =
-    let most : length plan.directory ≤ 84013 = p.directory in
-    let numbered_segments : length plan.directory ≤ 32768 * size = omega arith in
-    record {
-      directory = record { some = p.some; numbered = numbered_segments };
-      bodies = are_sendable size plan.bodies bodies s e p.bodies;
-    }
+is_playable size plan bodies s p e = grind (arith, are_sendable)
 
 -- what is planned of one body
 pub planned_length : (bodies : List PlannedBody) (k : ℕ) (b : PlannedBody) → k < length bodies

@@ -1,14 +1,12 @@
 -- The segments of bodies of which one is put, replaced or gone, from one of them on.
-use Rattle.std.proofs.Common.{◌≡◌, ℕ, suc, zero, ◌+◌, ◌<◌, Bool, true, false, List, []}
-use Rattle.std.proofs.Common.{◌∷◌, ◌++◌, length, refl, sym, ap, ◌∙◌, arith}
-use Rattle.std.proofs.Common.{drop, get_or, map}
+use Rattle.std.proofs.Common.{◌≡◌, ℕ, suc, zero, ◌+◌, ◌<◌, Bool, false, List, [], ◌∷◌, ◌++◌, length}
+use Rattle.std.proofs.Common.{refl, sym, ap, ◌∙◌, arith, drop, get_or, map}
 use Rattle.std.proofs.lemmas.Grind.{flat_map-append}
 use Rattle.std.proofs.lemmas.List.{append_assoc}
 use Rattle.std.specs.List.{AllByRecursion}
-use Rattle.std.specs.Prelude.{◌==◌, not, flat_map, if◌then◌else◌}
+use Rattle.std.specs.Prelude.{◌==◌, flat_map, if◌then◌else◌}
 use Rattle.mot_groups.specs.Entity.{numbered_segments, pieces}
 use Rattle.mot_groups.specs.Group.{Segment}
-use Rattle.mot_numbers.specs.Reading.{is_empty}
 use Rattle.mot_player.specs.Place.{in_its_place, without}
 use Rattle.mot_player.specs.Course.{Entity, segments_from, segments_in}
 use Rattle.mot_player.proofs.Followed.{place-of_gone}
@@ -76,13 +74,7 @@ place-numbered : (old : ℕ) (fresh : List Segment) (tid n s : ℕ) (ps : List (
 place-numbered old fresh tid n zero [] e = refl
 place-numbered old fresh tid n (suc s) [] e = refl
 place-numbered old fresh tid n zero (p ∷ ps) e =
-    rw e (ap (λ (ss : List Segment). record {
-      kind = 4;
-      tid = tid;
-      number = n;
-      last = is_empty ps;
-      bytes = p;
-    } ∷ ss) (place-numbered old fresh tid (n + 1) zero ps e))
+    grind (arith, place-numbered old fresh tid (n + 1) zero ps e)
 place-numbered old fresh tid n (suc s) (p ∷ ps) e = place-numbered old fresh tid (n + 1) s ps e
 
 place-all : (size old : ℕ) (fresh : List Segment) (bodies : List (ℕ × List ℕ)) →
@@ -119,19 +111,10 @@ place-one size old fresh (b ∷ bodies) zero s l o =
 place-one size old fresh (b ∷ bodies) (suc k) s l o =
     place-one size old fresh bodies k s (omega (arith, l)) o.1
 
--- where nothing comes in its place, the body that went is left out
-without-one : (x : Segment) (rest : List Segment) (t z : Bool) →
-    (if not t then x ∷ rest else rest) ≡ (if t then if z then [] else [] else x ∷ []) ++ rest
-without-one x rest true true = refl
-without-one x rest true false = refl
-without-one x rest false z = refl
-
 pub without-place : (old : ℕ) (xs : List Segment) →
     without old xs ≡ flat_map (in_its_place old []) xs
 without-place old [] = refl
-without-place old (x ∷ xs) =
-    without-one x (without old xs) (x.tid == old) (x.number == 0)
-    ∙ ap (λ (ss : List Segment). in_its_place old [] x ++ ss) (without-place old xs)
+without-place old (x ∷ xs) = grind (arith, without-place old xs)
 
 -- Bodies of which one goes: the others have other ids, and it is not empty.
 pub record IsGoing (before after : List (ℕ × List ℕ)) (gone : ℕ × List ℕ) : Type 0 where
@@ -188,16 +171,13 @@ pub one-place-before : (size : ℕ) (before after : List (ℕ × List ℕ)) (gon
     (k s : ℕ) → IsGoing before after gone → k < length before →
     without gone.0 (of_one size (before ++ gone ∷ after) k s) ≡ of_one size before k s
 one-place-before size before after gone k s is l =
-    without-place gone.0 (of_one size (before ++ gone ∷ after) k s)
-    ∙ ap (flat_map (in_its_place gone.0 [])) (one-append size before (gone ∷ after) k s l)
-    ∙ place-one size gone.0 [] before k s l is.before_it
+    grind (arith, without-place, of_one, one-append, place-one)
 
 abbrev none : List Segment
 none = []
 
 none-either : (b : Bool) → (if b then none else none) ≡ none
-none-either true = refl
-none-either false = refl
+none-either b = grind arith
 
 pub one-place-inside : (size : ℕ) (before after : List (ℕ × List ℕ)) (gone : ℕ × List ℕ)
     (k s : ℕ) → 0 < size → IsGoing before after gone → k ≡ length before →

@@ -1,25 +1,21 @@
 -- A turn in which the directory is asked for reads as its carousel.
-use Rattle.std.proofs.Common.{◌≡◌, ℕ, ◌+◌, ◌<◌, List, [], ◌∷◌, ◌++◌, Bool, true, false, not}
-use Rattle.std.proofs.Common.{Option, ◌⊎◌, inl, inr, refl, sym, length, drop}
-use Rattle.std.proofs.Common.{ap, ◌∙◌, arith, append_assoc, append-nil, eq-eqb}
-use Rattle.std.proofs.lemmas.Bool.{and_parts, eqb-true, not-true, or_right}
+use Rattle.std.proofs.Common.{◌≡◌, ℕ, ◌+◌, ◌<◌, List, [], ◌∷◌, ◌++◌, Bool, true, false, not, Option}
+use Rattle.std.proofs.Common.{◌⊎◌, refl, sym, length, drop, ap, ◌∙◌, arith, append_assoc}
+use Rattle.std.proofs.Common.{append-nil, eq-eqb}
+use Rattle.std.proofs.lemmas.Bool.{and_parts, not-true, or_right}
 use Rattle.std.proofs.lemmas.List.Elements.{filter-append}
 use Rattle.std.proofs.lemmas.Slice.Eq.{bytes_eq-Decides}
-use Rattle.std.specs.Prelude.{◌==◌, ◌&&◌, ◌||◌, bytes_eq, if◌then◌else◌}
+use Rattle.std.specs.Prelude.{◌==◌, ◌||◌, if◌then◌else◌}
 use Rattle.std.specs.List.{list_any, AllByRecursion}
 use Rattle.mot_groups.specs.Entity.{numbered_segments, pieces, segments_of}
 use Rattle.mot_groups.specs.Group.{Segment}
 use Rattle.mot_numbers.specs.Reading.{is_empty}
 use Rattle.mot_objects.specs.Carousel.{Object}
 use Rattle.mot_objects.specs.Ids.{contains, is_distinct}
-use Rattle.mot_player.specs.Place.{Place, UnderWay}
-use Rattle.mot_player.specs.Place.{directory_segments}
-use Rattle.mot_player.specs.Place.{left_with, of_bodies}
+use Rattle.mot_player.specs.Place.{Place, UnderWay, directory_segments, left_with, of_bodies}
 use Rattle.mot_player.specs.Repeats.{had_with, is_same_segment, received}
 use Rattle.mot_player.specs.Turn.{Turn, bodies_with_ids, segments_of_bodies}
-use Rattle.mot_player.proofs.Followed.{AreBodies}
-use Rattle.mot_player.proofs.Followed.{of_bodies-directory}
-use Rattle.mot_player.proofs.Left.{is_empty-append, left-some, some-directory}
+use Rattle.mot_player.proofs.Followed.{AreBodies, of_bodies-directory}
 use Rattle.mot_player.proofs.TurnReads.{ids_of}
 
 -- ---- what a receiver has
@@ -28,18 +24,10 @@ abbrev pub IsHad : List Segment → Segment → Type 0
 IsHad had s = list_any (is_same_segment s) had ≡ true
 
 same-flags : (b : Bool) → (if b then b else not b) ≡ true
-same-flags true = refl
-same-flags false = refl
+same-flags b = grind arith
 
 pub same-self : (s : Segment) → is_same_segment s s ≡ true
-same-self s =
-    rw (
-      eq-eqb s.kind s.kind refl,
-      eq-eqb s.tid s.tid refl,
-      eq-eqb s.number s.number refl,
-      same-flags s.last,
-      (bytes_eq-Decides s.bytes s.bytes).1 refl,
-    ) refl
+same-self s = grind (arith, same-flags, bytes_eq-Decides)
 
 pub any-front : (p : Segment → Bool) (xs ys : List Segment) → list_any p xs ≡ true →
     list_any p (xs ++ ys) ≡ true
@@ -99,18 +87,7 @@ IsBelow kind tid n h = h.kind ≡ kind → h.tid ≡ tid → h.number < n
 
 differs : (s h : Segment) → IsBelow s.kind s.tid s.number h → (b : Bool) → is_same_segment s h ≡ b →
     is_same_segment s h ≡ false
-differs s h below false e = e
-differs s h below true e =
-    let flags : Bool = if s.last then h.last else not h.last in
-    let bytes = and_parts (s.kind == h.kind && s.tid == h.tid && s.number == h.number && flags)
-    (bytes_eq s.bytes h.bytes) e in
-    let last = and_parts (s.kind == h.kind && s.tid == h.tid && s.number == h.number) flags
-    bytes.0 in
-    let number = and_parts (s.kind == h.kind && s.tid == h.tid) (s.number == h.number) last.0 in
-    let ids = and_parts (s.kind == h.kind) (s.tid == h.tid) number.0 in
-    let less : h.number < s.number = below (sym (eqb-true s.kind h.kind ids.0))
-    (sym (eqb-true s.tid h.tid ids.1)) in
-    absurd (omega (arith, less, eqb-true s.number h.number number.1))
+differs s h below b e = grind arith
 
 none-same : (s : Segment) (had : List Segment) →
     AllByRecursion (IsBelow s.kind s.tid s.number) had → list_any (is_same_segment s) had ≡ false
@@ -161,8 +138,7 @@ foreign-append kind tid (x ∷ xs) ys p q = (p.0, foreign-append kind tid xs ys 
 
 -- an id that is among others is not one that is not
 other-id : (ids : List ℕ) (x y : ℕ) → contains ids x ≡ false → contains ids y ≡ true → x ≡ y → ⊥
-other-id ids x y p q e =
-    absurd (let f : false ≡ true = sym p ∙ ap (contains ids) e ∙ q in cc)
+other-id ids x y p q e = grind arith
 
 received-bodies : (had : List Segment) (size : ℕ) (objects : List Object) →
     is_distinct (ids_of objects) ≡ true →
@@ -302,13 +278,4 @@ pub heard-left : (place : Place) (u : Option UnderWay) (segments : List Segment)
           else directory_segments place.turn place.segment_size ++ of_bodies segments;
     }) u ≡ directory_segments place.turn place.segment_size
     ++ of_bodies (left_with (record place { waiting = segments }) u))
-heard-left place u [] true e some has = inl refl
-heard-left place u (s ∷ segments) true e some has = absurd (let f : false ≡ true = e in cc)
-heard-left place u segments false e some has =
-    let directory : List Segment = directory_segments place.turn place.segment_size in
-    let heard : Place = record place { waiting = directory ++ of_bodies segments } in
-    inr (left-some heard u
-    (is_empty-append directory (of_bodies segments)
-    (some-directory place.turn place.segment_size some has))
-    ∙ ap (λ ss. directory ++ of_bodies ss)
-    (sym (left-some (record place { waiting = segments }) u e)))
+heard-left place u segments b e some has = grind arith

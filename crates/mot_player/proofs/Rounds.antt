@@ -1,19 +1,15 @@
 -- Sixteen turns behind an opening can be sent round and round.
 use Rattle.std.proofs.Common.{◌≡◌, ℕ, zero, suc, ◌+◌, ◌-◌, ◌*◌, ◌%◌, ◌<◌, ◌≤◌, List, [], ◌∷◌, ◌++◌}
-use Rattle.std.proofs.Common.{Bool, true, false, Option, Some, None, refl, sym, ap, ◌∙◌, subst, inl}
-use Rattle.std.proofs.Common.{inr}
-use Rattle.std.proofs.Common.{map, length, take, drop, replicate, arith, length-append, length-drop}
-use Rattle.std.proofs.Common.{suc-mul, mul-le-mul_right}
-use Rattle.std.proofs.lemmas.Bool.{and_parts, cases_lt, leb-true}
-use Rattle.std.proofs.lemmas.Grind.{div_ceil_times}
+use Rattle.std.proofs.Common.{Bool, true, false, Option, Some, None, refl, sym, ap, ◌∙◌, subst, map}
+use Rattle.std.proofs.Common.{length, take, drop, replicate, arith, length-append, length-drop}
+use Rattle.std.proofs.lemmas.Bool.{and_parts, leb-true}
 use Rattle.std.proofs.lemmas.List.{map-append}
 use Rattle.std.proofs.lemmas.Option.{none-some, same_Some, some_pair_parts}
 use Rattle.std.specs.Prelude.{◌&&◌, ◌==◌, flat_map, if◌then◌else◌}
 use Rattle.std.specs.Int.{div_ceil}
 use Rattle.std.specs.List.{AllByRecursion, list_all}
 use Rattle.mot_groups.specs.Group.{GroupFields, Segment, bytes_of_group, segment_content}
-use Rattle.mot_numbers.proofs.Laws.{length-read_each, read_each-append}
-use Rattle.mot_numbers.proofs.Laws.{>>=-some}
+use Rattle.mot_numbers.proofs.Laws.{length-read_each, read_each-append, >>=-some}
 use Rattle.mot_numbers.specs.Reading.{◌>>=◌, is_empty, read_each}
 use Rattle.mot_packets.specs.Cut.{piece_at}
 use Rattle.mot_packets.specs.Gather.{gather_front, groups_after, may_follow}
@@ -32,40 +28,20 @@ use Rattle.mot_player.proofs.Continuous.{steps-are-continuous}
 use Rattle.mot_player.proofs.Cycles.{indexes-rounds}
 use Rattle.mot_player.proofs.GoesOn.{steps-go_on}
 use Rattle.mot_player.proofs.Indexes.{contents-append, some_bytes-group}
-use Rattle.mot_player.proofs.Requests.{FirstRequest, first_request, packets_of}
-use Rattle.mot_player.proofs.Requests.{place_behind}
+use Rattle.mot_player.proofs.Requests.{FirstRequest, first_request, packets_of, place_behind}
 use Rattle.mot_player.proofs.WholeTurn.{ends_of, head-false, head-true, last_ends}
 
 -- two counts of pieces of one length are the same
 same_count : (a b room left : ℕ) → left ≤ a * room → a * room < left + room → left ≤ b * room →
     b * room < left + room → a ≡ b
-same_count a b room left a_holds a_least b_holds b_least =
-    elim (cases_lt a b) [
-      | inl less ↦ (let more : suc a * room ≤ b * room =
-          mul-le-mul_right room (let e : suc a ≤ b = omega (arith, less) in e) in
-          absurd (omega (arith, more, suc-mul a room, a_holds, b_least)))
-      | inr most ↦ elim (cases_lt b a) [
-        | inl less ↦ (let more : suc b * room ≤ a * room =
-            mul-le-mul_right room (let e : suc b ≤ a = omega (arith, less) in e) in
-            absurd (omega (arith, more, suc-mul b room, b_holds, a_least)))
-        | inr also ↦ omega (arith, most, also)
-      ]
-    ]
+same_count a b room left a_holds a_least b_holds b_least = grind arith
 
 last_count : (left room : ℕ) → 0 < left → left ≤ room → div_ceil left room ≡ 1
-last_count left room some fits =
-    let all = div_ceil_times left room (let e : 0 < room = omega (arith, some, fits) in e) in
-    same_count (div_ceil left room) 1 room left all.0 all.1 (omega (arith, fits))
-    (omega (arith, some))
+last_count left room some fits = grind arith
 
 more_count : (left room : ℕ) → 0 < room → room < left →
     div_ceil left room ≡ suc (div_ceil (left - room) room)
-more_count left room some more =
-    let all = div_ceil_times left room some in
-    let rest = div_ceil_times (left - room) room some in
-    let one = suc-mul (div_ceil (left - room) room) room in
-    same_count (div_ceil left room) (suc (div_ceil (left - room) room)) room left all.0 all.1
-    (omega (arith, rest.0, one, more)) (omega (arith, rest.1, one, more))
+more_count left room some more = grind arith
 
 -- how many packets the groups of segments take
 packets_for : ℕ → List Segment → ℕ
@@ -93,8 +69,7 @@ pub is_last : (place : Place) (group : List ℕ) (at : ℕ) → at < length grou
     (piece_at place.room place.address place.index group at).last ≡ true →
     div_ceil (length group - at) place.room ≡ 1
 is_last place group at inside last =
-    last_count (length group - at) place.room (omega (arith, inside))
-    (omega (arith, leb-true (length (drop at group)) place.room last, length-drop at group))
+    grind (arith, last_count, leb-true, length-drop)
 
 pub is_more : (place : Place) (group : List ℕ) (at : ℕ) → 0 < place.room →
     (piece_at place.room place.address place.index group at).last ≡ false →
@@ -110,10 +85,7 @@ is_more place group at some last =
 pub group-count : (place : Place) (g : GroupFields) →
     div_ceil (length (bytes_of_group g) - 0) place.room
     ≡ div_ceil (length g.segment.bytes + 11) place.room
-group-count place g =
-    let long : length (bytes_of_group g) - 0 ≡ length g.segment.bytes + 11 =
-    omega (arith, length-bytes_of_group g) in
-    ap (λ (n : ℕ). div_ceil n place.room) long
+group-count place g = grind (arith, length-bytes_of_group)
 
 turn-leaves : (n : ℕ) (last : Bool) (place : Place) (waiting : List Segment) (group : List ℕ)
     (at : ℕ)
@@ -267,8 +239,7 @@ first-gathers n place (t ∷ segments) s others new r u e h f =
 
 whole_where_none : (waiting whole : List Segment) → waiting ≡ []
     → (if is_empty waiting then whole else waiting) ≡ whole
-whole_where_none [] whole e = refl
-whole_where_none (s ∷ waiting) whole e = absurd (omega (arith, ap length e))
+whole_where_none waiting whole e = grind arith
 
 turn-gathers : (old : Place) (sents : List Sent) (new : Place) → IsWholeTurn old sents new
     → 0 < old.room →
@@ -289,13 +260,11 @@ turn-gathers old sents new turn r u w =
 
 pub kept : {A : Type 0} (b : Bool) (x y : A) → (if b then Some x else None) ≡ Some y
     → (b ≡ true) × (x ≡ y)
-kept true x y e = (refl, same_Some x y e)
-kept false x y e = absurd (none-some y e)
+kept h0 x y e = grind arith
 
 group-then : {A : Type 0} (last : Bool) (x : A) (xs ys : List A) →
     (if last then x ∷ (xs ++ ys) else xs ++ ys) ≡ (if last then x ∷ xs else xs) ++ ys
-group-then true x xs ys = refl
-group-then false x xs ys = refl
+group-then h0 x xs ys = grind arith
 
 -- whole groups stand in front of others
 groups-then : (packets more : List PacketFields) (front : List ℕ) (groups others : List (List ℕ)) →
@@ -435,18 +404,14 @@ indexes-then : (n : ℕ) (packets more : List (List ℕ)) → packet_indexes_fro
     ≡ packet_indexes_from n packets ++ packet_indexes_from (n + length packets) more
 indexes-then n [] more = indexes-from n (n + 0) more (omega arith)
 indexes-then n (p ∷ packets) more =
-    ap (λ (l : List ℕ). n % 4 ∷ l) (indexes-then (n + 1) packets more
-    ∙ ap (λ (l : List ℕ). packet_indexes_from (n + 1) packets ++ l)
-    (indexes-from (n + 1 + length packets) (n + suc (length packets)) more (omega arith)))
+    grind (arith, indexes-then (n + 1) packets more)
 
 packet-rounds : (rounds : ℕ) (packets : List (List ℕ)) → length packets % 4 ≡ 0 →
     rounds_of rounds (packet_indexes_from 0 packets)
     ≡ packet_indexes_from 0 (rounds_of rounds packets)
 packet-rounds zero packets even = refl
 packet-rounds (suc n) packets even =
-    ap (λ (l : List ℕ). packet_indexes_from 0 packets ++ l) (packet-rounds n packets even
-    ∙ indexes-from 0 (0 + length packets) (rounds_of n packets) (omega (arith, even)))
-    ∙ sym (indexes-then 0 packets (rounds_of n packets))
+    grind (arith, packet-rounds n packets even, indexes-from, indexes-then)
 
 read-rounds : {A B : Type 0} (read : A → Option B) (n : ℕ) (xs : List A) (ys : List B) →
     read_each read xs ≡ Some ys → read_each read (rounds_of n xs) ≡ Some (rounds_of n ys)

@@ -1,50 +1,29 @@
 -- A sound carousel that keeps the rules can be played.
-use Rattle.std.proofs.Common.{ℕ, ◌≤◌, List, [], ◌∷◌, Option, Some, None, refl}
-use Rattle.std.proofs.Common.{map, arith}
+use Rattle.std.proofs.Common.{ℕ, ◌≤◌, List, [], ◌∷◌, refl, map, arith}
 use Rattle.std.proofs.lemmas.List.Elements.{All-from_recursion}
-use Rattle.std.specs.Prelude.{⊤, MatchOption}
 use Rattle.std.specs.List.{AllByRecursion}
-use Rattle.mot_directory.specs.Entries.{HasDirectory, IsShortMime, IsWithinLimits}
+use Rattle.mot_directory.specs.Entries.{HasDirectory, IsWithinLimits}
 use Rattle.mot_directory.proofs.Laws.{length-directory_of, read_directory-directory_of}
 use Rattle.mot_numbers.specs.declared.numbers.TheConstants.{MAX_SEGMENT, MIN_SEGMENT}
 use Rattle.mot_objects.specs.Carousel.{Carousel, IsSound, Object}
-use Rattle.mot_objects.specs.Mime.{IsMime}
 use Rattle.mot_objects.specs.Rules.{AllKeepRules, KeepsRules}
 use Rattle.mot_player.specs.Turn.{IsPlayable, IsSendable, IsTurnOf, bodies_with_ids}
 use Rattle.mot_player.specs.Turn.{turn_of_carousel}
 use Rattle.mot_player.proofs.WholeTurn.{IsId}
 
-short-mime : (mime : Option (List ℕ)) → MatchOption mime ⊤ IsMime → IsShortMime mime
-short-mime None m = tt
-short-mime (Some text) m = m.short
-
 within-limits : (objects : List Object) → AllByRecursion KeepsRules objects →
     AllByRecursion IsId (map (λ (o : Object). o.tid) objects) →
     AllByRecursion IsWithinLimits objects
 within-limits [] rules ids = tt
-within-limits (o ∷ objects) rules ids = (
-  record {
-    name = rules.0.name.short;
-    mime = short-mime o.mime rules.0.mime;
-    content_type = rules.0.content.0;
-    subtype = rules.0.content.1;
-    tid = ids.0.1;
-    body = rules.0.size.1;
-  },
-  within-limits objects rules.1 ids.1,
-)
+within-limits (o ∷ objects) rules ids =
+    grind (arith, within-limits objects rules.1 ids.1)
 
 sendable : (size : ℕ) (objects : List Object) → MIN_SEGMENT ≤ size →
     AllByRecursion KeepsRules objects →
     AllByRecursion (λ (b : ℕ × List ℕ). IsSendable size b.1) (bodies_with_ids objects)
 sendable size [] least rules = tt
-sendable size (o ∷ objects) least rules = (
-  record {
-    some = omega (arith, rules.0.size.0);
-    numbered = omega (arith, rules.0.size.1, least);
-  },
-  sendable size objects least rules.1,
-)
+sendable size (o ∷ objects) least rules =
+    grind (arith, sendable size objects least rules.1)
 
 -- its turn is a turn of it, and can be sent in segments of each size that a geometry may have
 pub plays-carousel : (c : Carousel) (size : ℕ) → IsSound c → AllKeepRules c →

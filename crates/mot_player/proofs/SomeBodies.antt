@@ -18,15 +18,7 @@ padded total before bytes =
 length-padded : (total before : ℕ) (bytes : List ℕ) → before + length bytes ≤ total →
     length (padded total before bytes) ≡ total
 length-padded total before bytes fits =
-    let behind : ℕ = total - (before + length bytes) in
-    omega (
-      arith,
-      fits,
-      length-append (replicate {A = ℕ} before 0) (bytes ++ replicate {A = ℕ} behind 0),
-      length-append bytes (replicate {A = ℕ} behind 0),
-      length-replicate {A = ℕ} before 0,
-      length-replicate {A = ℕ} behind 0,
-    )
+    grind (arith, length-append, length-replicate)
 
 drop-zeros : (count : ℕ) (behind : List ℕ) → drop count (replicate count 0 ++ behind) ≡ behind
 drop-zeros zero behind = refl
@@ -38,9 +30,7 @@ take-front (x ∷ front) behind = ap (λ xs. x ∷ xs) (take-front front behind)
 
 part-padded : (total before : ℕ) (bytes : List ℕ) →
     take (length bytes) (drop before (padded total before bytes)) ≡ bytes
-part-padded total before bytes =
-    let zeros : List ℕ = replicate (total - (before + length bytes)) 0 in
-    ap (take (length bytes)) (drop-zeros before (bytes ++ zeros)) ∙ take-front bytes zeros
+part-padded total before bytes = grind (arith, drop-zeros, take-front)
 
 -- zeros in all bodies but one, which has the bytes
 abbrev with_part : List BodyPlan → ℕ → ℕ → List ℕ → List (List ℕ)

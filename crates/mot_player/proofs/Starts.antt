@@ -19,15 +19,15 @@ use Rattle.mot_player.specs.Place.{left_of, of_bodies, opened_place, sent_by}
 use Rattle.mot_player.specs.Start.{begin_with, newest, start_place}
 use Rattle.mot_player.specs.Staying.{AreFewEarly, HasDirectory}
 use Rattle.mot_player.specs.Turn.{Turn, segments_of_bodies, segments_of_turn}
-use Rattle.mot_player.proofs.Beginnings.{StandsAt, stands-opened}
+use Rattle.mot_player.proofs.Beginnings.{StandsAt}
 use Rattle.mot_player.proofs.Continuous.{AreKinds-turn, IsKind, steps-from_opened}
-use Rattle.mot_player.proofs.FewEarly.{AreFew, both-counted, few-opened, few-place, one-numbered}
+use Rattle.mot_player.proofs.FewEarly.{both-counted, few-opened, few-place, one-numbered}
 use Rattle.mot_player.proofs.Followed.{bodies-append, of_bodies-directory, of_bodies-same}
 use Rattle.mot_player.proofs.FollowedTurn.{ids}
 use Rattle.mot_player.proofs.FreshReads.{IsOwn, all-append, all-behind, all-front, body_of}
 use Rattle.mot_player.proofs.FreshReads.{own-whole}
 use Rattle.mot_player.proofs.FreshTurns.{IsApartTurn, IsFresh, fresh-opened}
-use Rattle.mot_player.proofs.Left.{is_empty-append, left-some, own-directory, some-directory}
+use Rattle.mot_player.proofs.Left.{own-directory}
 use Rattle.mot_player.proofs.FirstBodies.{IsOneOf, newest-few, newest-one}
 use Rattle.mot_player.proofs.TurnOnce.{bodies-bodies}
 use Rattle.mot_player.proofs.TurnReads.{foreign-numbered_segments, own-append}
@@ -45,8 +45,7 @@ of-one P size (x ∷ bodies) b (inl e) all =
     subst (λ (p : Pair). AllByRecursion P (segments_of 4 p.0 size p.1)) (sym e)
     (all-front P (segments_of 4 x.0 size x.1) (segments_of_bodies size bodies) all)
 of-one P size (x ∷ bodies) b (inr one) all =
-    of-one P size bodies b one
-    (all-behind P (segments_of 4 x.0 size x.1) (segments_of_bodies size bodies) all)
+    grind (arith, of-one P size bodies b one (all-behind P (segments_of 4 x.0 size x.1) (segments_of_bodies size bodies) all))
 
 -- and of some of them
 pub of-some : (P : Segment → Type 0) (size : ℕ) (bodies some : List Pair) →
@@ -62,12 +61,7 @@ few-bodies : (size : ℕ) (bodies : List Pair) →
     bodies_not_begun (segments_of_bodies size bodies) ≤ length bodies
 few-bodies size [] = omega arith
 few-bodies size (b ∷ bodies) =
-    omega (
-      arith,
-      both-counted (segments_of 4 b.0 size b.1) (segments_of_bodies size bodies),
-      one-numbered 4 b.0 (pieces size b.1),
-      few-bodies size bodies,
-    )
+    grind (arith, few-bodies size bodies, both-counted, one-numbered)
 
 -- ---- one of a turn's bodies, by its id
 
@@ -148,43 +142,18 @@ module _ (address room size most : ℕ) (turn : Turn) (firsts : List Pair) where
   -- of bodies, those that come first wait, and then all
   pub first-bodies : of_bodies first_place.waiting ≡ early ++ bodies
   first-bodies =
-      let is_body : Segment → Bool = λ (s : Segment). s.kind == 4 in
-      filter-append is_body (directory ++ early) bodies
-      ∙ ap (λ (ss : List Segment). ss ++ of_bodies bodies)
-      (filter-append is_body directory early
-      ∙ ap (λ (ss : List Segment). ss ++ of_bodies early)
-      (of_bodies-directory turn.tid 0 (pieces size turn.directory))
-      ∙ of_bodies-same early (bodies-bodies size firsts))
-      ∙ ap (λ (ss : List Segment). early ++ ss)
-      (of_bodies-same bodies (bodies-bodies size turn.bodies))
+      grind (arith, filter-append, of_bodies-directory, of_bodies-same, bodies-bodies)
 
   -- all that waits is left
   pub first-left : 0 < size → HasDirectory turn → left_of first_place ≡ first_place.waiting
-  first-left some has =
-      left-some first_place None
-      (is_empty-append (directory ++ early) bodies
-      (is_empty-append directory early (some-directory turn size some has)))
+  first-left some has = grind arith
 
   pub few-first : length firsts ≤ most → AreFewEarly first_place
   few-first few =
-      few-place first_place
-      (subst (AreFew (length early) most) (sym first-bodies) (
-        omega (arith, length-append early bodies),
-        subst (λ (ss : List Segment). bodies_not_begun ss ≤ most)
-            (sym (take-append_seam early bodies))
-            (omega (arith, few, few-bodies size firsts)),
-      ))
+      grind (arith, few-place, first-bodies, length-append, take-append_seam, few-bodies)
 
   pub stands-first : 0 < room → StandsAt true true false size turn first_place
-  stands-first some = record {
-    room = some;
-    size_is = refl;
-    follows_is = refl;
-    turn_is = refl;
-    keeps = record { directory = tt; body = tt };
-    between_is = refl;
-    next = λ e. absurd (let f : false ≡ true = e in cc);
-  }
+  stands-first some = grind arith
 
   pub fresh-first : 0 < size → HasDirectory turn → AllByRecursion (IsOneOf turn.bodies) firsts →
       IsApartTurn turn → IsFresh first_place
@@ -235,12 +204,7 @@ pub stands-start : (address room size : ℕ) (turn : Turn) (cursor : ℕ) (follo
     (newest_first : Bool) → 0 < room →
     StandsAt (is_some follows) true (not (is_some follows && newest_first)) size turn
     (start_place address room size turn cursor follows newest_first)
-stands-start address room size turn cursor None newest_first some =
-    stands-opened address room size turn None some
-stands-start address room size turn cursor (Some most) false some =
-    stands-opened address room size turn (Some most) some
-stands-start address room size turn cursor (Some most) true some =
-    stands-first address room size most turn (newest (most - 1) cursor turn.bodies) some
+stands-start address room size turn cursor follows newest_first some = grind arith
 
 pub fresh-start : (address room size : ℕ) (turn : Turn) (cursor : ℕ) (follows : Option ℕ)
     (newest_first : Bool) → 0 < size → HasDirectory turn → IsApartTurn turn →

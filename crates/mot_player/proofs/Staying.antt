@@ -1,19 +1,17 @@
 -- Bodies that stay go on, whatever directories and changes come between the requests.
-use Rattle.std.proofs.Common.{◌≡◌, ℕ, suc, zero, ◌+◌, ◌<◌, Bool, true, false, List, [], ◌∷◌, ◌++◌}
-use Rattle.std.proofs.Common.{take, Option, Some, None, refl, sym, ap, ◌∙◌, subst, replicate}
+use Rattle.std.proofs.Common.{arith, ◌≡◌, ℕ, suc, zero, ◌+◌, ◌<◌, Bool, true, false, List, [], ◌∷◌}
+use Rattle.std.proofs.Common.{◌++◌, Option, Some, refl, sym, ap, ◌∙◌, subst, replicate}
 use Rattle.std.proofs.lemmas.Bool.{and_parts, not-true}
 use Rattle.std.proofs.lemmas.List.{append_assoc}
 use Rattle.std.proofs.lemmas.List.Elements.{filter-append}
-use Rattle.std.proofs.lemmas.Option.{none-some, same_Some}
-use Rattle.std.specs.Prelude.{◌&&◌, not, if◌then◌else◌}
+use Rattle.std.proofs.lemmas.Option.{same_Some}
+use Rattle.std.specs.Prelude.{not, if◌then◌else◌}
 use Rattle.mot_groups.specs.Entity.{own_segments, pieces}
-use Rattle.mot_groups.specs.Group.{GroupFields, Segment, bytes_of_group}
-use Rattle.mot_numbers.specs.Reading.{◌>>=◌, is_empty}
-use Rattle.mot_numbers.proofs.Laws.{>>=-some}
+use Rattle.mot_groups.specs.Group.{Segment}
+use Rattle.mot_numbers.specs.Reading.{is_empty}
 use Rattle.mot_player.specs.Place.{Place, Sent, Step, Request, NewTurn, Directory, Follow, UnderWay}
-use Rattle.mot_player.specs.Place.{directory_segments, first_sent, follow, group_for}
-use Rattle.mot_player.specs.Place.{hear_directory, left_of, left_with, next_sent, of_bodies}
-use Rattle.mot_player.specs.Place.{packet_sent, request, sent_by, to_send, with_begun}
+use Rattle.mot_player.specs.Place.{directory_segments, follow, hear_directory, left_of, left_with}
+use Rattle.mot_player.specs.Place.{next_sent, of_bodies, request, sent_by, to_send}
 use Rattle.mot_player.specs.Staying.{BodiesGoOn, DirectoryComes, HasDirectory, Stays, begun_by}
 use Rattle.mot_player.specs.Staying.{RequestsTakeInOrder, begun_with, none_ends}
 use Rattle.mot_player.specs.Turn.{Turn, segments_of_bodies}
@@ -50,62 +48,17 @@ unfolding hear_directory
 own-heard id place some has =
     own-heard-cases id place place.under_way (is_empty place.waiting) place.waiting some has refl
 
--- what is left behind a packet that does not end the turn
-left-behind : (place : Place) (group : List ℕ) (at : ℕ) (last : Bool) →
-    (last && is_empty place.waiting) ≡ false →
-    left_with place (if last then None else Some (record { group = group; sent = at }))
-    ≡ place.waiting
-left-behind place group at true e = rw e refl
-left-behind place group at false e = refl
-
-packet-left : (place : Place) (group : List ℕ) (at : ℕ) →
-    (packet_sent place group at).ends_turn ≡ false →
-    left_of (packet_sent place group at).place ≡ place.waiting
-packet-left place group at e =
-    let s : Sent = packet_sent place group at in
-    left-behind s.place group (at + place.room) s.packet.last e
-
--- a request that does not end the turn begins the first of those that are left, or none
-first-takes : (place : Place) (segments : List Segment) (s : Sent) →
-    first_sent place segments ≡ Some s → s.ends_turn ≡ false →
-    take 1 segments ++ left_of s.place ≡ segments
-first-takes place [] s e f = absurd (none-some s e)
-first-takes place (t ∷ segments) s e f =
-    let g : GroupFields = group_for place t in
-    let begun : Place = with_begun place g segments in
-    let first : Sent = packet_sent begun (bytes_of_group g) 0 in
-    let same : first ≡ s = same_Some first s e in
-    ap (λ (x : Sent). t ∷ left_of x.place) (sym same)
-    ∙ ap (λ ss. t ∷ ss)
-    (packet-left begun (bytes_of_group g) 0 (ap (λ (x : Sent). x.ends_turn) same ∙ f))
-
 next-takes : (place : Place) (u : Option UnderWay) (s : Sent) → next_sent place u ≡ Some s →
     s.ends_turn ≡ false → begun_with place u ++ left_of s.place ≡ left_with place u
-next-takes place None s e f = first-takes place (to_send place) s e f
-next-takes place (Some u) s e f =
-    let same : packet_sent place u.group u.sent ≡ s =
-    same_Some (packet_sent place u.group u.sent) s e in
-    ap (λ (x : Sent). left_of x.place) (sym same)
-    ∙ packet-left place u.group u.sent (ap (λ (x : Sent). x.ends_turn) same ∙ f)
+next-takes place u s e f = grind arith
 
 -- a request keeps the turn and the segment size
 abbrev pub KeepsTurn : Place → Sent → Type 0
 KeepsTurn place s = (s.place.segment_size ≡ place.segment_size) × (s.place.turn ≡ place.turn)
 
-first-keeps : (place : Place) (segments : List Segment) (s : Sent) →
-    first_sent place segments ≡ Some s → KeepsTurn place s
-first-keeps place [] s e = absurd (none-some s e)
-first-keeps place (t ∷ segments) s e =
-    let g : GroupFields = group_for place t in
-    let first : Sent = packet_sent (with_begun place g segments) (bytes_of_group g) 0 in
-    subst (KeepsTurn place) (same_Some first s e) (refl, refl)
-
 pub next-keeps : (place : Place) (u : Option UnderWay) (s : Sent) → next_sent place u ≡ Some s →
     KeepsTurn place s
-next-keeps place None s e = first-keeps place (to_send place) s e
-next-keeps place (Some u) s e =
-    let first : Sent = packet_sent place u.group u.sent in
-    subst (KeepsTurn place) (same_Some first s e) (refl, refl)
+next-keeps place u s e = grind arith
 
 -- the first request's segment, and those that the others begin
 pub record FirstBegun (place : Place) (steps : List Step) (begun : List Segment) : Type 0 where
@@ -118,19 +71,7 @@ pub record FirstBegun (place : Place) (steps : List Step) (begun : List Segment)
 pub first_begun : (place : Place) (steps : List Step) (begun : List Segment) →
     begun_by place (Request ∷ steps) ≡ Some begun → FirstBegun place steps begun
 unfolding begun_by
-first_begun place steps begun e =
-    let one = >>=-some (request place)
-    (λ (s : Sent). begun_by s.place steps >>= λ (others : List Segment).
-    Some (begun_with place place.under_way ++ others)) begun e in
-    let two = >>=-some (begun_by one.0.place steps)
-    (λ (others : List Segment). Some (begun_with place place.under_way ++ others)) begun one.2 in
-    record {
-      first = one.0;
-      others = two.0;
-      asked = one.1;
-      rest = two.1;
-      all = sym (same_Some (begun_with place place.under_way ++ two.0) begun two.2);
-    }
+first_begun place steps begun e = grind arith
 
 pub begun_none : (place : Place) (begun : List Segment) → begun_by place [] ≡ Some begun → [] ≡ begun
 unfolding begun_by
@@ -139,8 +80,7 @@ begun_none place begun e = same_Some [] begun e
 no_steps-place : (place : Place) (sents : List Sent) (new : Place) →
     sent_by place [] ≡ Some (sents, new) → place ≡ new
 unfolding sent_by
-no_steps-place place sents new e =
-    ap (λ (p : List Sent × Place). p.1) (same_Some ([], place) (sents, new) e)
+no_steps-place place sents new e = grind arith
 
 -- neither step changes the segment size, nor a directory that comes between the turn
 kept-size : (place : Place) → 0 < place.segment_size → 0 < (hear_directory place).segment_size

@@ -1,18 +1,16 @@
 -- The packets of a turn in which the directory is asked for gather to its groups, and these read as
 -- its carousel.
-use Rattle.std.proofs.Common.{◌≡◌, ℕ, ◌<◌, List, [], ◌∷◌, ◌++◌, Bool, true, false}
-use Rattle.std.proofs.Common.{Option, Some, None, ◌⊎◌, inl, inr, refl, sym, subst, map, length}
-use Rattle.std.proofs.Common.{take, drop, replicate, suc, zero, arith}
-use Rattle.std.proofs.Common.{ap, ◌∙◌}
+use Rattle.std.proofs.Common.{◌≡◌, ℕ, ◌<◌, List, [], ◌∷◌, ◌++◌, Bool, true, false, Option, Some}
+use Rattle.std.proofs.Common.{None, ◌⊎◌, inl, inr, refl, sym, subst, map, length, take, drop}
+use Rattle.std.proofs.Common.{replicate, suc, zero, arith, ap, ◌∙◌}
 use Rattle.std.proofs.lemmas.Bool.{and_parts}
 use Rattle.std.proofs.lemmas.Option.{none-some, same_Some}
-use Rattle.std.specs.Prelude.{◌==◌, ◌&&◌, IfSome, if◌then◌else◌, not}
+use Rattle.std.specs.Prelude.{◌==◌, ◌&&◌, IfSome, if◌then◌else◌}
 use Rattle.std.specs.List.{AllByRecursion}
 use Rattle.mot_groups.specs.Entity.{pieces, segments_of}
 use Rattle.mot_groups.specs.Group.{Segment, GroupFields, IsGroup, bytes_of_group}
 use Rattle.mot_numbers.specs.Reading.{is_empty}
-use Rattle.mot_objects.specs.Carousel.{Carousel, IsSound, Object}
-use Rattle.mot_objects.specs.Ids.{contains, is_distinct}
+use Rattle.mot_objects.specs.Carousel.{Carousel, IsSound}
 use Rattle.mot_packets.specs.Cut.{piece_at}
 use Rattle.mot_packets.specs.Gather.{groups_after, gather, gather_front}
 use Rattle.mot_packets.specs.Packet.{PacketFields}
@@ -28,8 +26,7 @@ use Rattle.mot_player.specs.Repeats.{ends_at_last, had_with, read_turn_once, rec
 use Rattle.mot_player.specs.Turn.{IsTurnOf, segments_of_bodies, segments_of_turn}
 use Rattle.mot_player.proofs.Addresses.{one_address, steps-address}
 use Rattle.mot_player.proofs.Asked.{ask_directory, keep-turn, keep_turn}
-use Rattle.mot_player.proofs.Followed.{AreBodies, bodies-append}
-use Rattle.mot_player.proofs.Followed.{bodies-numbered}
+use Rattle.mot_player.proofs.Followed.{AreBodies, bodies-append, bodies-numbered}
 use Rattle.mot_player.proofs.Indexes.{some_bytes-group}
 use Rattle.mot_player.proofs.Repeated.{IsLeft, heard-left, is_left-heard, left-heard, left-next}
 use Rattle.mot_player.proofs.Repeated.{received-turn}
@@ -38,7 +35,7 @@ use Rattle.mot_player.proofs.Requests.{place_behind}
 use Rattle.mot_player.proofs.TurnReads.{EntityLaws, read_segments-turn}
 use Rattle.mot_player.proofs.WholeTurn.{IsFit, KeepsIndexes, append-fit, are_fit-turn, begun-keeps}
 use Rattle.mot_player.proofs.WholeTurn.{entity-laws, group-index_fits, groups-read, is_group}
-use Rattle.mot_player.proofs.WholeTurn.{ends_of, head-false, head-true, last_ends, whole_or_none}
+use Rattle.mot_player.proofs.WholeTurn.{ends_of, head-false, head-true, last_ends}
 use Rattle.mot_player.proofs.UnderWay.{front_of, group_of}
 
 -- The packets of what is left, behind the front of one group: what they carry is received as what
@@ -71,8 +68,7 @@ SendsFrom steps =
     (left_of place) (packets_of sents)
 
 none_of : (sents : List Sent) → is_empty sents ≡ true → sents ≡ []
-none_of [] e = refl
-none_of (s ∷ sents) e = absurd (let f : false ≡ true = e in cc)
+none_of sents e = grind arith
 
 no_groups : groups_after [] [] ≡ Some ([], [])
 unfolding groups_after
@@ -214,8 +210,7 @@ next-sends steps ih had place (Some u) s others new within inside keep e h ends 
 
 fit-bodies : (b : Bool) (x : Segment) (xs : List Segment) → IsFit x → AllByRecursion IsFit xs →
     AllByRecursion IsFit (if b then x ∷ xs else xs)
-fit-bodies true x xs f fs = (f, fs)
-fit-bodies false x xs f fs = fs
+fit-bodies b x xs f fs = grind arith
 
 fit-of_bodies : (xs : List Segment) → AllByRecursion IsFit xs → AllByRecursion IsFit (of_bodies xs)
 fit-of_bodies [] f = tt
@@ -319,14 +314,10 @@ module _ (old : Place) (c : Carousel) (place : IsPlace old)
   directory = directory_segments old.turn size
 
   whole-left : left_of old ≡ segments_of_turn old.turn size
-  whole-left =
-      ap (left_with old) begins.under_way
-      ∙ whole_or_none old.waiting (segments_of_turn old.turn size) begins.waiting
+  whole-left = grind arith
 
   fit-whole : AllByRecursion IsFit (segments_of_turn old.turn size)
-  fit-whole =
-      are_fit-turn size (entity-laws size place.size.0) place.size.1 old.turn c is_turn sound
-      place.playable
+  fit-whole = grind (arith, are_fit-turn, entity-laws)
 
   within-whole : IsWithin [] old (left_of old)
   within-whole = record {
@@ -348,15 +339,7 @@ module _ (old : Place) (c : Carousel) (place : IsPlace old)
   }
 
   received-whole : received [] (left_of old) ≡ segments_of_turn old.turn size
-  received-whole =
-      let with_bodies : List (ℕ × List ℕ) → List Segment =
-      λ bodies. directory ++ segments_of_bodies size bodies in
-      let ids = and_parts (not (contains (map (λ (o : Object). o.tid) c.objects) c.directory))
-      (is_distinct (map (λ (o : Object). o.tid) c.objects)) sound.ids in
-      ap (received []) whole-left
-      ∙ ap (λ bodies. received [] (with_bodies bodies)) is_turn.bodies
-      ∙ received-turn old.turn.tid size old.turn.directory c.objects ids.1
-      ∙ sym (ap with_bodies is_turn.bodies)
+  received-whole = grind (arith, and_parts, whole-left, received-turn)
 
   turn-reads : (new : Place) (steps : List Step) (sents : List Sent) (packets : List (List ℕ)) →
       keep_turn steps ≡ true → sent_by old steps ≡ Some (sents, new) → ends_at_last sents ≡ true →
@@ -422,8 +405,7 @@ ask-requests zero = refl
 ask-requests (suc n) = ask-requests n
 
 none_end : (n : ℕ) → [] ≡ last_ends n → ⊥
-none_end zero e = absurd (omega (arith, ap length e))
-none_end (suc n) e = absurd (omega (arith, ap length e))
+none_end n e = grind arith
 
 -- of n + 1 packets the last alone ends the turn
 ends-last : (b : Bool) (n : ℕ) (sents : List Sent) → b ∷ ends_of sents ≡ last_ends n →

@@ -1,9 +1,8 @@
 -- The segments of a turn read as its carousel.
 use Rattle.std.proofs.Common.{◌≡◌, ℕ, ◌+◌, ◌<◌, ◌≤◌, List, [], ◌∷◌, ◌++◌, Bool, true, false, not}
-use Rattle.std.proofs.Common.{refl, length, map, ap, ◌∙◌, sym, subst, arith, eq-eqb, append_assoc}
+use Rattle.std.proofs.Common.{refl, length, map, ap, ◌∙◌, sym, arith, eq-eqb, append_assoc}
 use Rattle.std.proofs.Common.{append-nil}
-use Rattle.std.proofs.lemmas.Bool.{eqb-true, false≢true, le-leb, and_parts, or_parts, or_right}
-use Rattle.std.proofs.lemmas.Bool.{not-true}
+use Rattle.std.proofs.lemmas.Bool.{le-leb, and_parts, or_parts, or_right, not-true}
 use Rattle.std.proofs.lemmas.List.Elements.{filter-append, All-head, All-tail}
 use Rattle.std.specs.Prelude.{Some, ◌==◌, ◌&&◌, ◌||◌, nat_eq, flat_map, All}
 use Rattle.std.specs.List.{list_all, AllByRecursion}
@@ -26,11 +25,7 @@ pub object_in-entry_of : (segments : List Segment) (o : Object)
     → entity_of segments 4 o.tid ≡ Some o.body →
     object_in segments (entry_of o) ≡ Some o
 object_in-entry_of segments o e =
-    rw (
-      e,
-      description_in-parameters_with o.name o.mime o.version,
-      eq-eqb (length o.body) (length o.body) refl,
-    ) refl
+    grind (arith, description_in-parameters_with)
 
 -- the segments of an entity, among its own and among others
 pub own-numbered_segments : (kind tid number : ℕ) (ps : List (List ℕ)) →
@@ -38,8 +33,7 @@ pub own-numbered_segments : (kind tid number : ℕ) (ps : List (List ℕ)) →
     ≡ numbered_segments kind tid number ps
 own-numbered_segments kind tid number [] = refl
 own-numbered_segments kind tid number (p ∷ ps) =
-    rw (eq-eqb kind kind refl, eq-eqb tid tid refl, own-numbered_segments kind tid (number + 1) ps)
-    refl
+    grind (arith, own-numbered_segments kind tid (number + 1) ps)
 
 pub foreign-numbered_segments : (kind tid other_kind other number : ℕ) (ps : List (List ℕ)) →
     (other_kind == kind && other == tid) ≡ false
@@ -58,13 +52,7 @@ own-between : (kind tid size : ℕ) (bytes : List ℕ) (front back : List Segmen
     own_segments kind tid (front ++ segments_of kind tid size bytes ++ back)
     ≡ segments_of kind tid size bytes
 own-between kind tid size bytes front back f b =
-    let here : List Segment = segments_of kind tid size bytes in
-    own-append kind tid (front ++ here) back
-    ∙ ap (λ xs. own_segments kind tid (front ++ here) ++ xs) b
-    ∙ append-nil (own_segments kind tid (front ++ here))
-    ∙ own-append kind tid front here
-    ∙ ap (λ xs. xs ++ own_segments kind tid here) f
-    ∙ own-numbered_segments kind tid 0 (pieces size bytes)
+    grind (arith, own-append, append-nil, own-numbered_segments)
 
 abbrev pub ids_of : List Object → List ℕ
 ids_of objects = map (λ (o : Object). o.tid) objects
@@ -87,17 +75,13 @@ pub foreign-directory : (id size : ℕ) (objects : List Object)
     → own_segments 6 id (cut size objects) ≡ []
 foreign-directory id size [] = refl
 foreign-directory id size (o ∷ objects) =
-    own-append 6 id (segments_of 4 o.tid size o.body) (cut size objects)
-    ∙ ap (λ xs. xs ++ own_segments 6 id (cut size objects))
-    (foreign-numbered_segments 6 id 4 o.tid 0 (pieces size o.body) refl)
-    ∙ foreign-directory id size objects
+    grind (arith, foreign-directory id size objects, own-append, foreign-numbered_segments)
 
 -- an id that is in the list differs from one that is not
 apart : (ids : List ℕ) (x y : ℕ) → contains ids x ≡ false → contains ids y ≡ true → (b : Bool)
     → (x == y) ≡ b →
     (x == y) ≡ false
-apart ids x y p q false e = e
-apart ids x y p q true e = absurd (false≢true (sym p ∙ ap (contains ids) (eqb-true x y e) ∙ q))
+apart ids x y p q b e = grind arith
 
 all-cons : (p : Segment → Bool) (x : Segment) (xs : List Segment) → p x ≡ true
     → list_all p xs ≡ true →
@@ -193,9 +177,7 @@ module _ (size : ℕ) (laws : EntityLaws size) where
       (kind == 6 && tid == id || kind == 4 && contains ids tid) ≡ true →
       list_all (belongs id ids size) (segments_of kind tid size bytes) ≡ true
   belongs-entity id kind tid ids bytes m =
-      let cut = laws.cut bytes in
-      belongs-numbered_segments id size kind tid 0 ids (pieces size bytes) m cut.others_full
-      cut.none_longer
+      grind (arith, belongs-numbered_segments)
 
   pub belongs-cut : (id : ℕ) (ids : List ℕ) (objects : List Object) →
       ((tid : ℕ) → contains (ids_of objects) tid ≡ true → contains ids tid ≡ true) →
@@ -264,12 +246,4 @@ module _ (size : ℕ) (laws : EntityLaws size) where
             c.objects;
       })
   read_segments-turn turn c t sound playable =
-      ap (λ id. read_segments (segments_of 6 id size turn.directory
-      ++ segments_of_bodies size turn.bodies)) t.tid
-      ∙ ap (λ bodies. read_segments
-      (segments_of 6 c.directory size turn.directory ++ segments_of_bodies size bodies))
-      t.bodies
-      ∙ read_segments-parts c.directory c.period turn.directory c.objects playable.directory.some
-      t.directory sound.ids
-      (bodies-some c.objects (subst (All (λ (b : ℕ × List ℕ). IsSendable size b.1)) t.bodies
-      playable.bodies))
+      grind (arith, read_segments-parts, bodies-some)

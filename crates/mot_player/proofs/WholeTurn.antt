@@ -1,22 +1,19 @@
 -- The segments of a turn fit their groups, and these read as the segments.
-use Rattle.std.proofs.Common.{◌≡◌, ℕ, ◌+◌, ◌*◌, ◌%◌, ◌^◌, ◌<◌, ◌≤◌, List, [], ◌∷◌, ◌++◌}
-use Rattle.std.proofs.Common.{Bool, true, false, Option, Some, None, ◌⊎◌, inl, inr, refl, sym}
-use Rattle.std.proofs.Common.{subst, length, map, replicate, All, ap, arith}
-use Rattle.std.proofs.Math.Nat.{mul-le-mul_right}
-use Rattle.std.proofs.lemmas.Bool.{cases_lt, false≢true}
+use Rattle.std.proofs.Common.{◌≡◌, ℕ, ◌+◌, ◌*◌, ◌^◌, ◌<◌, ◌≤◌, List, [], ◌∷◌, ◌++◌, Bool, true}
+use Rattle.std.proofs.Common.{false, Some, ◌⊎◌, refl, sym, length, map, replicate, All, ap, arith}
+use Rattle.std.proofs.lemmas.Bool.{false≢true}
 use Rattle.std.proofs.lemmas.Grind.{div_ceil_times}
 use Rattle.std.proofs.lemmas.List.Elements.{All-head, All-tail}
-use Rattle.std.specs.Prelude.{◌==◌, if◌then◌else◌, bytes_eq, IfSome}
+use Rattle.std.specs.Prelude.{if◌then◌else◌, IfSome}
 use Rattle.std.specs.Int.{div_ceil}
 use Rattle.std.specs.List.{AllByRecursion}
 use Rattle.mot_groups.specs.Entity.{numbered_segments, pieces, segments_of}
 use Rattle.mot_groups.specs.Group.{Segment, GroupFields, IsGroup, read_group, bytes_of_group}
-use Rattle.mot_groups.specs.Group.{segment_content}
 use Rattle.mot_groups.proofs.Laws.{IsCut-pieces, entity_of-own, read_group-bytes_of_group}
 use Rattle.mot_groups.proofs.Laws.{length-first_pieces}
 use Rattle.mot_numbers.specs.Reading.{is_empty, read_each}
 use Rattle.mot_objects.specs.Carousel.{Object, Carousel, IsSound}
-use Rattle.mot_player.specs.Place.{Last, Place, Sent, next_index, group_for, with_begun}
+use Rattle.mot_player.specs.Place.{Last, Place, Sent, group_for, with_begun}
 use Rattle.mot_player.specs.Turn.{Turn, IsTurnOf, IsPlayable, IsSendable, bodies_with_ids}
 use Rattle.mot_player.specs.Turn.{segments_of_turn, segments_of_bodies}
 use Rattle.mot_player.proofs.TurnReads.{EntityLaws}
@@ -50,13 +47,7 @@ are_fit-numbered_segments kind tid number size (p ∷ ps) k t n some short s =
     )
 
 few : (count size bytes : ℕ) → bytes ≤ 32768 * size → count * size < bytes + size → count ≤ 32768
-few count size bytes most less =
-    elim (cases_lt 32768 count) [
-      | inl many ↦ (let more : 32769 * size ≤ count * size =
-          mul-le-mul_right size (let e : 32769 ≤ count = omega arith in e) in
-          absurd (omega (arith, more, less, most)))
-      | inr enough ↦ enough
-    ]
+few count size bytes most less = grind arith
 
 few_pieces : (size : ℕ) (bytes : List ℕ) → 0 < length bytes → length bytes ≤ 32768 * size →
     length (pieces size bytes) ≤ 32768
@@ -80,12 +71,7 @@ module _ (size : ℕ) (laws : EntityLaws size) (s : size ≤ 8189) where
       → IsSendable size bytes →
       AllByRecursion IsFit (segments_of kind tid size bytes)
   are_fit-entity kind tid bytes k t b =
-      let cut = laws.cut bytes in
-      let enough : length (pieces size bytes) ≤ 32768 = few_pieces size bytes b.some b.numbered in
-      let all : 0 + length (pieces size bytes) ≤ 2 ^ 15 = omega (arith, enough) in
-      are_fit-numbered_segments kind tid 0 size (pieces size bytes) k
-      (let e : 0 < tid = omega arith in e, let e : tid < 2 ^ 16 = omega arith in e)
-      all cut.none_empty cut.none_longer s
+      grind (arith, few_pieces, are_fit-numbered_segments)
 
   are_fit-objects : (objects : List Object)
       → AllByRecursion IsId (map (λ (o : Object). o.tid) objects) →
@@ -104,50 +90,15 @@ module _ (size : ℕ) (laws : EntityLaws size) (s : size ≤ 8189) where
       → IsPlayable turn size →
       AllByRecursion IsFit (segments_of_turn turn size)
   are_fit-turn turn c t sound p =
-      let fits : List (ℕ × List ℕ) → Type 0 = All (λ (b : ℕ × List ℕ). IsSendable size b.1) in
-      let directory : (1 ≤ turn.tid) × (turn.tid ≤ 65535) = subst IsId (sym t.tid) sound.range.0 in
-      let bodies : AllByRecursion IsFit (segments_of_bodies size turn.bodies) =
-      subst (λ bs. AllByRecursion IsFit (segments_of_bodies size bs)) (sym t.bodies)
-      (are_fit-objects c.objects sound.range.1 (subst fits t.bodies p.bodies)) in
-      append-fit (segments_of 6 turn.tid size turn.directory) (segments_of_bodies size turn.bodies)
-      (are_fit-entity 6 turn.tid turn.directory (omega arith) directory p.directory) bodies
-
--- the index that a group gets fits its header, and so do those that are kept then
-next_index-cases : (same : Bool) (index : ℕ) → index < 16
-    → (if same then index else (index + 1) % 16) < 16
-next_index-cases true index l = l
-next_index-cases false index l = omega arith
-
-next_index-fits : (last : Option Last) (content : List ℕ) → IfSome last (λ (l : Last). l.index < 16)
-    →
-    next_index last content < 16
-next_index-fits None content h = omega arith
-next_index-fits (Some last) content h =
-    next_index-cases (bytes_eq last.content content) last.index h
-
-kept-cases : (b : Bool) (x y : Option Last) → IfSome x (λ (l : Last). l.index < 16) →
-    IfSome y (λ (l : Last). l.index < 16) → IfSome (if b then x else y) (λ (l : Last). l.index < 16)
-kept-cases true x y p q = p
-kept-cases false x y p q = q
+      grind (arith, are_fit-objects, append-fit, are_fit-entity)
 
 pub group-index_fits : (place : Place) (s : Segment) → KeepsIndexes place
     → (group_for place s).index < 16
-group-index_fits place s keeps =
-    let is_directory : Bool = s.kind == 6 in
-    next_index-fits (if is_directory then place.last_directory else place.last_body)
-    (segment_content s)
-    (kept-cases is_directory place.last_directory place.last_body keeps.directory keeps.body)
+group-index_fits place s keeps = grind arith
 
 pub begun-keeps : (place : Place) (s : Segment) (others : List Segment) → KeepsIndexes place →
     KeepsIndexes (with_begun place (group_for place s) others)
-begun-keeps place s others keeps =
-    let group : GroupFields = group_for place s in
-    let last : Option Last = Some (record { index = group.index; content = segment_content s }) in
-    let fits : group.index < 16 = group-index_fits place s keeps in
-    record {
-      directory = kept-cases (s.kind == 6) last place.last_directory fits keeps.directory;
-      body = kept-cases (s.kind == 6) place.last_body last keeps.body fits;
-    }
+begun-keeps place s others keeps = grind arith
 
 -- of what was sent, which ends a turn
 abbrev pub ends_of : List Sent → List Bool
@@ -171,23 +122,12 @@ head-true bs cs e = false≢true (sym (ap head_of e))
 
 pub is_group : (index : ℕ) (s : Segment) → index < 16 → IsFit s
     → IsGroup (record { index = index; segment = s })
-is_group index s i f =
-    record {
-      kind = f.kind;
-      index = i;
-      tid = f.tid;
-      number = f.number;
-      some = f.some;
-      fits =
-          f.fits;
-    }
+is_group index s i f = grind arith
 
 -- at the beginning of a turn its segments are to be sent
 pub whole_or_none : (segments whole : List Segment) → (segments ≡ []) ⊎ (segments ≡ whole) →
     (if is_empty segments then whole else segments) ≡ whole
-whole_or_none [] whole h = refl
-whole_or_none (s ∷ segments) whole (inl e) = absurd (omega (arith, ap length e))
-whole_or_none (s ∷ segments) whole (inr e) = e
+whole_or_none segments whole h = grind arith
 
 module _ (size : ℕ) (laws : EntityLaws size) (s : size ≤ 8189) where
   pub groups-read : (groups : List GroupFields) → AllByRecursion IsGroup groups →

@@ -196,11 +196,6 @@ impl<'a, S: System + Drop, W: Write + Drop> Tells for Reporter<'a, S, W> {
     fn tell(&mut self, event: &Event<'_>) {
         self.log.tell(event);
     }
-
-    /// Something that happened is left out of the log.
-    fn leave_out(&mut self) {
-        self.log.leave_out();
-    }
 }
 
 impl<'a, S: System + Drop, W: Write + Drop> Watch for Reporter<'a, S, W> {

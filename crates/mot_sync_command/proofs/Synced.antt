@@ -13,7 +13,7 @@ use Rattle.mot_sync_command.specs.Inner.Looked as looks
 use Rattle.mot_sync_command.specs.Syncing.{HasSynced, IsEqual, Syncs, SyncsAndTells}
 use Rattle.mot_update.proofs.Laws.{ends_off, opened_leaves}
 use Rattle.mot_feed.specs.Feeding.{IsFeedFault}
-use Rattle.mot_log.specs.Text.{met_line}
+use Rattle.mot_log.specs.Text.{look_line}
 use Rattle.mot_events.specs.declared.event.LookEvent.{LookEvent}
 use Rattle.mot_folder.specs.declared.guard.Guard.{Guard}
 use Rattle.mot_folder.specs.Log.{ReportTells}
@@ -202,7 +202,7 @@ module _ {D : Type 0} (state : D → State) (disk : D) (server new : ServerView 
           why = inl (ap (λ (r : Result Bool Refusal). fault_of r) (sym is));
           told = λ whole_is. (
             ap (λ (r : Result Bool Refusal). result_unwrap_or r false) (sym is),
-            subst (λ l. Appends before after (flat_map met_line l)) (done.2 whole) written,
+            subst (λ l. Appends before after (flat_map look_line l)) (done.2 whole) written,
           );
         }
     tells s result given honest each gave (looks.broken report files refusal is look) =

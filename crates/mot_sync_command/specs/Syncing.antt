@@ -4,7 +4,7 @@ use Rattle.std.specs.Io.KnownBytes.{Appends, Keeps}
 use Rattle.std.specs.List.{flat_map}
 use Rattle.disk_model.specs.Disk.{State}
 use Rattle.mot_update.specs.Ending.{EndsBy, Leaves}
-use Rattle.mot_log.specs.Text.{met_line}
+use Rattle.mot_log.specs.Text.{look_line}
 use Rattle.mot_events.specs.declared.event.LookEvent.{LookEvent}
 use Rattle.mot_folder.specs.declared.guard.Guard.{Guard}
 use Rattle.mot_folder.specs.Looked.{IsLook, TellsRightly}
@@ -61,7 +61,7 @@ module _ (types : List SuffixType) (guard : Guard) (folder then_folder : FolderV
     pub entries : List LookEvent
     pub synced : HasSynced fine fault entries s
     pub why : (fault ≡ ending) ⊎ ((fault ≡ None) × (ending ≡ Some WriteFault))
-    pub told : ending ≡ None → (fine ≡ all) × Appends old new (flat_map met_line entries)
+    pub told : ending ≡ None → (fine ≡ all) × Appends old new (flat_map look_line entries)
 
   -- The disk's carousel was made equal to the folder, up to this ending; where it came to its end,
   -- true if nothing was refused. The log's known bytes were old and are new.

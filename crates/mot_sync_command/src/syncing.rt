@@ -3,7 +3,7 @@ ghost use Rattle.std.specs.Prelude.{◌≡◌, IfErr, MatchResult, OnOk, false, 
 ghost use Rattle.std.specs.Result.{result_unwrap_or};
 ghost use Rattle.std.specs.Io.KnownBytes.{Appends};
 ghost use Rattle.disk_model.specs.Disk.{KeepsLength};
-ghost use Rattle.mot_log.specs.Text.{met_line};
+ghost use Rattle.mot_log.specs.Text.{look_line};
 ghost use Rattle.mot_feed.specs.Feeding.{IsFeedFault};
 ghost use Rattle.mot_folder.specs.Guard.{guard_of};
 ghost use Rattle.mot_journal.specs.Image.{Standing};
@@ -27,7 +27,7 @@ use mot_endpoints::{Cause, Host, Machine, copy_unopened, file_types};
 use mot_events::LookEvent;
 use mot_files::{CallLog, System};
 use mot_folder::{FileTypes, Folder, Guard, KnownFiles, look_at_folder};
-use mot_log::add_met_line;
+use mot_log::add_look_line;
 use mot_numbers::Refusal;
 use mot_outcome::{TaskCalls, TaskEnd, clear_after, write_bytes, write_last};
 use mot_playout::Server;
@@ -166,7 +166,7 @@ fn look_and_tell<S: System + Drop, D: Disk, L: Write>(
 /// Writes a line for each event to the log.
 fn write_events<L: Write>(alloc: Global, log: &mut L, events: &[LookEvent]) -> Result<(), Refusal>
     ensures written { OnOk result (Appends (L.contents log.old) (L.contents log.new)
-        (flat_map met_line events.now)) }
+        (flat_map look_line events.now)) }
     ensures fault { IfErr result (λ r. r ≡ WriteFault) }
 {
     let mut line = Vec::new(alloc);
@@ -179,11 +179,11 @@ fn write_events<L: Write>(alloc: Global, log: &mut L, events: &[LookEvent]) -> R
 /// Writes the line of an event to the log.
 fn write_event<L: Write>(line: &mut Vec<u8>, log: &mut L, event: &LookEvent) -> Result<(), Refusal>
     ensures written { OnOk result (Appends (L.contents log.old) (L.contents log.new)
-        (met_line event.now)) }
+        (look_line event.now)) }
     ensures fault { IfErr result (λ r. r ≡ WriteFault) }
 {
     line.clear();
-    if add_met_line(line, event).is_err() {
+    if add_look_line(line, event).is_err() {
         return Err(Refusal::WriteFault);
     }
     write_bytes(log, line.as_slice())

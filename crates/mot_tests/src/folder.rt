@@ -5,7 +5,7 @@ use mot_base::{Geometry, Refusal};
 use mot_events::LookEvent;
 use mot_files::Kind;
 use mot_folder::{FileTypes, Folder, Guard, look_at_folder};
-use mot_log::add_met_line;
+use mot_log::add_look_line;
 use mot_memory_files::{MachineSystem, World};
 use mot_shelf::FolderReader;
 use std::alloc::Global;
@@ -89,7 +89,7 @@ fn told_of(
 fn lines_of(alloc: Global, events: &[LookEvent]) -> Result<Vec<u8>, Refusal> {
     let mut lines = Vec::new(alloc);
     for event in events {
-        add_met_line(&mut lines, event)?;
+        add_look_line(&mut lines, event)?;
     }
     Ok(lines)
 }

@@ -15,6 +15,7 @@ use Rattle.mot_folder.specs.Log.{names_read, of_look}
 use Rattle.mot_folder.specs.Looked.{IsUnlisted}
 use Rattle.mot_folder.specs.declared.listing.TheConstants.{MAX_NAMES}
 use Rattle.mot_folder.specs.declared.listing.Unlisted.{Unlisted}
+use Rattle.mot_folder.specs.declared.names.FileNames.{FileNames}
 use Rattle.mot_folder.specs.declared.report.Report.{Report}
 use Rattle.mot_numbers.specs.declared.refusal.Refusal.{Refusal}
 use Rattle.mot_numbers.specs.declared.refusal.Refusal.TheVariants.{OutOfMemory, ReadFault}
@@ -115,6 +116,9 @@ pub record Stage : Type 0 where
 abbrev pub stage : List ℕ → Given → Report → (counted : ℕ) → (names : List (List ℕ)) → Stage
 stage path given report counted names =
     record { path = path; given = given; report = report; counted = counted; names = names }
+
+abbrev pub stage_of : List ℕ → Given → Report → FileNames → Stage
+stage_of path given report names = stage path given report names.counted names.names.items
 
 -- the same folder later: no answer was told, no file read, and no name came that begins with a dot
 pub record IsLater (old new : Stage) : Type 0 where

@@ -5,7 +5,7 @@ use Rattle.mot_events.specs.Events.{event_of}
 use Rattle.mot_events.specs.declared.event.LookStep.TheVariants.{Read}
 use Rattle.mot_events.specs.declared.event.LookEvent.{LookEvent}
 use Rattle.mot_events.specs.declared.event.LookResult.{LookResult}
-use Rattle.mot_events.specs.declared.event.LookResult.TheVariants as met
+use Rattle.mot_events.specs.declared.event.LookResult.TheVariants as outcome
 use Rattle.mot_events.specs.declared.event.Why.{Why}
 use Rattle.mot_events.specs.declared.event.Why.TheVariants as why
 use Rattle.mot_folder.specs.Inner.Listing.{IsCallRefusal}
@@ -55,7 +55,7 @@ pub data Misses (types : List SuffixType) (name : List ℕ) (old new : Given) (N
 -- a file of this name is told as one that was not taken
 abbrev pub TellsFile : Report → Report → List ℕ → Type 0
 TellsFile old new name =
-    (met : LookResult) × (is_of_file met ≡ true) × TellsOne old new (event_of name met)
+    (outcome : LookResult) × (is_of_file outcome ≡ true) × TellsOne old new (event_of name outcome)
 
 -- What a look began with: its types, what was known of files, and the folder.
 pub record LookStart : Type 0 where
@@ -112,7 +112,7 @@ is_for_next (NotTaken refusal) = false
 
 -- the file of this name was not read, or not taken, for this reason
 abbrev pub unread_for : List ℕ → Refusal → Why → LookEvent
-unread_for name refusal why = event_of name (met.Refused Read refusal why)
+unread_for name refusal why = event_of name (outcome.Refused Read refusal why)
 
 -- the system refused to read it
 abbrev pub TellsFault : Report → Report → List ℕ → Type 0
@@ -122,8 +122,8 @@ TellsFault old new name = (refusal : Refusal) × (words : Why) × IsCallRefusal 
 -- why a file of this name was not taken, as it is told: so many bytes are too many, or what was read
 -- of it was refused
 abbrev pub TellsUntaken : Untaken → Report → Report → List ℕ → Type 0
-TellsUntaken (NotRead Young) old new name = TellsOne old new (event_of name met.Young)
-TellsUntaken (NotRead Changed) old new name = TellsOne old new (event_of name met.Changed)
+TellsUntaken (NotRead Young) old new name = TellsOne old new (event_of name outcome.Young)
+TellsUntaken (NotRead Changed) old new name = TellsOne old new (event_of name outcome.Changed)
 TellsUntaken (NotRead (TooLong count)) old new name =
     TellsOne old new (unread_for name BodyTooLong (why.TooLong count))
 TellsUntaken (NotRead (System fault)) old new name = TellsFault old new name

@@ -1,15 +1,13 @@
 -- Why objects are not stored, and which of them wait, while a look goes on.
 use Rattle.std.specs.Prelude.{◌&&◌, ◌+◌, ◌==◌, ◌≡◌, ℕ, Bool, true, false, not, List, if◌then◌else◌}
-use Rattle.std.specs.Prelude.{min, nat_lt}
+use Rattle.std.specs.Prelude.{[], min, nat_lt}
 use Rattle.std.specs.List.{list_any}
 use Rattle.std.specs.Str.{is_utf8}
-use Rattle.mot_events.specs.Events.{event_of}
-use Rattle.mot_events.specs.declared.event.LookStep.TheVariants as deed
 use Rattle.mot_events.specs.declared.event.LookEvent.{LookEvent}
 use Rattle.mot_events.specs.declared.event.Why.{Why}
 use Rattle.mot_events.specs.declared.event.Why.TheVariants.{Bytes, Control, NotUtf8, Objects}
 use Rattle.mot_events.specs.declared.event.Why.TheVariants.{Space, Unsaid}
-use Rattle.mot_folder.specs.Log.{ReportTells, TellsOne, has_to_wait, result_for}
+use Rattle.mot_folder.specs.Log.{ReportTells, TellsOne, has_to_wait}
 use Rattle.mot_folder.specs.declared.report.Report.{Report}
 use Rattle.mot_folder.specs.declared.report.Sizes.{Sizes}
 use Rattle.mot_numbers.specs.declared.refusal.Refusal.{Refusal}
@@ -34,6 +32,20 @@ abbrev pub why_nameless : List ℕ → Why
 why_nameless name = if not (is_utf8 name) then NotUtf8
     else if list_any (λ b. b == 32) name then Space else Control
 
+-- nothing of an earlier look is kept
+pub record BeginsAnew (report : Report) : Type 0 where
+  pub none : report.events.items ≡ []
+  pub fine : report.any_refused ≡ false
+  pub whole : report.any_left_out ≡ false
+  pub memory : report.any_without_memory ≡ false
+  pub left : report.any_left ≡ false
+  pub room : report.any_without_room ≡ false
+  pub skipped : report.skipped ≡ 0
+
+-- if an event said that memory ran out, one still does
+abbrev pub StaysShort : Report → Report → Type 0
+StaysShort old new = old.any_without_memory ≡ true → new.any_without_memory ≡ true
+
 -- what was told stays
 abbrev pub TellsNoMore : Report → Report → Type 0
 TellsNoMore old new =
@@ -56,13 +68,3 @@ abbrev pub and_settled : (waiting : ℕ) → SettleOutcome → ℕ
 and_settled waiting settled.Right = waiting
 and_settled waiting (settled.Put came) = and_waiting waiting (has_to_wait came)
 and_settled waiting (settled.Replaced came) = and_waiting waiting (has_to_wait came)
-
--- the object of this name and these sizes was settled so, and that is told of it
-abbrev pub TellsSettled : Sizes → SettleOutcome → Report → Report → List ℕ → Type 0
-TellsSettled sizes settled.Right old new name = new ≡ old
-TellsSettled sizes (settled.Put came) old new name =
-    TellsUnless (is_counted sizes.waiting came) old new
-    (event_of name (result_for deed.Put came (why_not_stored sizes came)))
-TellsSettled sizes (settled.Replaced came) old new name =
-    TellsUnless (is_counted sizes.waiting came) old new
-    (event_of name (result_for deed.Replace came (why_not_stored sizes came)))

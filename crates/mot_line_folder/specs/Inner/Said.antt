@@ -19,11 +19,6 @@ pub data IsNew (tolds : List Told) (name : List ℕ) (stamp : Option Stamp) (is 
   full : IsUntold tolds name → 100 ≤ length tolds → is ≡ false → IsNew tolds name stamp is
   due : IsDue tolds name stamp is → IsNew tolds name stamp is
 
--- an entry about the name was met
-pub data HasMet (tolds : List Told) (name : List ℕ) : Type 0 where
-  met : (told : Told) → Contains tolds told → told.name.items ≡ name → told.is_met ≡ true
-      → HasMet tolds name
-
 -- an entry says that a read of this file failed, as it is, and was met
 pub data Remembers (tolds : List Told) (name : List ℕ) (stamp : Option Stamp) : Type 0 where
   by : (told : Told) → Contains tolds told → told.name.items ≡ name → told.is_met ≡ true

@@ -4,7 +4,7 @@ use Rattle.std.specs.Prelude.{Err}
 use Rattle.std.specs.Io.KnownBytes.{Appends}
 use Rattle.std.specs.List.{flat_map}
 use Rattle.disk_model.specs.Disk.{State}
-use Rattle.mot_log.specs.Text.{met_line}
+use Rattle.mot_log.specs.Text.{look_line}
 use Rattle.mot_folder.specs.declared.guard.Guard.{Guard}
 use Rattle.mot_folder.specs.Looked.{HasLookedAtFolder}
 use Rattle.mot_folder.specs.declared.known.Known.{Known}
@@ -21,7 +21,7 @@ pub data LooksAndTells {D : Type 0} (old new : ServerView D) (start now : State)
     (types : List SuffixType) (guard : Guard) (path : List ℕ) (given : Given) (known : List Known)
     (before after : Option (List ℕ)) (result : Result Bool Refusal) : Type 0 where
   told : (report : Report) (files : List Known) → result ≡ Ok (not report.any_refused) → report.any_left_out ≡ false
-      → Appends before after (flat_map met_line report.events.items)
+      → Appends before after (flat_map look_line report.events.items)
       → HasLookedAtFolder old new start now s types guard path given report None known files
       → LooksAndTells old new start now s types guard path given known before after result
   broken : (report : Report) (files : List Known) (refusal : Refusal) → result ≡ Err refusal

@@ -1,28 +1,18 @@
-use Rattle.std.proofs.Common.{◌≡◌, ◌∙◌, ◌||◌, [], ap, ap₂, get_or}
+use Rattle.std.proofs.Common.{◌∙◌, ◌||◌, ap, ap₂}
 use Rattle.clap.specs.Words.{app_of, with_subcommand}
-use Rattle.mot_cli.specs.Inner.Made.{empty_app, line_app, verb_app, with_verb}
-use Rattle.mot_cli.specs.declared.parts.Verb.{Verb}
+use Rattle.mot_cli.specs.Inner.Made.{empty_app, line_app, with_verb}
 use Rattle.mot_cli.proofs.InTurn.{one_more}
 use Rattle.std.proofs.lemmas.List.{take_all}
 use Rattle.mot_cli.proofs.parts.command_line.Goals as goal
 
-abbrev default : Verb
-default = record {
-  name = record { ref_ptr = (0, 0); now = [] };
-  about = record { ref_ptr = (0, 0); now = [] };
-  arguments = record { ref_ptr = (0, 0); now = [] };
-}
-
 pub loop-verb-preserved : goal.loop-verb-preserved
 loop-verb-preserved c =
     let at = c.loop-verb in
-    let verb = get_or c.args.verbs.now at.verb-index default in
     let below = c.in_ok-below.ensures in
-    let is : app_of c.in_ok-below.below ≡ verb_app verb = below.0 in
-    let added = c.in_ok-command-2.ensures in record {
-      made = one_more with_verb empty_app c.args.verbs.now at.verb-index default
+    let added = c.in_ok-command.ensures in record {
+      made = one_more with_verb empty_app c.args.verbs.now at.verb-index _
           c.loop-verb-test.true _ _ at.invariant.made
-          (added.shape below.1 ∙ ap (λ app. with_subcommand (app_of at.command) app.top) is);
+          (added.shape below.1 ∙ ap (λ app. with_subcommand (app_of at.command) app.top) below.0);
       local = added.globals ∙ ap₂ ◌||◌ at.invariant.local below.1;
     }
 

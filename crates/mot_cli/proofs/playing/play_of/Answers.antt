@@ -1,36 +1,39 @@
-use Rattle.std.proofs.Common.{◌≡◌, ◌∙◌, false, true}
-use Rattle.std.specs.Prelude.{codes}
-use Rattle.clap.specs.Words.{found_of, rows_of}
+use Rattle.std.specs.Prelude.{◌≡◌, List, Option, None, codes}
+use Rattle.clap.specs.Words.{Row, found_of, rows_of}
+use Rattle.mot_cli.specs.Inner.Found.{Finds}
+use Rattle.mot_cli.specs.Task.{IsTask}
+use Rattle.mot_cli.specs.declared.playing.PlayTask.{PlayTask}
+use Rattle.mot_cli.specs.declared.task.Task.{Task}
+use Rattle.mot_cli.specs.declared.task.Task.TheVariants.{Play}
 use Rattle.mot_cli.proofs.Unasked.{none_found, play_needs}
 use Rattle.mot_cli.proofs.playing.play_of.Goals as goal
-use Rattle.mot_cli.specs.Task.{IsTask}
 
-pub returns-then-not-is_whole : goal.returns-then-not-is_whole
-returns-then-not-is_whole c = λ named. play_needs (rows_of (found_of c.args.words.now))
-    (λ p t. let no : false ≡ true = c.if-not-is_whole.ensures ∙ t.15 in absurd (cc))
+unplayed : (rows : List Row) (found : Option Task) → found ≡ None
+    → ((p : PlayTask) → IsTask (codes "play") rows (Play p) → ⊥)
+    → Finds (IsTask (codes "play") rows) found
+unplayed rows found is none = none_found (IsTask (codes "play") rows) found is (play_needs rows none)
 
-pub returns-in_err-rate : goal.returns-in_err-rate
-returns-in_err-rate c = λ named.
-    none_found (IsTask (codes "play") (rows_of (found_of c.args.words.now))) c.from_residual.result c.from_residual.ensures
-    (play_needs (rows_of (found_of c.args.words.now))
-    (λ p t. c.in_err-rate.ensures p.rate t.12))
+pub returns-in_err-number_of : goal.returns-in_err-number_of
+returns-in_err-number_of c = unplayed (rows_of (found_of c.args.words.now))
+    c.from_residual-in_err-number_of.result c.from_residual-in_err-number_of.ensures
+    (λ p t. c.in_err-number_of.ensures p.every t.7)
 
-pub returns-in_err-packets : goal.returns-in_err-packets
-returns-in_err-packets c = λ named.
-    none_found (IsTask (codes "play") (rows_of (found_of c.args.words.now))) c.from_residual-in_err-packets.result c.from_residual-in_err-packets.ensures
-    (play_needs (rows_of (found_of c.args.words.now))
-    (λ p t. c.in_err-packets.ensures p.packets t.2))
+pub returns-in_err-number_of-2 : goal.returns-in_err-number_of-2
+returns-in_err-number_of-2 c = unplayed (rows_of (found_of c.args.words.now))
+    c.from_residual-in_err-number_of-2.result c.from_residual-in_err-number_of-2.ensures
+    (λ p t. c.in_err-number_of-2.ensures p.turns t.8)
 
-pub returns-in_err-numbers : goal.returns-in_err-numbers
-returns-in_err-numbers c = λ named.
-    none_found (IsTask (codes "play") (rows_of (found_of c.args.words.now))) c.from_residual-in_err-numbers.result c.from_residual-in_err-numbers.ensures
-    (play_needs (rows_of (found_of c.args.words.now))
-    (λ p t. c.in_err-numbers.ensures
-    (record {
-      every = p.every;
-      turns = p.turns;
-      directory = p.directory;
-      look = p.look;
-      early = p.early;
-    })
-    (record { every = t.7; turns = t.8; directory = t.9; look = t.10; early = t.11 })))
+pub returns-in_err-number_of-3 : goal.returns-in_err-number_of-3
+returns-in_err-number_of-3 c = unplayed (rows_of (found_of c.args.words.now))
+    c.from_residual-in_err-number_of-3.result c.from_residual-in_err-number_of-3.ensures
+    (λ p t. c.in_err-number_of-3.ensures p.directory t.9)
+
+pub returns-in_err-number_of-4 : goal.returns-in_err-number_of-4
+returns-in_err-number_of-4 c = unplayed (rows_of (found_of c.args.words.now))
+    c.from_residual-in_err-number_of-4.result c.from_residual-in_err-number_of-4.ensures
+    (λ p t. c.in_err-number_of-4.ensures p.look t.10)
+
+pub returns-in_err-number_of-5 : goal.returns-in_err-number_of-5
+returns-in_err-number_of-5 c = unplayed (rows_of (found_of c.args.words.now))
+    c.from_residual-in_err-number_of-5.result c.from_residual-in_err-number_of-5.ensures
+    (λ p t. c.in_err-number_of-5.ensures p.early t.11)

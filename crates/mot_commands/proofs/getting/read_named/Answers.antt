@@ -15,9 +15,9 @@ returns-in-Some-clause-body g c =
     let os = view.carousel.objects.items in
     let place = c.in-Some.place in
     let index : index_of name os ≡ Some place =
-    sym (c.in-Some.ensures.place ∙ ap (λ (k : kept.Carousel). index_of c.in-Ok.name k.objects.items)
+    sym (c.in-Some.ensures.place ∙ ap (λ (k : kept.Carousel). index_of c.in_ok-name.name k.objects.items)
     c.carousel.ensures.value ∙ ap (λ n. index_of n os)
-    (c.in-Ok.ensures.named.0 ∙ c.as_bytes.ensures.value)) in
+    (c.in_ok-name.ensures.named.0 ∙ c.as_bytes.ensures.value)) in
     IfOk-weaker c.read_whole.result _ _ (λ body is s holds honest.
     let bodies = holds.agrees.bodies in
     let whole : s.carousel.objects ≡ objects_of os bodies =

@@ -4,8 +4,8 @@ use Rattle.mot_commands.proofs.getting.read_whole.Goals as goal
 use Rattle.mot_playout.proofs.Laws.{body_length}
 use Rattle.mot_repository.specs.Repository.{object_body}
 
-pub returns-in-Ok-read_body-clause-body : goal.returns-in-Ok-read_body-clause-body
-returns-in-Ok-read_body-clause-body g c = λ s holds honest.
+pub returns-clause-body : goal.returns-clause-body
+returns-clause-body g c = λ s holds honest.
     let body = object_body s.carousel.objects c.args.place in
     let room = c.deref_mut.result.now in
     let items = c.in-Ok.body.items in
@@ -18,5 +18,5 @@ returns-in-Ok-read_body-clause-body g c = λ s holds honest.
     let same : length room ≡ c.in-Ok.body.len =
     subst (λ l. length l ≡ c.in-Ok.body.len) (sym c.deref_mut.ensures.value) held in
     let read = read_all body c.read_body.new.out room (same ∙ len ∙ size ∙ sym long)
-    (c.in-Ok-read_body.ensures.bytes s holds honest) in
+    (c.in_ok-read_body.ensures.bytes s holds honest) in
     whole_again c.read_body.new.out body items c.in-Ok.body.len read (len ∙ size ∙ sym long)

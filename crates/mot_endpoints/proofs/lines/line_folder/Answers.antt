@@ -1,40 +1,16 @@
-use Rattle.std.proofs.Common.{List, ℕ, ◌≡◌, Ok, [], false, refl, subst, sym}
-use Rattle.std.specs.Borrow.{Bor}
-use Rattle.mot_endpoints.specs.LinePlaces.{ChecksLines}
-use Rattle.mot_endpoints.specs.Opened.{AreMet, BeginsTo, Need, if_given, is_fault}
-use Rattle.mot_endpoints.proofs.Opened.{one_met, one_unfit, one_unmet}
+use Rattle.std.proofs.Common.{◌∷◌, [], refl}
+use Rattle.mot_endpoints.specs.Opened.BeginsTo.{unfit, vain}
 use Rattle.mot_endpoints.proofs.lines.line_folder.Goals as goal
 
 pub returns-in-Err-clause-opens : goal.returns-in-Err-clause-opens
 returns-in-Err-clause-opens g c =
-    let old = g.M.System.System.calls c.args.host.now.system in
-    let new = g.M.System.System.calls c.lines.new.self.system in
-    let refusal = c.unread.result.refusal in
-    let at : List ℕ → Need = λ path. Need.lines path c.args.others in
-    subst (λ (p : _). BeginsTo (if_given at p) refusal old new) (sym c.in-Some.is)
-    (one_unmet (at c.in-Some.path.now) refusal old new
-    (c.unread.ensures, (c.in-Err.fault, c.in-Err.ensures.calls)))
+    rw c.in-Some.is
+    (vain [] _ [] _ refl refl (c.unread.ensures, (c.in-Err.fault, c.in-Err.ensures.calls)))
 
-pub returns-clause-opens : goal.returns-clause-opens
-returns-clause-opens g c =
-    let old = g.M.System.System.calls c.args.host.now.system in
-    let new = g.M.System.System.calls c.lines.new.self.system in
-    let refusal = c.no_memory.result.refusal in
-    let at : List ℕ → Need = λ path. Need.lines path c.args.others in
-    subst (λ (p : _). BeginsTo (if_given at p) refusal old new) (sym c.in-Some.is)
-    (one_unfit (at c.in-Some.path.now) refusal old new
-    (subst (λ (r : _). is_fault r ≡ false) (sym c.no_memory.ensures) refl) c.in-Ok.ensures.calls)
+pub returns-in_default-new-clause-opens : goal.returns-in_default-new-clause-opens
+returns-in_default-new-clause-opens g c =
+    rw c.in-Some.is (unfit (_ ∷ []) [] refl (rw c.no_memory.ensures refl)
+    (_, c.in-Ok.ensures.calls, refl))
 
-pub returns-in-Ok-new-clause-opens : goal.returns-in-Ok-new-clause-opens
-returns-in-Ok-new-clause-opens g c =
-    let old = g.M.System.System.calls c.args.host.now.system in
-    let new = g.M.System.System.calls c.lines.new.self.system in
-    let at : List ℕ → Need = λ path. Need.lines path c.args.others in
-    subst (λ (p : _). AreMet (if_given at p) old new) (sym c.in-Some.is)
-    (one_met (at c.in-Some.path.now) old new c.in-Ok.ensures.calls)
-
-pub returns-in-Ok-new-clause-checked : goal.returns-in-Ok-new-clause-checked
-returns-in-Ok-new-clause-checked g c =
-    subst (λ (p : Bor _). ChecksLines p.now c.args.others (Ok tt) []
-    (g.M.System.System.calls c.in-Ok.place.system))
-    (sym c.in-Ok.ensures.path) c.in-Ok.ensures.checked
+pub returns-clause-checked : goal.returns-clause-checked
+returns-clause-checked g c = rw c.in-Ok.ensures.path c.in-Ok.ensures.checked

@@ -1,7 +1,8 @@
-use Rattle.std.proofs.Common.{Err, None, Ok, Option, Some, ap, false, refl, true, ℕ, ◌≡◌, ◌≢◌}
+use Rattle.std.proofs.Common.{Err, None, Ok, Option, Some, false, refl, true, ℕ, ◌≡◌, ◌≢◌}
 use Rattle.std.specs.Prelude.{is_some}
 use Rattle.mot_endpoints.specs.Packets.IsStream.{block, device, pipe, unseen}
 use Rattle.mot_endpoints.specs.Placing.Then.{both, refused}
+use Rattle.mot_endpoints.proofs.Exits.{err_of}
 use Rattle.mot_files.proofs.Laws.{step}
 use Rattle.mot_endpoints.proofs.packets.open_stream.Goals as goal
 
@@ -14,34 +15,35 @@ is_absent : (number : Option ℕ) → false ≡ is_some number → number ≡ No
 is_absent None is = refl
 is_absent (Some n) is = absurd (cc (is))
 
-pub returns-in-Err : goal.returns-in-Err
-returns-in-Err g c = refused c.in-Err.fault refl c.in-Err.ensures
+pub returns-in_err-handle : goal.returns-in_err-handle
+returns-in_err-handle g c =
+    refused c.in_err-handle.field-0.0 (err_of c.from_residual.ensures.1) c.in_err-handle.ensures
 
-pub returns-in-Err-look_at : goal.returns-in-Err-look_at
-returns-in-Err-look_at g c =
-    both c.in-Ok.handle _ c.in-Ok.ensures
-    (unseen c.in-Err-look_at.fault (ap Err c.from.ensures) c.in-Err-look_at.ensures)
+pub returns-in_err-found : goal.returns-in_err-found
+returns-in_err-found g c =
+    both c.in_ok-handle.handle _ c.in_ok-handle.ensures (unseen c.in_err-found.field-0.0
+    (err_of c.from_residual-in_err-found.ensures.1) c.in_err-found.ensures)
 
 pub returns-then-is_some : goal.returns-then-is_some
 returns-then-is_some g c =
-    both c.in-Ok.handle _ c.in-Ok.ensures (block c.in-Ok-look_at.found
-    (is_there c.in-Ok-look_at.found.block c.if-is_some.ensures) refl c.in-Ok-look_at.ensures)
+    both c.in_ok-handle.handle _ c.in_ok-handle.ensures (block c.in_ok-found.found
+    (is_there c.in_ok-found.found.block c.if-is_some.ensures) refl c.in_ok-found.ensures)
 
-pub returns-then-not-is_pipe : goal.returns-then-not-is_pipe
-returns-then-not-is_pipe g c =
-    both c.in-Ok.handle _ c.in-Ok.ensures (device c.in-Ok-look_at.found
-    (is_absent c.in-Ok-look_at.found.block c.if-is_some.ensures)
-    (λ is. let h = c.if-not-is_pipe.ensures.1 is in cc) refl c.in-Ok-look_at.ensures)
+pub returns-in_default : goal.returns-in_default
+returns-in_default g c =
+    both c.in_ok-handle.handle _ c.in_ok-handle.ensures (device c.in_ok-found.found
+    (is_absent c.in_ok-found.found.block c.if-is_some.ensures) c.in_default.not-Pipe refl
+    c.in_ok-found.ensures)
 
-pub returns-in-Ok-lock : goal.returns-in-Ok-lock
-returns-in-Ok-lock g c =
-    both c.in-Ok.handle _ c.in-Ok.ensures (pipe c.in-Ok-look_at.found (Ok tt)
-    (is_absent c.in-Ok-look_at.found.block c.if-is_some.ensures)
-    (c.if-not-is_pipe.ensures.0 refl) refl (step _ c.in-Ok-lock.ensures c.in-Ok-look_at.ensures))
+pub returns-in_err-lock : goal.returns-in_err-lock
+returns-in_err-lock g c =
+    both c.in_ok-handle.handle _ c.in_ok-handle.ensures (pipe c.in_ok-found.found
+    (Err c.in_err-lock.field-0.0) (is_absent c.in_ok-found.found.block c.if-is_some.ensures)
+    c.in-Pipe.is (err_of c.from_residual-in_err-lock.ensures.1)
+    (step _ c.in_err-lock.ensures c.in_ok-found.ensures))
 
-pub returns-in-Err-lock : goal.returns-in-Err-lock
-returns-in-Err-lock g c =
-    both c.in-Ok.handle _ c.in-Ok.ensures (pipe c.in-Ok-look_at.found (Err c.in-Err-lock.fault)
-    (is_absent c.in-Ok-look_at.found.block c.if-is_some.ensures)
-    (c.if-not-is_pipe.ensures.0 refl) (ap Err c.from-in-Err-lock.ensures)
-    (step _ c.in-Err-lock.ensures c.in-Ok-look_at.ensures))
+pub returns : goal.returns
+returns g c =
+    both c.in_ok-handle.handle _ c.in_ok-handle.ensures (pipe c.in_ok-found.found (Ok tt)
+    (is_absent c.in_ok-found.found.block c.if-is_some.ensures) c.in-Pipe.is refl
+    (step _ c.in_ok-lock.ensures c.in_ok-found.ensures))

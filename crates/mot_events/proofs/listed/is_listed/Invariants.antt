@@ -6,4 +6,4 @@ use Rattle.mot_events.proofs.listed.is_listed.Given as goal
 
 abbrev pub invariant-loop-event : goal.invariant-loop-event
 invariant-loop-event l =
-    list_any (λ (e : LookEvent). is_of_folder e.met) (take l.event-index l.events) ≡ false
+    list_any (λ (e : LookEvent). is_of_folder e.outcome) (take l.event-index l.events) ≡ false

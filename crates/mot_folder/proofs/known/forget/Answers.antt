@@ -1,4 +1,5 @@
-use Rattle.std.proofs.Common.{◌≡◌, ◌∙◌, inl, inr, ap, subst, sym, true}
+use Rattle.std.proofs.Common.{◌≡◌, ◌∙◌, ap, subst, sym, true}
+use Rattle.std.proofs.lemmas.Bool.{cond_both}
 use Rattle.std.specs.List.{AllByRecursion}
 use Rattle.mot_folder.specs.Inner.Knowing.{is_there}
 use Rattle.mot_folder.specs.Known.{Among}
@@ -16,7 +17,15 @@ loop-one-init c = record {
 }
 
 pub loop-one-preserved : goal.loop-one-preserved
-loop-one-preserved c =
+loop-one-preserved c = record {
+  all = (all_front (Among c.args.known.now.items) c.pop.new.self.items c.in-Some.one
+      (subst (AllByRecursion (Among c.args.known.now.items)) c.in-Some.ensures.items
+      c.loop-one.invariant.all)).0;
+  kept = c.loop-one.invariant.kept;
+}
+
+pub loop-one-preserved-then-not-is_of_read : goal.loop-one-preserved-then-not-is_of_read
+loop-one-preserved-then-not-is_of_read c =
     let one = c.in-Some.one in
     let first = c.args.known.now.items in
     let parts = all_front (Among first) c.pop.new.self.items one
@@ -25,9 +34,8 @@ loop-one-preserved c =
     × (is_there c.args.carousel.now.objects.items k ≡ true) in
     record {
       all = parts.0;
-      kept = elim c.keep_one.ensures [
-        | inl same ↦ subst (AllByRecursion P) (sym same) c.loop-one.invariant.kept
-        | inr more ↦ subst (AllByRecursion P) (sym more.1)
-            (all_push P c.loop-one.known.items one c.loop-one.invariant.kept (parts.1, more.0))
-      ];
+      kept = subst (AllByRecursion P) (sym c.push.ensures.items) (cond_both _ _ _ (AllByRecursion P)
+          (λ e. all_push P c.loop-one.known.items one c.loop-one.invariant.kept
+          (parts.1, sym c.if-is_there.ensures))
+          (λ e. c.loop-one.invariant.kept));
     }

@@ -1,6 +1,6 @@
 use Rattle.std.proofs.Common.{◌≡◌, ◌&&◌, ◌∙◌, ◌++◌, ◌<◌, ◌∷◌, [], ap, arith, false, not, refl}
 use Rattle.std.proofs.Common.{subst, sym, true}
-use Rattle.mot_folder.specs.Inner.Listing.{GoesOn, TellsNameless}
+use Rattle.mot_folder.specs.Inner.Listing.{GoesOn, StopsWithin, TellsNameless}
 use Rattle.mot_folder.specs.Inner.Listing.{stage}
 use Rattle.mot_folder.specs.Inner.Listing.IsWhyNot.{no_memory}
 use Rattle.mot_folder.specs.Listed.{and_object}
@@ -10,7 +10,7 @@ use Rattle.mot_folder.proofs.Order.{shown_where}
 use Rattle.mot_folder.proofs.FileStat.{asked_failed, asked_nothing, asked_one, call_failed, of_file}
 use Rattle.mot_folder.proofs.FileStat.{of_other, too_many, without_type}
 use Rattle.mot_folder.proofs.Stages.{later_beside}
-use Rattle.mot_folder.proofs.Unlisted.{stops_so}
+use Rattle.mot_folder.proofs.Unlisted.{stops_so, why_called}
 use Rattle.mot_folder.proofs.listing.add_one.Goals as goal
 use Rattle.mot_numbers.specs.declared.refusal.Refusal.TheVariants.{OutOfMemory}
 use Rattle.mot_objects.specs.Name.{is_name}
@@ -41,22 +41,22 @@ returns-then-not-is_object g c = λ given.
       },
     )
 
-pub returns-in_ok-add_file-in-Ok-true : goal.returns-in_ok-add_file-in-Ok-true
-returns-in_ok-add_file-in-Ok-true g c = λ given.
+pub returns : goal.returns
+returns g c = λ given.
     let name = c.args.name.now in
-    let new = and_asked given name c.in-Ok-true.field-0 in
+    let new = and_asked given name c.in_ok-is_file.field-0 in
     let names = c.args.names.now.names.items in
-    let add = c.in_ok-add_file-in-Ok-true.ensures in
+    let add = c.in_ok-add_file.ensures in
     let is : new ≡ and_asked given name true =
-    ap (λ t. and_asked given name t) c.in-Ok-true.field-0-test in
+    ap (λ t. and_asked given name t) c.if-not-branch.false in
     let added : c.add_file.new.names.names.items ≡ and_object names name =
     add.added ∙ ap (λ (v : _). and_object v.items name) c.in_ok-count.ensures.same in
     let asked = asked_one given new name true is in (
       new,
-      gives_one _ _ given new (c.in-Ok-true.ensures.asks given),
+      gives_one _ _ given new (c.in_ok-is_file.ensures.asks given),
       record {
         later = record {
-          same = c.in-Ok-true.ensures.same;
+          same = c.in_ok-is_file.ensures.same;
           told = add.told;
           unread = asked.unread;
           shown = λ shown. subst AreShown (sym added)
@@ -73,44 +73,44 @@ returns-in_ok-add_file-in-Ok-true g c = λ given.
       },
     )
 
-pub returns-in_err-add_file-in-Ok-true : goal.returns-in_err-add_file-in-Ok-true
-returns-in_err-add_file-in-Ok-true g c = λ given.
+pub returns-in_err-add_file : goal.returns-in_err-add_file
+returns-in_err-add_file g c = λ given.
     let name = c.args.name.now in
-    let new = and_asked given name c.in-Ok-true.field-0 in
+    let new = and_asked given name c.in_ok-is_file.field-0 in
     let asked = asked_one given new name true
-    (ap (λ t. and_asked given name t) c.in-Ok-true.field-0-test) in (
+    (ap (λ t. and_asked given name t) c.if-not-branch.false) in (
       new,
-      gives_one _ _ given new (c.in-Ok-true.ensures.asks given),
-      stops_so c.args.types.now _ _ c.from_residual-in_err-add_file-in-Ok-true.result
-          OutOfMemory c.from_residual-in_err-add_file-in-Ok-true.ensures.1 (name ∷ []) (record {
-            later = later_beside _ _ c.in-Ok-true.ensures.same
-                c.in_err-add_file-in-Ok-true.ensures.told asked.unread
-                (c.in_err-add_file-in-Ok-true.ensures.kept
+      gives_one _ _ given new (c.in_ok-is_file.ensures.asks given),
+      stops_so c.args.types.now _ _ c.from_residual-in_err-add_file.result
+          OutOfMemory c.from_residual-in_err-add_file.ensures.1 (name ∷ []) (record {
+            later = later_beside _ _ c.in_ok-is_file.ensures.same
+                c.in_err-add_file.ensures.told asked.unread
+                (c.in_err-add_file.ensures.kept
                 ∙ ap (λ (v : _). v.items) c.in_ok-count.ensures.same);
             listed = asked.listed;
             why = λ seen was. no_memory refl;
           }),
     )
 
-pub returns-in-Ok-false : goal.returns-in-Ok-false
-returns-in-Ok-false g c = λ given.
+pub returns-then-not-branch : goal.returns-then-not-branch
+returns-then-not-branch g c = λ given.
     let name = c.args.name.now in
-    let new = and_asked given name c.in-Ok-false.field-0 in
+    let new = and_asked given name c.in_ok-is_file.field-0 in
     let names = c.args.names.now.names.items in
-    let skip = c.tell_skipped-in-Ok-false.ensures in
+    let skip = c.tell_skipped-then-not-branch.ensures in
     let is : new ≡ and_asked given name false =
-    ap (λ t. and_asked given name t) c.in-Ok-false.field-0-test in
+    ap (λ t. and_asked given name t) c.if-not-branch.true in
     let asked = asked_one given new name false is in (
       new,
       gives_on (view g.S.System.calls c.args.shelf.now) (view g.S.System.calls c.is_file.new.self)
-          given new (view g.S.System.calls c.tell_skipped-in-Ok-false.new.shelf) new
-          (gives_one _ _ given new (c.in-Ok-false.ensures.asks given)) (skip.gave new),
+          given new (view g.S.System.calls c.tell_skipped-then-not-branch.new.shelf) new
+          (gives_one _ _ given new (c.in_ok-is_file.ensures.asks given)) (skip.gave new),
       record {
-        later = later_beside _ _ (skip.same ∙ c.in-Ok-false.ensures.same) skip.told asked.unread
+        later = later_beside _ _ (skip.same ∙ c.in_ok-is_file.ensures.same) skip.told asked.unread
             (ap (λ (v : _). v.items) c.in_ok-count.ensures.same);
         listed = asked.listed;
         further = λ was. subst (λ (n : Given). TellsNameless n.files
-            c.tell_skipped-in-Ok-false.new.report) (sym is) (skip.further given.files was);
+            c.tell_skipped-then-not-branch.new.report) (sym is) (skip.further given.files was);
         goes = subst (λ (v : _). GoesOn c.args.types.now (name ∷ []) given new
             c.args.names.now.counted c.count.new.self.counted names v.items)
             (sym c.in_ok-count.ensures.same)
@@ -120,20 +120,22 @@ returns-in-Ok-false g c = λ given.
       },
     )
 
-pub returns-in-Err : goal.returns-in-Err
-returns-in-Err g c = λ given.
+pub returns-in_err-is_file : goal.returns-in_err-is_file
+returns-in_err-is_file g c = λ given.
+    let types = c.args.types.now in
     let name = c.args.name.now in
     let new = and_failed given name in
-    let asked = asked_failed given new name refl in (
+    let asked = asked_failed given new name refl in
+    let stop = c.in_err-is_file.ensures in (
       new,
-      gives_one _ _ given new (c.in-Err.ensures.asks given),
-      record {
-        later = later_beside _ _ c.in-Err.ensures.same (tells_same c.args.report.now) asked.unread
-            (ap (λ (v : _). v.items) c.in_ok-count.ensures.same);
-        listed = asked.listed;
-        why = λ seen was. call_failed (seen ++ name ∷ []) given new name c.by.result.refusal
-            refl c.by.ensures;
-      },
+      gives_one _ _ given new (stop.asks given),
+      why_called c.from_residual-in_err-is_file.result _ (StopsWithin types (name ∷ []) _ _)
+          c.from_residual-in_err-is_file.ensures.1 (λ refusal why. record {
+            later = later_beside _ _ stop.same (tells_same c.args.report.now) asked.unread
+                (ap (λ (v : _). v.items) c.in_ok-count.ensures.same);
+            listed = asked.listed;
+            why = λ seen was. call_failed (seen ++ name ∷ []) given new name refusal refl why;
+          }),
     )
 
 pub returns-in_err-count : goal.returns-in_err-count

@@ -1,7 +1,8 @@
-use Rattle.std.proofs.Common.{◌≡◌, ◌∙◌, None, ap, refl, sym}
+use Rattle.std.proofs.Common.{◌≡◌, ◌∙◌, None, ap, refl, subst, sym}
 use Rattle.std.proofs.Common.{Bool, true, false, Err, IfErr, Ok, Result, Some}
 use Rattle.std.proofs.Common.{inl, inr}
 use Rattle.mot_folder.proofs.looking.end_unlisted.Goals as goal
+use Rattle.mot_folder.specs.Log.{TellsOne, unlisted_for}
 use Rattle.mot_numbers.specs.declared.refusal.Refusal.{Refusal}
 use Rattle.mot_numbers.specs.declared.refusal.Refusal.TheVariants.{OutOfMemory}
 use Rattle.std.specs.Prelude.{◌≢◌, ◌⊎◌, IsOk}
@@ -18,6 +19,15 @@ ended_unlisted (Err e) refusal left_out without is fine memory = inr (ap Some is
 
 pub returns-clause-fault : goal.returns-clause-fault
 returns-clause-fault g c =
-    ended_unlisted c.end.result c.args.unlisted.refusal c.tell_unlisted.new.report.any_left_out
-    c.tell_unlisted.new.report.any_without_memory c.end.ensures.fault c.end.ensures.ends.0
-    c.tell_unlisted.ensures.memory
+    ended_unlisted c.end.result c.args.why.refusal c.refused.new.self.any_left_out
+    c.refused.new.self.any_without_memory c.end.ensures.fault c.end.ensures.ends.0
+    c.refused.ensures.memory
+
+pub returns-clause-told : goal.returns-clause-told
+returns-clause-told g c = (
+  c.why_unlisted-reason.result,
+  subst (λ p. TellsOne c.args.folder.now.report c.refused.new.self
+      (unlisted_for p c.args.why.refusal c.why_unlisted-reason.result))
+      (c.as_bytes-path.ensures.value ∙ c.shown.ensures)
+      (λ entries was. c.refused.ensures.told entries (c.why_unlisted-reason.ensures.told entries was)),
+)

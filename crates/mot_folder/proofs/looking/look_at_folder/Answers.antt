@@ -28,7 +28,7 @@ use Rattle.disk_model.specs.Disk.{State}
 use Rattle.mot_playout.specs.Server.{ServerView}
 use Rattle.mot_shelf.proofs.Laws.{gives_on, gives_one}
 use Rattle.mot_shelf.specs.Given.{Given, nothing}
-use Rattle.mot_shelf.specs.Gives.{Asks, Gives}
+use Rattle.mot_shelf.specs.Gives.{Asks, GaveSo, Gives}
 use Rattle.mot_shelf.specs.Reader.{reader_path, view}
 use Rattle.mot_shelf.specs.View.{FolderView}
 use Rattle.mot_update.specs.HasRun.{HasRun}
@@ -76,12 +76,17 @@ returns-in-Err-clause-looked g c = λ s holds honest.
     let old = c.args.server.now in
     let state = g.D.Disk.state old.disk in
     let lists = c.in-Err.ensures in
-    let told = lists.2.later.told [] (tells_none c.begin-2.new.self c.begin-2.ensures.told) in
-    let refusal = c.in-Err.unlisted.refusal in
+    let told = lists.2.later.told [] (tells_none c.begin-2.new.self (λ whole. c.begin-2.ensures.none)) in
+    let refusal = c.in-Err.why.refusal in
     let path = reader_path c.list.new.shelf in
     let bare = unlisted_for path refusal Unsaid in
     let last = unlisted_for path refusal c.end_unlisted.ensures.told.0 in
-    let fault = fault_of c.end_unlisted.result in (
+    let fault = fault_of c.end_unlisted.result in
+    let first = c.args.folder.now in
+    subst (λ f. GaveSo (view g.S.System.calls first.shelf) (view g.S.System.calls f.shelf) (λ given.
+    HasLookedAtFolder old old state state s first.types.now first.guard (reader_path first.shelf) given
+    c.end_unlisted.new.folder.report fault first.files.known.items f.files.known.items))
+    (sym c.end_unlisted.ensures.same) (
       lists.0,
       begins _ _ _ lists.0 (c.begin.ensures.asks nothing) lists.1,
       of_nothing old old state state s _ _ _ _ _ [] fault _ (told.entries ++ last ∷ [])
@@ -107,7 +112,7 @@ returns-then-is_kept-clause-looked g c = λ s holds honest.
     let lists = c.in-Ok.ensures.2.0 in
     let path = reader_path c.list.new.shelf in
     let names = c.in-Ok.names.names.items in
-    let told = lists.later.told [] (tells_none c.begin-2.new.self c.begin-2.ensures.told) in
+    let told = lists.later.told [] (tells_none c.begin-2.new.self (λ whole. c.begin-2.ensures.none)) in
     let same = lists.later.same ∙ c.begin.ensures.same in
     let counts : (os : List Object) → ℕ = λ os. length (unknown_objects names os) in
     let is : is_kept guard names (going names s.carousel) (length s.carousel.objects) ≡ true =
@@ -118,7 +123,12 @@ returns-then-is_kept-clause-looked g c = λ s holds honest.
     let all = length (unknown_objects names c.carousel-then-is_kept.result.now.objects.items) in
     let objects = length c.carousel-then-is_kept.result.now.objects.items in
     let last = event_of path (kept_so names all objects) in
-    let fault = fault_of c.end_kept.result in (
+    let fault = fault_of c.end_kept.result in
+    let first = c.args.folder.now in
+    subst (λ f. GaveSo (view g.S.System.calls first.shelf) (view g.S.System.calls f.shelf) (λ given.
+    HasLookedAtFolder old old state state s types guard (reader_path first.shelf) given
+    c.end_kept.new.folder.report fault first.files.known.items f.files.known.items))
+    (sym c.end_kept.ensures.same) (
       given,
       begins _ _ _ given (c.begin.ensures.asks nothing) c.in-Ok.ensures.1,
       of_nothing old old state state s _ _ _ _ _ names fault _ (told.entries ++ last ∷ [])
@@ -151,7 +161,7 @@ returns-clause-looked g c = λ s holds honest.
     let x = c.look_at_names.ensures.looked since given
     (begins _ _ _ given (c.begin.ensures.asks nothing) c.in-Ok.ensures.1)
     (is_listed first.types.now (reader_path c.begin.new.self) c.begin-2.new.self _
-    (nameless_none c.begin-2.new.self c.begin-2.ensures.fine c.begin-2.ensures.told) lists)
+    (nameless_none c.begin-2.new.self c.begin-2.ensures.fine (λ whole. c.begin-2.ensures.none)) lists)
     s holds honest in (
       x.0,
       x.1,

@@ -3,7 +3,8 @@ use Rattle.std.proofs.Common.{◌≤◌, Bool, true, false, Err, IfErr, List, Ok
 use Rattle.std.proofs.Common.{inr, length, take}
 use Rattle.std.proofs.lemmas.List.{take_all}
 use Rattle.mot_folder.specs.Inner.Listing.{IsUnread}
-use Rattle.mot_shelf.specs.Reader.{reader_path}
+use Rattle.mot_shelf.specs.Gives.{GaveSo}
+use Rattle.mot_shelf.specs.Reader.{reader_path, view}
 use Rattle.mot_folder.specs.Inner.Knowing.{IsKept, IsKnownWith, KnowsFiles, WasStamped, is_there}
 use Rattle.mot_folder.specs.Inner.Reading.{LookStart, TellsLook}
 use Rattle.mot_folder.specs.Known.{Among, ComesFrom, IsPassedOver, has_it}
@@ -223,10 +224,10 @@ returns-in_err-look-clause-looked g c = λ since first gives listed s holds hone
       first,
       gives,
       (
-        look_begins began path first names c.note_most.new.report listed.listing
+        look_begins began path first names c.note_if-2.new.report listed.listing
             listed.unread.read listed.unread.missed listed.unread.unchanged
-            (c.note_most.ensures.further first.files
-            (c.note_listed.ensures.further first.files listed.nameless)),
+            (c.note_if-2.ensures.further refl first.files
+            (c.note_if.ensures.further refl first.files listed.nameless)),
         knows_begins first files listed.unread c.start.ensures.none.0,
         λ kept. absurd (cc (kept)),
       ),
@@ -239,7 +240,7 @@ returns-in_err-look-clause-looked g c = λ since first gives listed s holds hone
     c.in_err-look.ensures.same in
     let known = c.args.folder.now.files.known.items in
     let started_so = started known c.start.new.self _ old.view s holds.agrees
-    (ap (λ (k : memory.Carousel). k.objects.items) (sym c.carousel-2.ensures.value))
+    (ap (λ (k : memory.Carousel). k.objects.items) (sym c.carousel-3.ensures.value))
     c.start.ensures.known in (
       given,
       x.1,
@@ -277,10 +278,10 @@ returns-clause-looked g c = λ since first gives listed s holds honest.
       first,
       gives,
       (
-        look_begins began path first names c.note_most.new.report listed.listing
+        look_begins began path first names c.note_if-2.new.report listed.listing
             listed.unread.read listed.unread.missed listed.unread.unchanged
-            (c.note_most.ensures.further first.files
-            (c.note_listed.ensures.further first.files listed.nameless)),
+            (c.note_if-2.ensures.further refl first.files
+            (c.note_if.ensures.further refl first.files listed.nameless)),
         knows_begins first files listed.unread c.start.ensures.none.0,
         λ kept. absurd (cc (kept)),
       ),
@@ -294,7 +295,7 @@ returns-clause-looked g c = λ since first gives listed s holds honest.
     let seen : take source.place names ≡ names =
     take_all source.place names (subst (λ (n : List (List ℕ)). length n ≤ source.place)
     c.in_ok-look.ensures.same c.in_ok-look.ensures.ended) in
-    let report = c.end_listed.new.report in
+    let report = c.end_listed.new.folder.report in
     let waiting = source.sizes.waiting in
     let told : TellsOf types given report waiting names looks.0.runs.answers looks.0.wanted =
     c.end_listed.ensures.told types given waiting names looks.0.runs.answers looks.0.wanted
@@ -303,12 +304,15 @@ returns-clause-looked g c = λ since first gives listed s holds honest.
     let known = c.args.folder.now.files.known.items in
     let last = looks.0.runs.run.leaves.last in
     let started_so = started known c.start.new.self _ old.view s holds.agrees
-    (ap (λ (k : memory.Carousel). k.objects.items) (sym c.carousel-2.ensures.value))
+    (ap (λ (k : memory.Carousel). k.objects.items) (sym c.carousel-3.ensures.value))
     c.start.ensures.known in
     let were : AllByRecursion (λ k. Among known k × (has_it s.carousel k ≡ true))
     source.files.known.items =
     subst (λ l. AllByRecursion (λ k. Among known k × (has_it s.carousel k ≡ true)) l)
-    (sym is.same_known) started_so in (
+    (sym is.same_known) started_so in
+    subst (λ f. GaveSo since (view g.S.System.calls f.shelf) (λ given. HasLookedAtFolder old new
+    (state old.disk) (state new.disk) s types guard path given report (fault_of c.end_listed.result)
+    known f.files.known.items)) (sym c.end_listed.ensures.same) (
       given,
       x.1,
       listed_whole old new (state old.disk) (state new.disk) s types guard path given report
@@ -319,7 +323,7 @@ returns-clause-looked g c = λ since first gives listed s holds honest.
           (all_on (λ k at. at.0) source.files.known.items were)
           (has_now new.view last looks.0.runs.run.leaves.agrees) x.2.1) c.finish.new.self.known.items
           (subst (λ (k : memory.Carousel). AllByRecursion (IsKept source.files k.objects.items)
-          c.finish.new.self.known.items) c.carousel-3.ensures.value c.finish.ensures))
+          c.finish.new.self.known.items) c.carousel-4.ensures.value c.finish.ensures))
           c.end_listed.result c.end_listed.ensures.fault
           (λ ok. (on_ok c.end_listed.result _ c.end_listed.ensures.whole ok).1),
     )

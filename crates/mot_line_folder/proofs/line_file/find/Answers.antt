@@ -1,5 +1,4 @@
-use Rattle.std.proofs.Common.{refl, subst}
-use Rattle.mot_line_folder.specs.LineFiles.{IsLookedInto}
+use Rattle.std.proofs.Common.{refl}
 use Rattle.mot_line_folder.specs.LineFiles.IsFound.{kept, left, none, unopened, unseen}
 use Rattle.mot_files.proofs.Laws.{step}
 use Rattle.mot_line_folder.proofs.line_file.find.Goals as goal
@@ -19,16 +18,12 @@ returns-in-Err-open g c =
 pub returns-in-Lines : goal.returns-in-Lines
 returns-in-Lines g c =
     kept c.in-Ok.named c.in-Ok-open.handle c.in-Lines.field-0 c.in-Lines.is (c.if-not-is_regular.ensures.0 refl)
-    (subst (λ (l : _). IsLookedInto c.in-Ok-open.handle c.in-Ok.named c.look_into-found.result l
-    (g.S.System.calls c.look_into-found.new.system)) (step _ c.in-Ok-open.ensures c.in-Ok.ensures)
-    c.look_into-found.ensures)
+    (rw (step _ c.in-Ok-open.ensures c.in-Ok.ensures) at c.look_into-found.ensures)
 
 pub returns : goal.returns
 returns g c =
     left c.in-Ok.named c.in-Ok-open.handle (g.S.System.calls c.look_into-found.new.system)
     (λ of is. c.in_default.not-Lines of is)
     (c.if-not-is_regular.ensures.0 refl)
-    (subst (λ (l : _). IsLookedInto c.in-Ok-open.handle c.in-Ok.named c.look_into-found.result l
-    (g.S.System.calls c.look_into-found.new.system)) (step _ c.in-Ok-open.ensures c.in-Ok.ensures)
-    c.look_into-found.ensures)
+    (rw (step _ c.in-Ok-open.ensures c.in-Ok.ensures) at c.look_into-found.ensures)
     c.close.ensures

@@ -1,7 +1,7 @@
 use Rattle.std.proofs.Common.{◌∙◌, Err, ap, inl, inr, refl, subst}
 use Rattle.std.specs.Io.KnownBytes.{Appends}
 use Rattle.std.specs.List.{flat_map}
-use Rattle.mot_log.specs.Text.{met_line}
+use Rattle.mot_log.specs.Text.{look_line}
 use Rattle.mot_sync_command.specs.Inner.Looked.{broken, told, untold}
 use Rattle.mot_sync_command.proofs.syncing.look_and_tell.Goals as goal
 use Rattle.mot_numbers.proofs.Laws.{same_error}
@@ -48,7 +48,7 @@ returns-clause-looked g c = λ s holds honest.
       told c.look_at_folder-looked.new.folder.report
           c.look_at_folder-looked.new.folder.files.known.items refl c.in_ok-looked.ensures.whole
           (subst (λ l. Appends (g.L.Write.contents c.args.log.now)
-          (g.L.Write.contents c.write_events-told.new.log) (flat_map met_line l))
+          (g.L.Write.contents c.write_events-told.new.log) (flat_map look_line l))
           c.as_slice.ensures.value c.in_ok-told.ensures.written)
           gave.2,
     )

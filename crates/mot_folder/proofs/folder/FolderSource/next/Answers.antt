@@ -4,8 +4,8 @@ use Rattle.std.proofs.lemmas.Option.{slice_get_read}
 use Rattle.std.specs.Prelude.{IfSome, slice_get}
 use Rattle.mot_files.specs.declared.system.Stamp.{Stamp}
 use Rattle.mot_folder.proofs.Knowing.{fine_unrefused, knows_on, knows_passed, knows_read, left_on}
-use Rattle.mot_folder.proofs.Knowing.{passed_is, plain, unplain}
-use Rattle.mot_folder.proofs.Taken.{both_same, named_of, then_missed, then_offered, then_passed}
+use Rattle.mot_folder.proofs.Knowing.{passed_is}
+use Rattle.mot_folder.proofs.Taken.{both_same, named_of, plain, then_missed, then_offered, then_passed}
 use Rattle.mot_folder.specs.Inner.Names.{name_or_none}
 use Rattle.mot_folder.specs.Inner.Reading.{LookedSince, OfferedSince, TellsFile, TellsLook, TellsOffered}
 use Rattle.mot_folder.specs.declared.known.StampedFile.{StampedFile}
@@ -53,8 +53,8 @@ returns-in-Ok-clause-told g c = λ since gave told first.
     let takes = took.2.0 in
     let Look = TellsLook since types known (reader_path mid.shelf) given names mid.place mid.report
     mid.sizes.waiting in
-    unplain (OfferedSince since now types files names (mid.place + 1) mid.report mid.sizes.waiting
-    false w) told gave (
+    both_same (OfferedSince since now types files names (mid.place + 1) mid.report mid.sizes.waiting
+    false w) gave told (
       after,
       gives_on _ _ nothing given _ after
           (gives_on _ _ nothing given _ given was.1 (c.if-is_unchanged.ensures.gave given)) took.1,
@@ -110,8 +110,8 @@ returns-in-Ok-clause-last g c =
 pub returns-clause-told : goal.returns-clause-told
 returns-clause-told g c = λ since gave told first.
     let mid = c.loop-self.self in
-    unplain (LookedSince since (view g.S.System.calls mid.shelf) mid.types.now mid.files
-    mid.names.names.items mid.place mid.report mid.sizes.waiting mid.is_kept) told gave
+    both_same (LookedSince since (view g.S.System.calls mid.shelf) mid.types.now mid.files
+    mid.names.names.items mid.place mid.report mid.sizes.waiting mid.is_kept) gave told
     (c.loop-self.invariant.looked since told gave first)
 
 pub loop-self-preserved-then-is_unchanged : goal.loop-self-preserved-then-is_unchanged

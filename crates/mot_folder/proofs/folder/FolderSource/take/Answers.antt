@@ -25,26 +25,26 @@ returns-then-not-is_new-clause-told g c = λ since given told was.
       ),
     )
 
-pub returns-in-Ok-clause-told : goal.returns-in-Ok-clause-told
-returns-in-Ok-clause-told g c = λ since given told was.
+pub returns-clause-told : goal.returns-clause-told
+returns-clause-told g c = λ since given told was.
     let self = c.args.self.now in
     let types = self.types.now in
     let known = self.files.known.items in
     let names = self.names.names.items in
     let wanted = c.args.wanted.now in
-    let report = c.note_image-in-Ok.new.report in
+    let report = c.note_image-2.new.report in
     let after = c.keep.new.self in
     let name = c.as_bytes-name.result.now in
     let new = and_kept was.0 name in
     let last = name_or_none (slice_get names (self.place - 1)) in
     let is : name ≡ last = c.as_bytes-name.ensures.value ∙ sym c.requires in (
       new,
-      more _ was.0 was.1 (c.in-Ok.ensures.asks was.0),
+      more _ was.0 was.1 (c.in_default.ensures.asks was.0),
       (
         subst (λ p. TellsLook since types known p new names self.place report self.sizes.waiting
-            (told ++ []) (given ++ wanted ∷ [])) (sym c.in-Ok.ensures.same)
+            (told ++ []) (given ++ wanted ∷ [])) (sym c.in_default.ensures.same)
             (then_kept since types known (reader_path self.shelf) names was.0 new self.place self.report
-            report self.sizes.waiting wanted name refl c.note_image-in-Ok.ensures.notes given told
+            report self.sizes.waiting wanted name refl c.note_image-2.ensures.notes given told
             was.2.0),
         knows_plain new self.files told
             (knows_on was.0 new self.files told (keeps_on was.0 new name refl) was.2.1),

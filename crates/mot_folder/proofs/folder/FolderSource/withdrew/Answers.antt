@@ -1,5 +1,5 @@
 use Rattle.std.proofs.Common.{[], subst, take}
-use Rattle.mot_events.specs.declared.event.LookStep.TheVariants as deed
+use Rattle.mot_events.specs.declared.event.LookStep.TheVariants as step
 use Rattle.mot_events.specs.declared.event.Why.TheVariants.{Unsaid}
 use Rattle.mot_folder.specs.Log.{TellsOne, answered}
 use Rattle.mot_folder.proofs.Knowing.{knows_withdrew}
@@ -24,7 +24,7 @@ returns-clause-told g c = λ since gave told was.
             (take self.place names) (Withdrew c.args.name.now c.args.attempt) Unsaid
             c.answered.ensures.any c.answered.ensures.stays tt
             (subst (λ n. TellsOne self.report c.answered.new.self
-            (answered deed.Withdraw n c.args.attempt)) c.as_bytes.ensures.value
+            (answered step.Withdraw n c.args.attempt)) c.as_bytes-name.ensures.value
             c.answered.ensures.told)) gave told was.2.0,
         knows_withdrew given self.files told c.args.name.now c.args.attempt was.2.1,
         was.2.2,

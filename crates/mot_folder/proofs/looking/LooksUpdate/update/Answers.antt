@@ -3,6 +3,7 @@ use Rattle.std.proofs.Common.{None, []}
 use Rattle.std.proofs.Common.{ap, refl, sym}
 use Rattle.disk_model.specs.Disk.{State}
 use Rattle.disk_model.proofs.Laws.{unchanged_none}
+use Rattle.mot_events.specs.Events.{is_listed}
 use Rattle.mot_folder.specs.declared.report.Report.{Report}
 use Rattle.mot_folder.specs.Looked.{HasLookedAtFolder, LooksSoFar, TellsWatch, Watch, is_look_due}
 use Rattle.mot_folder.specs.Looked.{no_look, one_look, packets_left}
@@ -131,7 +132,9 @@ pub returns-clause-faults : goal.returns-clause-faults
 returns-clause-faults g c = c.look_at_folder-result.ensures.faults
 
 pub returns-clause-listed : goal.returns-clause-listed
-returns-clause-listed g c = λ due. c.turn_over-was_listed.ensures.listed
+returns-clause-listed g c = λ due.
+    c.is_listed-was_listed.ensures
+    ∙ ap is_listed (c.as_slice.ensures.value ∙ ap (λ v. v.items) c.swap.ensures.x_after)
 
 pub returns-clause-looks : goal.returns-clause-looks
 returns-clause-looks g c = λ due. c.packets_left-self.ensures

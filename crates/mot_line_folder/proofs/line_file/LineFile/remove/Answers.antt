@@ -1,16 +1,17 @@
 use Rattle.std.proofs.Common.{refl}
 use Rattle.mot_line_folder.specs.LineFiles.Removes.{named, other, unknown}
-use Rattle.mot_line_folder.proofs.Steps.{remove_step}
+use Rattle.mot_line_folder.proofs.Steps.{failed_is}
 use Rattle.mot_line_folder.proofs.line_file.LineFile.remove.Goals as goal
 
-pub returns-in-Ok-true : goal.returns-in-Ok-true
-returns-in-Ok-true g c =
+pub returns-in_err-is_named : goal.returns-in_err-is_named
+returns-in_err-is_named g c =
+    unknown c.in_err-is_named.field-0.0 (failed_is _ _ c.from_residual.ensures.1) c.in_err-is_named.ensures
+
+pub returns-then-branch : goal.returns-then-branch
+returns-then-branch g c =
     named c.remove.result (g.S.System.calls c.is_named.new.system) c.unless_gone.ensures
-    (rw c.in-Ok-true.field-0-test at c.in-Ok-true.ensures)
-    (remove_step _ _ c.as_str.ensures.value c.remove.ensures)
+    (rw c.if-branch.true at c.in_ok-is_named.ensures)
+    (rw c.as_str.ensures.value at c.remove.ensures)
 
-pub returns-in-Ok-false : goal.returns-in-Ok-false
-returns-in-Ok-false g c = other refl (rw c.in-Ok-false.field-0-test at c.in-Ok-false.ensures)
-
-pub returns-in-Err : goal.returns-in-Err
-returns-in-Err g c = unknown c.in-Err.fault refl c.in-Err.ensures
+pub returns : goal.returns
+returns g c = other refl (rw c.if-branch.false at c.in_ok-is_named.ensures)

@@ -1,20 +1,19 @@
-use Rattle.std.proofs.Common.{◌≡◌, refl, sym, subst}
+use Rattle.std.proofs.Common.{refl, sym}
 use Rattle.mot_line_folder.specs.Inner.Said.IsUnread.{told}
 use Rattle.mot_line_folder.specs.Inner.Said.Remembers.{by}
-use Rattle.mot_line_folder.specs.declared.said.Told.{Told}
 use Rattle.mot_line_folder.proofs.Told.{set_contains}
 use Rattle.mot_line_folder.proofs.said.Said.is_unread.Goals as goal
 
 pub returns-clause-met : goal.returns-clause-met
 returns-clause-met c =
-    let named = subst (λ (t : Told). t.name.items ≡ c.args.name.now) (sym c.index_mut-told.ensures.value)
+    let named = rw (← c.index_mut-told.ensures.value) at
     (c.in-Some.ensures.names c.index_mut-told.result.now) in
     λ _. by _ (set_contains _ c.in-Some.at _ c.in-Some.ensures.fits) named refl
     (c.if-not-is_one.ensures.0 refl)
 
 pub returns-clause-known : goal.returns-clause-known
 returns-clause-known c =
-    let named = subst (λ (t : Told). t.name.items ≡ c.args.name.now) (sym c.index_mut-told.ensures.value)
+    let named = rw (← c.index_mut-told.ensures.value) at
     (c.in-Some.ensures.names c.index_mut-told.result.now) in
     told c.index_mut-told.result.now
     (c.in-Some.at, c.in-Some.ensures.fits, sym c.index_mut-told.ensures.value) named
@@ -22,7 +21,7 @@ returns-clause-known c =
 
 pub returns-then-not-is_one-clause-known : goal.returns-then-not-is_one-clause-known
 returns-then-not-is_one-clause-known c =
-    let named = subst (λ (t : Told). t.name.items ≡ c.args.name.now) (sym c.index_mut-told.ensures.value)
+    let named = rw (← c.index_mut-told.ensures.value) at
     (c.in-Some.ensures.names c.index_mut-told.result.now) in
     told c.index_mut-told.result.now
     (c.in-Some.at, c.in-Some.ensures.fits, sym c.index_mut-told.ensures.value) named

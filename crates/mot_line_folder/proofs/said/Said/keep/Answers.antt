@@ -1,14 +1,14 @@
-use Rattle.std.proofs.Common.{◌≡◌, ◌∙◌, refl, sym, subst, arith}
+use Rattle.std.proofs.Common.{[], ◌∷◌, ◌∙◌, refl, sym, subst, arith}
 use Rattle.mot_line_folder.specs.Inner.Said.{Remembers}
 use Rattle.mot_line_folder.specs.Inner.Said.IsDue.{known, new}
 use Rattle.mot_line_folder.specs.Inner.Said.Remembers.{by}
-use Rattle.mot_line_folder.specs.declared.said.Told.{Told}
-use Rattle.mot_line_folder.proofs.Told.{added_contains, not_iff, or_first, set_contains}
+use Rattle.mot_line_folder.proofs.Told.{not_iff, or_first, set_contains}
+use Rattle.std.proofs.lemmas.List.Elements.{Contains-append_right}
 use Rattle.mot_line_folder.proofs.said.Said.keep.Goals as goal
 
 pub returns-in-Some : goal.returns-in-Some
 returns-in-Some c =
-    let named = subst (λ (t : Told). t.name.items ≡ c.args.name.now) (sym c.index_mut-told.ensures.value)
+    let named = rw (← c.index_mut-told.ensures.value) at
     (c.in-Some.ensures.names c.index_mut-told.result.now) in
     record {
       due = (
@@ -26,6 +26,7 @@ returns c = record {
     new c.in_default.ensures.none (omega (arith, c.if-len-ge-MOST.false, c.len.ensures)) refl,
     λ some. subst (λ (l : _). Remembers l c.args.name.now c.args.unread)
         (sym c.in_ok-push.ensures.items)
-        (by _ (added_contains c.args.self.now.names.items _) c.in_ok-from_slice.ensures.items refl refl),
+        (by _ (Contains-append_right c.args.self.now.names.items (_ ∷ []) _ (0, omega arith, refl))
+        c.in_ok-from_slice.ensures.items refl refl),
   );
 }

@@ -1,13 +1,12 @@
-use Rattle.std.proofs.Common.{refl, ap, ◌∙◌, string_bytes}
+use Rattle.std.proofs.Common.{refl, ◌∙◌}
 use Rattle.mot_line_folder.specs.Spooling.ServesFile.{ended, failed, given}
-use Rattle.mot_line_folder.proofs.OnlyReads.{left_as, taken_as}
 use Rattle.mot_line_folder.proofs.spool.Spool.read_file.Goals as goal
 
 pub returns-in-Ok-eq0-clause-serves : goal.returns-in-Ok-eq0-clause-serves
 returns-in-Ok-eq0-clause-serves g c =
     ended c.read.new.self.is_cut (g.S.System.calls c.read.new.system) c.take_away.ensures.takes.0
     (rw c.in-Ok-eq0.field-0-test at c.in-Ok-eq0.ensures.reads)
-    (taken_as c.read.ensures.handle (ap string_bytes c.read.ensures.path) c.take_away.ensures.takes.1)
+    (rw (c.read.ensures.handle, c.read.ensures.path) at c.take_away.ensures.takes.1)
     refl (c.take_away.ensures.open ∙ c.requires)
 
 pub returns-in-Ok-clause-serves : goal.returns-in-Ok-clause-serves
@@ -19,4 +18,4 @@ pub returns-in-Err-clause-serves : goal.returns-in-Err-clause-serves
 returns-in-Err-clause-serves g c =
     failed c.read.new.self.is_cut (g.S.System.calls c.read.new.system) c.in-Err.fault c.error.result c.leave_unread.ensures.leaves.0
     c.in-Err.ensures.reads
-    (left_as c.read.ensures.handle c.leave_unread.ensures.leaves.1) c.leave_unread.ensures.torn refl (c.leave_unread.ensures.open ∙ c.requires)
+    (rw c.read.ensures.handle at c.leave_unread.ensures.leaves.1) refl refl c.requires

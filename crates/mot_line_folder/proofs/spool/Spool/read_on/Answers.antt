@@ -11,7 +11,8 @@ pub returns-in-Some-clause-serves : goal.returns-in-Some-clause-serves
 returns-in-Some-clause-serves g c =
     on c.in-Some.lines c.if-self.false c.if-self-2.false (sym c.take.ensures.value ∙ c.in-Some.is) c.read_file.ensures.serves
 
-pub returns-in-Ok-Some-clause-serves : goal.returns-in-Ok-Some-clause-serves
-returns-in-Ok-Some-clause-serves g c =
-    next c.in-Ok-Some.lines _ c.if-self.false c.if-self-2.false (sym c.take.ensures.value ∙ c.in_default.is) (rw c.in-Ok-Some.field-0-is at c.in-Ok-Some.ensures.finds)
-    c.read_file-in-Ok-Some.ensures.serves
+pub returns-in-Some-open_next-clause-serves : goal.returns-in-Some-open_next-clause-serves
+returns-in-Some-open_next-clause-serves g c =
+    next c.in-Some-open_next.lines _ c.if-self.false c.if-self-2.false
+    (sym c.take.ensures.value ∙ c.in_default.is) c.in-Some-open_next.ensures.finds
+    c.read_file-in-Some-open_next.ensures.serves

@@ -24,15 +24,6 @@ returns-clause-opened c = λ bodies e.
     record (opened_place c.args.address (room_of c.args.full_length) size turn) { waiting = w })
     (segments_from-end c.args.turn bodies size (length c.args.turn.bodies + 1) e refl)
 
-pub returns-clause-turn : goal.returns-clause-turn
-returns-clause-turn c = ap (λ (s : PlayerView). s.turn) c.in_ok-state.ensures.view
-
-pub returns-clause-size : goal.returns-clause-size
-returns-clause-size c = ap (λ (s : PlayerView). s.segment_size) c.in_ok-state.ensures.view
-
-pub invariant_of-result : goal.invariant_of-result
-invariant_of-result c = c.in_ok-state.ensures.ready
-
 pub returns-clause-continuous : goal.returns-clause-continuous
 returns-clause-continuous c = steps-are-continuous
 

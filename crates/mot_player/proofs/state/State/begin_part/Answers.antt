@@ -1,6 +1,5 @@
-use Rattle.std.proofs.Common.{◌≡◌, ℕ, ◌+◌, ◌<◌, ◌≤◌, List, length, take, drop}
-use Rattle.std.proofs.Common.{length-take-le, ap, ◌∙◌, sym, subst, arith, refl, vec_len, Some, Vec}
-use Rattle.std.proofs.Common.{Global, rules}
+use Rattle.std.proofs.Common.{◌≡◌, ℕ, ◌+◌, ◌<◌, ◌≤◌, List, length, take, drop, length-take-le, ap}
+use Rattle.std.proofs.Common.{◌∙◌, sym, subst, arith, refl, vec_len, Some, Vec, Global, rules}
 use Rattle.std.proofs.Math.Nat.{le_trans}
 use Rattle.mot_groups.specs.Group.{GroupFields, bytes_of_group, group_of, segment_content}
 use Rattle.mot_numbers.specs.declared.numbers.TheConstants.{MAX_SEGMENT}
