@@ -5,7 +5,7 @@ ghost use Rattle.mot_journal.specs.Geometry.{number_at};
 ghost use Rattle.mot_journal.specs.Slot.{slot_size, read_slot, longest_name};
 ghost use Rattle.mot_journal.specs.Inner.Reading.{sound_action_of, if_sound, set_in_slot};
 ghost use Rattle.mot_journal.specs.Inner.Reading.{name_from, mime_from};
-ghost use Rattle.mot_journal.specs.Inner.Unread.{HasNumbers, HasTexts, BreaksSlot, IsUnset};
+ghost use Rattle.mot_journal.specs.Inner.Unread.{HasTexts, BreaksSlot};
 ghost use Rattle.mot_objects.specs.declared.mime.TheConstants.{MAX_MIME};
 
 use crate::{Action, FieldFault, Geometry, Layout, Record};
@@ -112,75 +112,38 @@ fn read_set(
     ensures fault { IfErr result (BreaksSlot (if_sound geometry.now layout (set_in_slot slot.now))
         geometry.now layout slot.now) }
 {
-    let numbers = match read_numbers(geometry, layout, slot) {
-        Ok(numbers) => numbers,
-        Err(fault) => return Err(SlotFault::Field(fault)),
-    };
-    let texts = read_texts(alloc, geometry, layout, slot)?;
-    Ok(Action::Set {
-        tid: numbers.tid,
-        version: numbers.version,
-        content: numbers.content,
-        start: numbers.start,
-        length: numbers.length,
-        name: texts.name,
-        mime: texts.mime,
-    })
-}
-
-/// The numbers of a slot that sets an object.
-#[derive(Clone, Copy)]
-pub struct Numbers {
-    tid: TransportId,
-    version: u8,
-    content: Content,
-    start: u32,
-    length: BodyLength,
-}
-
-/// The numbers of a slot that sets an object, or the first with a fault.
-fn read_numbers(geometry: &Geometry, layout: Layout, slot: &[u8]) -> Result<Numbers, FieldFault>
-    requires long { length slot.now ≡ slot_size layout }
-    requires sets { IsOfKind layout 2 slot.now }
-    ensures read { IfOk result (HasNumbers geometry.now slot.now) }
-    ensures fault { IfErr result (IsUnset geometry.now layout slot.now) }
-{
     let Some(tid) = TransportId::new(number(slot, 9, 2) as u16) else {
-        return Err(FieldFault::Object);
+        return Err(SlotFault::Field(FieldFault::Object));
     };
     let version = number(slot, 11, 1) as u8;
     let content_type = number(slot, 12, 1) as u8;
     let subtype = number(slot, 13, 2) as u16;
     let Ok(content) = Content::new(content_type, subtype) else {
-        return Err(FieldFault::Content {
+        return Err(SlotFault::Field(FieldFault::Content {
             content_type,
             subtype,
-        });
+        }));
     };
     let start = number(slot, 15, 4);
     let size = number(slot, 19, 4);
     let Some(length) = BodyLength::new(size) else {
-        return Err(FieldFault::Length { length: size });
+        return Err(SlotFault::Field(FieldFault::Length { length: size }));
     };
     let end = u64::from(start) + u64::from(size);
     let area = geometry.area;
     if end > u64::from(area) {
-        return Err(FieldFault::Extent { end, area });
+        return Err(SlotFault::Field(FieldFault::Extent { end, area }));
     }
-    Ok(Numbers {
+    let (name, mime) = read_texts(alloc, geometry, layout, slot)?;
+    Ok(Action::Set {
         tid,
         version,
         content,
         start,
         length,
+        name,
+        mime,
     })
-}
-
-/// The texts of a slot that sets an object.
-#[derive(Drop)]
-pub struct Texts {
-    name: Name,
-    mime: Option<Mime>,
 }
 
 /// The texts of a slot that sets an object, or the first with a fault.
@@ -189,7 +152,7 @@ fn read_texts(
     geometry: &Geometry,
     layout: Layout,
     slot: &[u8],
-) -> Result<Texts, SlotFault>
+) -> Result<(Name, Option<Mime>), SlotFault>
     requires long { length slot.now ≡ slot_size layout }
     requires sets { IsOfKind layout 2 slot.now }
     ensures read { IfOk result (HasTexts layout slot.now) }
@@ -202,23 +165,15 @@ fn read_texts(
         return Err(SlotFault::Field(FieldFault::Name { length }));
     }
     let end = 24 + size;
-    let Ok(name) = read_name(alloc, layout, &slot[24..end]) else {
-        return Err(SlotFault::OutOfMemory);
-    };
-    let Some(name) = name else {
+    let Some(name) = read_name(alloc, layout, &slot[24..end])? else {
         return Err(SlotFault::Field(FieldFault::Name { length }));
     };
     let rest = &slot[end..];
-    let Ok(mime) = read_mime(alloc, rest) else {
-        drop(name);
-        return Err(SlotFault::OutOfMemory);
-    };
-    let Some(mime) = mime else {
-        drop(name);
+    let Some(mime) = read_mime(alloc, rest)? else {
         let length = number(rest, 0, 1) as u8;
         return Err(SlotFault::Field(FieldFault::Mime { length }));
     };
-    Ok(Texts { name, mime })
+    Ok((name, mime))
 }
 
 /// These bytes as a name; `None` if they break its rule.

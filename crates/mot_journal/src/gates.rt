@@ -57,8 +57,7 @@ fn last_gate(slots: &[u8], layout: Layout, was_shut: bool) -> Option<bool>
     let mut is_shut = was_shut;
     for number in 0..slots.len() / size {
         let is_open = slots[number * size] == OPEN;
-        let is_behind = is_open & is_shut;
-        if is_behind {
+        if is_open & is_shut {
             return None;
         }
         is_shut = !is_open;

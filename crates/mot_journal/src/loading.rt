@@ -6,7 +6,6 @@ ghost use Rattle.mot_journal.specs.Slot.{is_sound, slot_size, slot_count, layout
 ghost use Rattle.mot_journal.specs.Inner.Loading.{HalfHas, IsHalfRefusal, IsNoHead};
 ghost use Rattle.mot_journal.specs.Inner.Loading.{HasRangeFault, IsSlotReason};
 ghost use Rattle.mot_journal.specs.Reason.{HasReason};
-ghost use Rattle.mot_journal.specs.declared.reason.HeadFault.TheVariants.{OutOfRange};
 ghost use Rattle.mot_numbers.specs.Geometry.{half_size};
 ghost use Rattle.mot_numbers.specs.declared.geometry.TheConstants.{MAX_OBJECTS};
 ghost use Rattle.mot_numbers.specs.Geometry.{is_valid as valid};
@@ -51,32 +50,18 @@ fn out_of_range(geometry: &Geometry) -> HeadFault
     requires { valid geometry.now ≡ false }
     ensures { HasRangeFault geometry.now result }
 {
-    let Geometry {
-        objects,
-        segment,
-        address,
-        packet,
-        area,
-    } = *geometry;
-    if objects < 1 || objects > MAX_OBJECTS {
-        return beyond(Size::Objects, u32::from(objects));
-    }
-    if segment < MIN_SEGMENT || segment > MAX_SEGMENT {
-        return beyond(Size::Segment, u32::from(segment));
-    }
-    if address < 1 || address > MAX_ADDRESS {
-        return beyond(Size::Address, u32::from(address));
-    }
-    if !matches!(packet, 24 | 48 | 72 | 96) {
-        return beyond(Size::Packet, u32::from(packet));
-    }
-    beyond(Size::Data, area)
-}
-
-/// That this number of a geometry is out of its range.
-fn beyond(size: Size, number: u32) -> HeadFault
-    ensures { result ≡ OutOfRange size number }
-{
+    let g = *geometry;
+    let (size, number) = if g.objects < 1 || g.objects > MAX_OBJECTS {
+        (Size::Objects, u32::from(g.objects))
+    } else if g.segment < MIN_SEGMENT || g.segment > MAX_SEGMENT {
+        (Size::Segment, u32::from(g.segment))
+    } else if g.address < 1 || g.address > MAX_ADDRESS {
+        (Size::Address, u32::from(g.address))
+    } else if !matches!(g.packet, 24 | 48 | 72 | 96) {
+        (Size::Packet, u32::from(g.packet))
+    } else {
+        (Size::Data, g.area)
+    };
     HeadFault::OutOfRange { size, number }
 }
 

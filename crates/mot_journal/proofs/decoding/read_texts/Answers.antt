@@ -34,8 +34,8 @@ returns-then-size-longest_name-clause-fault c =
       ),
     )
 
-pub returns-in_default-name-clause-fault : goal.returns-in_default-name-clause-fault
-returns-in_default-name-clause-fault c =
+pub returns-in_default-clause-fault : goal.returns-in_default-clause-fault
+returns-in_default-clause-fault c =
     let slot = c.args.slot.now in
     let longest : ℕ = longest_name c.args.layout in
     let n : ℕ = number_at 23 1 slot in
@@ -44,7 +44,7 @@ returns-in_default-name-clause-fault c =
     let width : 24 + c.from-size.result - 24 ≡ n = omega (arith, value, from) in
     let none : name_from longest (take n (drop 24 slot)) ≡ None =
     sym (ap (λ k. name_from longest (take k (drop 24 slot))) width)
-    ∙ sym c.in-Ok.ensures ∙ c.in_default-name.is in
+    ∙ sym c.in_ok-name.ensures ∙ c.in_default.is in
     let bad = no_name longest (take n (drop 24 slot)) none in (
       none_of c.args.geometry.now c.args.layout slot (λ has. bad has.name),
       (
@@ -55,8 +55,8 @@ returns-in_default-name-clause-fault c =
       ),
     )
 
-pub returns-in_default-mime-clause-fault : goal.returns-in_default-mime-clause-fault
-returns-in_default-mime-clause-fault c =
+pub returns-in_default-2-clause-fault : goal.returns-in_default-2-clause-fault
+returns-in_default-2-clause-fault c =
     let slot = c.args.slot.now in
     let n = c.from-size.result in
     let size : n ≡ number_at 23 1 slot = c.from-size.ensures ∙ c.number-length.ensures.value in
@@ -64,11 +64,11 @@ returns-in_default-mime-clause-fault c =
     ≡ drop (number_at 23 1 slot) (drop 24 slot) =
     rest_is slot 24 n ∙ ap (λ k. drop k (drop 24 slot)) size in
     let none : mime_from (drop (number_at 23 1 slot) (drop 24 slot)) ≡ None =
-    sym (ap mime_from same) ∙ sym c.in-Ok-read_mime.ensures ∙ c.in_default-mime.is in (
+    sym (ap mime_from same) ∙ sym c.in_ok-mime.ensures ∙ c.in_default-2.is in (
       no_mime_of c.args.geometry.now c.args.layout slot none,
       (
         c.requires.sets,
-        c.number-length-in_default-mime.ensures.value ∙ ap (number_at 0 1) same,
+        c.number-length-in_default-2.ensures.value ∙ ap (number_at 0 1) same,
         no_mime_parts (drop (number_at 23 1 slot) (drop 24 slot)) none,
       ),
     )
@@ -86,8 +86,8 @@ returns-clause-read c =
     ap (λ k. take k (drop 24 slot)) width in
     record {
       name = sym (ap (λ b. name_from (longest_name c.args.layout) b) name)
-          ∙ sym c.in-Ok.ensures ∙ c.in-Some.is;
-      mime = sym (ap mime_from same) ∙ sym c.in-Ok-read_mime.ensures ∙ c.in-Some-mime.is;
+          ∙ sym c.in_ok-name.ensures ∙ c.in-Some.is;
+      mime = sym (ap mime_from same) ∙ sym c.in_ok-mime.ensures ∙ c.in-Some-2.is;
     }
 
 pub overflow_cast-length : goal.overflow_cast-length
@@ -105,5 +105,5 @@ slice_bounds-read_name-start c = omega arith
 pub slice_bounds-rest-end : goal.slice_bounds-rest-end
 slice_bounds-rest-end c = omega arith
 
-pub overflow_cast-length-in_default-mime : goal.overflow_cast-length-in_default-mime
-overflow_cast-length-in_default-mime c = omega arith
+pub overflow_cast-length-in_default-2 : goal.overflow_cast-length-in_default-2
+overflow_cast-length-in_default-2 c = omega arith

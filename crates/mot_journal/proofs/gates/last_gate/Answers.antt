@@ -9,8 +9,8 @@ use Rattle.mot_journal.proofs.gates.last_gate.Goals as goal
 pub loop-number-init : goal.loop-number-init
 loop-number-init c = refl
 
-pub returns-then-is_behind : goal.returns-then-is_behind
-returns-then-is_behind c =
+pub returns-then-is_open-is_shut : goal.returns-then-is_open-is_shut
+returns-then-is_open-is_shut c =
     let bytes : List ℕ = c.args.slots.now in
     let size : ℕ = c.slot_size-size.result in
     let slots : List (List ℕ) = slots_in size (length bytes / size) bytes in
@@ -22,7 +22,7 @@ returns-then-is_behind c =
     ∙ next_gate size (length bytes / size) bytes c.loop-number.is_shut number some
     c.loop-number-test.true
     ∙ ap (λ (b : Bool). if b then none else scan (not is_open) (drop (number + 1) slots))
-    c.if-is_behind.true)
+    c.if-is_open-is_shut.true)
     ∙ ap (λ s. scan c.args.was_shut (slots_in s (length bytes / s) bytes)) c.slot_size-size.ensures
 
 pub loop-number-preserved : goal.loop-number-preserved
@@ -38,7 +38,7 @@ loop-number-preserved c =
     ∙ next_gate size (length bytes / size) bytes c.loop-number.is_shut number some
     c.loop-number-test.true
     ∙ ap (λ (b : Bool). if b then none else scan (not is_open) (drop (number + 1) slots))
-    c.if-is_behind.false
+    c.if-is_open-is_shut.false
 
 pub returns : goal.returns
 returns c =
