@@ -1,7 +1,7 @@
 //! The numbers of a device and of its partitions, as text.
 ghost use Rattle.std.specs.Prelude.{◌≡◌, IfOk, string_bytes};
 ghost use Rattle.mot_devices.specs.Mounts.{is_one_of};
-ghost use Rattle.mot_devices.specs.Number.{major_of, minor_of, number_text};
+ghost use Rattle.mot_devices.specs.Number.{number_text};
 
 use crate::mounts::is_line_of;
 use itoa::Buffer;
@@ -25,27 +25,15 @@ impl Numbers {
     }
 }
 
-/// The first part of a number.
-fn major_of(number: u64) -> u64
-    ensures { result ≡ major_of number }
-{
-    number / 256 % 4_096 + number / 17_592_186_044_416 * 4_096
-}
-
-/// The second part of a number.
-fn minor_of(number: u64) -> u64
-    ensures { result ≡ minor_of number }
-{
-    number % 256 + number / 1_048_576 % 16_777_216 * 256
-}
-
 /// The number of a device as the tables of the system have it.
 pub(crate) fn number_text(alloc: Global, number: u64) -> Result<String, AllocError>
     ensures { IfOk result (λ text. string_bytes text ≡ number_text number) }
 {
     let mut digits = Buffer::new();
-    let mut text = String::from_str(alloc, digits.format(major_of(number)))?;
+    let major = number / 256 % 4_096 + number / 17_592_186_044_416 * 4_096;
+    let minor = number % 256 + number / 1_048_576 % 16_777_216 * 256;
+    let mut text = String::from_str(alloc, digits.format(major))?;
     text.push_str(":")?;
-    text.push_str(digits.format(minor_of(number)))?;
+    text.push_str(digits.format(minor))?;
     Ok(text)
 }

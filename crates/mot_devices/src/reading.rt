@@ -86,10 +86,7 @@ fn read_open<S: System>(
 {
     let mut bytes = Vec::new(alloc);
     while bytes.len() < most {
-        let count = match read_more(system, handle, &mut bytes) {
-            Ok(count) => count,
-            Err(why) => return Err(why),
-        };
+        let count = read_more(system, handle, &mut bytes)?;
         if count == 0 {
             return Ok(First {
                 bytes,

@@ -83,9 +83,8 @@ fn look_at_device<S: System>(
     ensures used { IfErr result (λ found. IsUsedDevice path.now number found (S.calls system.old)
         (S.calls system.new)) }
 {
-    let numbers = match numbers_of(system, alloc, number) {
-        Ok(numbers) => numbers,
-        Err(AllocError) => return Err(no_memory()),
+    let Ok(numbers) = numbers_of(system, alloc, number) else {
+        return Err(no_memory());
     };
     refuse_mounted(system, alloc, &numbers)?;
     refuse_held(system, alloc, &numbers, number)?;

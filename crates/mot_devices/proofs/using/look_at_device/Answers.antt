@@ -6,8 +6,8 @@ use Rattle.mot_devices.specs.Uses.IsUsedDevice.{no_memory}
 use Rattle.mot_devices.specs.declared.device_use.DeviceUse.{DeviceUse}
 use Rattle.mot_devices.proofs.using.look_at_device.Goals as goal
 
-pub returns-in-Err-clause-used : goal.returns-in-Err-clause-used
-returns-in-Err-clause-used g c = no_memory c.no_memory.ensures.0 c.no_memory.ensures.1 c.no_memory.ensures.2
+pub returns-in_default-clause-used : goal.returns-in_default-clause-used
+returns-in_default-clause-used g c = no_memory c.no_memory.ensures.0 c.no_memory.ensures.1 c.no_memory.ensures.2
 
 pub returns-in_err-refuse_mounted-clause-looks : goal.returns-in_err-refuse_mounted-clause-looks
 returns-in_err-refuse_mounted-clause-looks g c =
