@@ -72,9 +72,8 @@ pub fn open_file<S: Start, M: DiskFiles<File = S::File>>(
 ) -> Result<BegunFile<S, WasThere>, FailedOpening<S>>
     ensures first { IfOk result (λ file. IsFirst false file.disk) }
 {
-    let disk = FileDiskFrom::open_from(rt, path, start)?;
     Ok(BegunFile {
-        disk,
+        disk: FileDiskFrom::open_from(rt, path, start)?,
         beginning: PhantomData,
     })
 }
@@ -89,9 +88,8 @@ pub fn make_file<S: Start, M: DiskFiles<File = S::File>>(
     ensures first { IfOk result (λ file. IsFirst true file.disk) }
     ensures len { IfOk result (λ file. (file_state file.disk).len ≡ len) }
 {
-    let disk = FileDiskFrom::create_from(rt, path, len, start)?;
     Ok(BegunFile {
-        disk,
+        disk: FileDiskFrom::create_from(rt, path, len, start)?,
         beginning: PhantomData,
     })
 }

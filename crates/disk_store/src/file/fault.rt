@@ -68,13 +68,9 @@ impl Words {
     /// The text, without the number that ends the words of the system.
     fn without_number(&self) -> &str {
         let end = self.len.min(MOST_WORDS);
-        let Ok(text) = str::from_utf8(&self.bytes[..end]) else {
-            return "";
-        };
-        match text.split_once(" (os error ") {
-            Some((words, _)) => words,
-            None => text,
-        }
+        let text = str::from_utf8(&self.bytes[..end]).unwrap_or("");
+        text.split_once(" (os error ")
+            .map_or(text, |(words, _)| words)
     }
 }
 

@@ -91,12 +91,4 @@ impl Faults {
         }
         is_struck
     }
-
-    /// Counts the failure of a call that no plan made fail.
-    pub fn count_failure(&mut self)
-        requires { self.old.failures < most_failures }
-        ensures { self.new ≡ record self.old { failures = self.old.failures + 1 } }
-    {
-        self.failures += 1;
-    }
 }
