@@ -1,7 +1,6 @@
 //! How a file is opened as a disk, and how a new one is made.
-ghost use Rattle.std.specs.Prelude.{◌≡◌, [], ◌∷◌, ◌++◌, length, option_map, replicate, IfOk, OnOk};
+ghost use Rattle.std.specs.Prelude.{◌≡◌, length, option_map, replicate, IfOk};
 ghost use Rattle.disk_store.specs.Calls.{content_after, opening_calls, making_calls};
-ghost use Rattle.disk_store.specs.Calls.{Locked, Opened, Made, Synced, Dropped, Named};
 ghost use Rattle.disk_store.specs.Inner.Noting.{HasOnlyOpened};
 ghost use Rattle.disk_model.specs.Disk.{IsNew, LeavesAll};
 ghost use Rattle.disk_store.specs.File.{file_state, calls_on, fault_on, CanSync};
@@ -144,8 +143,13 @@ impl<S: Start> FileDiskFrom<S> {
         ensures order { IfOk result (λ disk.
             calls_on disk ≡ opening_calls (file_state disk).len) }
     {
-        let mut file = lock_disk(rt, path)?;
-        let len = synced_length(&mut file, rt, path)?;
+        let mut file = HeldFile::lock(rt.open_disk(path)?)?;
+        file.refuse_no_disk()?;
+        file.sync_all()?;
+        if let Err(error) = file.drop_cached(rt, path) {
+            return Err(fault_of_dropping(rt, path, error));
+        }
+        let len = file.take_length()?;
         Ok(FileDiskFrom::begin(file, len))
     }
 
@@ -184,7 +188,12 @@ impl<S: Start> FileDiskFrom<S> {
         ensures order { IfOk result (λ disk. calls_on disk ≡ making_calls len) }
     {
         let mut made = HeldFile::lock(file)?;
-        make_zeros(&mut made, rt, path, len)?;
+        made.fill(len)?;
+        made.sync_all()?;
+        if let Err(error) = made.drop_cached(rt, path) {
+            return Err(fault_of_dropping(rt, path, error));
+        }
+        made.sync_folder(rt, path)?;
         Ok(FileDiskFrom::begin(made, len))
     }
 
@@ -212,50 +221,6 @@ impl<S: Start> FileDiskFrom<S> {
             start: PhantomData,
         }
     }
-}
-
-/// The file at the path, if it may be a disk.
-fn lock_disk<M: DiskFiles>(rt: &M, path: &str) -> Result<HeldFile<M::File>, OpenFault>
-    ensures { IfOk result (λ held. held.history.calls ≡ Locked ∷ []) }
-{
-    let file = HeldFile::lock(rt.open_disk(path)?)?;
-    file.refuse_no_disk()?;
-    Ok(file)
-}
-
-/// How long it is, once what stands there lasts and is what the device has.
-fn synced_length<M: DiskFiles>(
-    file: &mut HeldFile<M::File>,
-    rt: &M,
-    path: &str,
-) -> Result<u64, OpenFault>
-    ensures { IfOk result (λ len. file.new.history.calls
-        ≡ file.old.history.calls ++ Synced ∷ Dropped ∷ Opened len ∷ []) }
-{
-    file.sync_all()?;
-    if let Err(error) = file.drop_cached(rt, path) {
-        return Err(fault_of_dropping(rt, path, error));
-    }
-    Ok(file.take_length()?)
-}
-
-/// Fills it with zeros, and makes them and its name last.
-fn make_zeros<M: DiskFiles>(
-    made: &mut HeldFile<M::File>,
-    rt: &M,
-    path: &str,
-    len: u64,
-) -> Result<(), OpenFault>
-    ensures { OnOk result (made.new.history.calls
-        ≡ made.old.history.calls ++ Made len ∷ Synced ∷ Dropped ∷ Named ∷ []) }
-{
-    made.fill(len)?;
-    made.sync_all()?;
-    if let Err(error) = made.drop_cached(rt, path) {
-        return Err(fault_of_dropping(rt, path, error));
-    }
-    made.sync_folder(rt, path)?;
-    Ok(())
 }
 
 /// Which file this error is about: the empty one beside the disk or, if the error is that of a
