@@ -1,10 +1,11 @@
 //! A command for which all memory was taken, and nothing was written.
-ghost use Rattle.std.specs.Prelude.{◌≡◌, ◌+◌, true, false, IsTrue, IsFalse, OnOk, IfOk, IfErr, Ok};
+ghost use Rattle.std.specs.Prelude.{◌≡◌, ◌+◌, ◌≤◌, length, true, false, IsTrue, IsFalse, OnOk, IfOk, IfErr, Ok};
 ghost use Rattle.std.specs.Prelude.{if◌then◌else◌, is_ok};
 ghost use Rattle.std.specs.Result.{result_and};
 ghost use Rattle.mot_journal.specs.declared.layout.Layout.TheVariants.{Two};
 ghost use Rattle.mot_numbers.specs.Geometry as Sizes;
 ghost use Rattle.mot_numbers.specs.Geometry.{is_valid};
+ghost use Rattle.mot_objects.specs.declared.body.TheConstants.{MAX_BODY};
 ghost use Rattle.mot_repository.specs.Answers.{IsRefusal, carousel_after};
 ghost use Rattle.mot_repository.specs.Inner.Extents.{catalogue_with};
 ghost use Rattle.mot_repository.specs.Inner.Whole.{IsWhole};
@@ -17,14 +18,14 @@ ghost use Rattle.mot_repository.specs.Repository.{RepositoryView};
 
 mod placing;
 
-use crate::by_start::by_start_after;
+use crate::by_start::sorted_by_start;
 use crate::inventory::Inventory;
 use crate::records::{record_of_change, records_of};
-use mot_carousel::plan;
+use mot_carousel::{first_fit, plan};
 use mot_journal::{Layout, Record, area_start};
 use mot_numbers::{Geometry, Refusal};
 use mot_objects::{Carousel, Command, Done};
-use placing::{body_start, extents_after, place_in};
+use placing::extents_after;
 use std::alloc::{AllocError, Global};
 use std::mem::swap;
 
@@ -107,13 +108,13 @@ pub(crate) fn prepare_change<'a>(
         return Err(Refusal::BadName);
     }
     let change = plan(alloc, &inventory.carousel, geometry.objects, command)?;
-    let start = body_start(&inventory.by_start, command, geometry.area);
+    let body = body_bytes(command);
+    let start = first_fit(&inventory.by_start, body.len() as u32, geometry.area);
     let Some(start) = start else {
         return Err(Refusal::NoRoom);
     };
-    let place = place_in(inventory, command);
-    let extents = extents_after(alloc, inventory, place, command, start)?;
-    let by_start = by_start_after(alloc, inventory, place, command, start)?;
+    let extents = extents_after(alloc, inventory, command, start)?;
+    let by_start = sorted_by_start(alloc, &extents)?;
     let given = records_to_give(alloc, is_full, inventory)?;
     let record = record_of_change(&inventory.carousel, &change.next, command, start)?;
     Ok(Prepared {
@@ -124,7 +125,7 @@ pub(crate) fn prepare_change<'a>(
         },
         done: change.done,
         at: place_in_area(geometry, start),
-        body: body_bytes(command),
+        body,
         record,
         given,
     })
@@ -162,13 +163,12 @@ fn is_name_too_long(layout: Layout, command: &Command) -> bool
 
 /// The bytes that the command brings.
 fn body_bytes(command: &Command) -> &[u8]
-    ensures { result.now ≡ body_of command.now }
+    ensures value { result.now ≡ body_of command.now }
+    ensures short { length result.now ≤ MAX_BODY }
 {
     match command {
-        Command::Put { body, .. } => body.as_bytes(),
-        Command::Replace { body, .. } => body.as_bytes(),
-        Command::Withdraw { .. } => &[],
-        Command::Period(_) => &[],
+        Command::Put { body, .. } | Command::Replace { body, .. } => body.as_bytes(),
+        Command::Withdraw { .. } | Command::Period(_) => &[],
     }
 }
 
