@@ -224,7 +224,7 @@ action-fits g layout extents old next (Withdraw name) from lies short =
     remove-fits g layout (kept_object_named name old.objects.items)
 action-fits g layout extents old next (Period period) from lies short = tt
 
-short-id : (a : Action) → HasFields a → HasShortId a
+pub short-id : (a : Action) → HasFields a → HasShortId a
 short-id Nothing is = tt
 short-id (Remove tid) is = is.1
 short-id (Set tid version content start size name mime) is = is.id.1

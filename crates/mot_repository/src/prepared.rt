@@ -3,7 +3,6 @@ ghost use Rattle.std.specs.Prelude.{◌≡◌, ◌+◌, ◌≤◌, length, true,
 ghost use Rattle.std.specs.Prelude.{if◌then◌else◌, is_ok};
 ghost use Rattle.std.specs.Result.{result_and};
 ghost use Rattle.mot_journal.specs.declared.layout.Layout.TheVariants.{Two};
-ghost use Rattle.mot_numbers.specs.Geometry as Sizes;
 ghost use Rattle.mot_numbers.specs.Geometry.{is_valid};
 ghost use Rattle.mot_objects.specs.declared.body.TheConstants.{MAX_BODY};
 ghost use Rattle.mot_repository.specs.Answers.{IsRefusal, carousel_after};
@@ -27,7 +26,6 @@ use mot_numbers::{Geometry, Refusal};
 use mot_objects::{Carousel, Command, Done};
 use placing::extents_after;
 use std::alloc::{AllocError, Global};
-use std::mem::swap;
 
 /// A change that was worked out, with all memory that doing it takes. Its body stays the command's.
 #[derive(Drop)]
@@ -64,19 +62,9 @@ impl Prepared<'_> {
         ensures kept { kept.new
             ≡ (if is_ok written then self.entry.inventory else kept.old) }
     {
-        drop(self.record);
-        let mut next = self.inventory;
-        swap_where(written.is_ok(), kept, &mut next);
-        written.and(Ok(self.done))
-    }
-}
-
-/// Swaps the two inventories, where they are to be swapped.
-fn swap_where(is_to_be: bool, one: &mut Inventory, other: &mut Inventory)
-    ensures { one.new ≡ (if is_to_be then other.old else one.old) }
-{
-    if is_to_be {
-        swap(one, other);
+        written?;
+        *kept = self.inventory;
+        Ok(self.done)
     }
 }
 
@@ -124,7 +112,7 @@ pub(crate) fn prepare_change<'a>(
             by_start,
         },
         done: change.done,
-        at: place_in_area(geometry, start),
+        at: area_start(geometry) + u64::from(start),
         body,
         record,
         given,
@@ -170,11 +158,4 @@ fn body_bytes(command: &Command) -> &[u8]
         Command::Put { body, .. } | Command::Replace { body, .. } => body.as_bytes(),
         Command::Withdraw { .. } | Command::Period(_) => &[],
     }
-}
-
-/// Where on a disk of this geometry a part of the data area begins.
-fn place_in_area(geometry: &Geometry, start: u32) -> u64
-    ensures { result ≡ Sizes.area_start geometry.now + start }
-{
-    area_start(geometry) + u64::from(start)
 }

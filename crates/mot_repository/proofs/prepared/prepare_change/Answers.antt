@@ -1,4 +1,4 @@
-use Rattle.std.proofs.Common.{◌≡◌, None, false, sym, ap, subst, ◌∙◌}
+use Rattle.std.proofs.Common.{◌≡◌, None, false, sym, ap, subst, ◌∙◌, rules}
 use Rattle.std.proofs.lemmas.Result.{err_from_is_err_and}
 use Rattle.mot_carousel.specs.Gap.{AreReordered}
 use Rattle.mot_repository.specs.Outcome.{has_long_name, start_of}
@@ -104,7 +104,7 @@ returns-clause-prepared c = λ view k told.
     } in
     prepared_is view c.args.command.now _ c.in-Some.start is
     (λ full. rw (carousel, extents) (c.in_ok-given.ensures (told full)))
-    (rw geometry c.place_in_area.ensures)
+    (rw geometry (search rules))
     c.body_bytes-body.ensures.value (rw (carousel, extents) c.in_ok-extents.ensures)
 
 pub returns-clause-short : goal.returns-clause-short

@@ -8,6 +8,7 @@ use Rattle.mot_journal.specs.Catalogue.{Catalogue}
 use Rattle.mot_repository.specs.Inner.Extents.{catalogue_with}
 use Rattle.mot_repository.specs.Inner.Fold.{HasShortIds}
 use Rattle.mot_repository.proofs.Folding.{is_step}
+use Rattle.mot_repository.proofs.Planned.{short-id}
 use Rattle.mot_repository.proofs.FoldSteps.{IsNext, is_next, fold_goes_on, fold_breaks, fold_ends}
 use Rattle.mot_repository.proofs.FoldSteps.{breaks_there, folds_so_far, fold_none, folded}
 use Rattle.mot_journal.specs.Catalogue.{is_consistent, new_catalogue}
@@ -80,7 +81,11 @@ loop-entry-preserved c =
           c.in-Ok.ensures.after).consistent;
       bounded = c.in-Ok.ensures.bounded;
       short = All-push HasShortIds c.loop-entry.yielded c.in-Some.entry c.loop-entry.invariant.short
-          c.know_ids.ensures;
+          (record {
+            directory = c.know_fields.ensures.directory.1;
+            cursor = c.know_fields.ensures.cursor.1;
+            object = short-id c.in-Some.entry.action c.know_fields.ensures.action;
+          });
       so_far = folds_so_far c.args.geometry.now.objects c.loop-entry.slot now records
           c.in-Some.entry next c.loop-entry.invariant.so_far then c.in-Ok.ensures.after;
       folds = c.loop-entry.invariant.folds

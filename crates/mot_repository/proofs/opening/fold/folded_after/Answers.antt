@@ -28,8 +28,8 @@ pub returns-then-is_id_used-clause-fault : goal.returns-then-is_id_used-clause-f
 returns-then-is_id_used-clause-fault c =
     let now : Catalogue = catalogue_with c.args.folded.carousel c.args.folded.extents.items in
     has_directory c.args.limit now c.args.entry c.apply.new.objects.items c.apply.new.extents.items
-    c.apply.ensures.paired true refl c.in_ok-apply.ensures.applied c.get.result
-    c.get.ensures.value
+    c.apply.ensures.paired true refl c.in_ok-apply.ensures.applied c.get-id.result
+    c.get-id.ensures.value
     (ap (list_any (λ (o : Object). nat_eq c.args.entry.directory o.tid)) (sym c.deref.ensures.value)
     ∙ sym c.is_id_used.ensures ∙ c.if-is_id_used.true)
 
