@@ -8,7 +8,6 @@ ghost use Rattle.mot_objects.specs.declared.body.TheConstants.{MAX_BODY};
 ghost use Rattle.mot_repository.specs.Answers.{IsRefusal, carousel_after};
 ghost use Rattle.mot_repository.specs.Inner.Extents.{catalogue_with};
 ghost use Rattle.mot_repository.specs.Inner.Whole.{IsWhole};
-ghost use Rattle.mot_repository.specs.Records.{records_of_catalogue};
 ghost use Rattle.mot_repository.specs.Outcome.{body_of, has_long_name};
 ghost use Rattle.mot_repository.specs.Inner.Prepared.{IsFull};
 ghost use Rattle.mot_repository.specs.Inner.Ready.{IsPrepared};
@@ -25,7 +24,7 @@ use mot_journal::{Layout, Record, area_start};
 use mot_numbers::{Geometry, Refusal};
 use mot_objects::{Carousel, Command, Done};
 use placing::extents_after;
-use std::alloc::{AllocError, Global};
+use std::alloc::Global;
 
 /// A change that was worked out, with all memory that doing it takes. Its body stays the command's.
 #[derive(Drop)]
@@ -103,7 +102,11 @@ pub(crate) fn prepare_change<'a>(
     };
     let extents = extents_after(alloc, inventory, command, start)?;
     let by_start = sorted_by_start(alloc, &extents)?;
-    let given = records_to_give(alloc, is_full, inventory)?;
+    let given = if is_full {
+        records_of(alloc, inventory)?
+    } else {
+        Vec::new(alloc)
+    };
     let record = record_of_change(&inventory.carousel, &change.next, command, start)?;
     Ok(Prepared {
         inventory: Inventory {
@@ -117,21 +120,6 @@ pub(crate) fn prepare_change<'a>(
         record,
         given,
     })
-}
-
-/// The records that a full half is rewritten to; none if it has room.
-fn records_to_give(
-    alloc: Global,
-    is_full: bool,
-    inventory: &Inventory,
-) -> Result<Vec<Record>, AllocError>
-    ensures { let kept = catalogue_with inventory.now.carousel inventory.now.extents.items in
-        IfOk result (λ records. IsTrue is_full → records.items ≡ records_of_catalogue kept) }
-{
-    if is_full {
-        return records_of(alloc, inventory);
-    }
-    Ok(Vec::new(alloc))
 }
 
 /// Whether the slots of this layout have no room for the name that the command speaks of.

@@ -1,4 +1,4 @@
-use Rattle.std.proofs.Common.{◌≡◌, None, false, sym, ap, subst, ◌∙◌, rules}
+use Rattle.std.proofs.Common.{◌≡◌, None, true, false, sym, ap, subst, ◌∙◌, rules, Vec, Global}
 use Rattle.std.proofs.lemmas.Result.{err_from_is_err_and}
 use Rattle.mot_carousel.specs.Gap.{AreReordered}
 use Rattle.mot_repository.specs.Outcome.{has_long_name, start_of}
@@ -7,7 +7,9 @@ use Rattle.mot_repository.specs.Repository.{RepositoryView}
 use Rattle.mot_repository.proofs.ByStart.{start-reordered}
 use Rattle.mot_repository.proofs.Planned.{name_refused, plan_refused, room_refused, IsWorkedOut}
 use Rattle.mot_repository.proofs.Planned.{prepared_is, kept_after}
+use Rattle.mot_journal.specs.declared.record.Record.{Record}
 use Rattle.mot_repository.proofs.prepared.prepare_change.Goals as goal
+use Rattle.mot_repository.proofs.prepared.prepare_change.Goals.{then-is_full+in_ok-given, else-is_full}
 
 pub returns-then-is_name_too_long-clause-refused : goal.returns-then-is_name_too_long-clause-refused
 returns-then-is_name_too_long-clause-refused c = λ view k going.
@@ -103,7 +105,14 @@ returns-clause-prepared c = λ view k told.
       typed = c.in_ok-record.ensures.typed;
     } in
     prepared_is view c.args.command.now _ c.in-Some.start is
-    (λ full. rw (carousel, extents) (c.in_ok-given.ensures (told full)))
+    (λ full. rw (carousel, extents) (elim c.if-is_full.branch [
+      | then-is_full+in_ok-given w ↦
+          ap (λ (v : Vec Record Global). v.items) w.given-is ∙ w.in_ok-given.ensures
+      | else-is_full w ↦
+          let full : c.args.is_full ≡ true = told full in
+          let room : c.args.is_full ≡ false = w.if-is_full.false in
+          cc
+    ]))
     (rw geometry (search rules))
     c.body_bytes-body.ensures.value (rw (carousel, extents) c.in_ok-extents.ensures)
 
