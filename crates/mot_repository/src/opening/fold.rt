@@ -19,7 +19,8 @@ ghost use Rattle.mot_repository.specs.Inner.Bounds.{AreEndsWithin, AreIdsWithin,
 ghost use Rattle.mot_repository.specs.Inner.Bounds.{AreWithin};
 ghost use Rattle.mot_repository.specs.Inner.Fold.{HaveLengths, are_extents_apart, are_consistent};
 ghost use Rattle.mot_repository.specs.Inner.Fold.{if_consistent, if_done, objects_set};
-ghost use Rattle.mot_repository.specs.Inner.Fold.{IsFoldRefusal, HasShortIds};
+ghost use Rattle.mot_repository.specs.Inner.Fold.{IsFoldRefusal};
+ghost use Rattle.mot_repository.specs.Inner.Planned.{IsTyped};
 ghost use Rattle.mot_repository.specs.Inner.Faults.{HasSettingFault, IsClash, IsFoldReason};
 ghost use Rattle.mot_repository.specs.declared.opening.bounds.Bounds.{Bounds};
 
@@ -53,7 +54,7 @@ pub(crate) fn inventory_of(
     requires numbered { vec_len records ≤ 65536 }
     ensures folded { IfOk result (λ i. catalogue_of geometry.now.objects records.items
         ≡ Ok (catalogue_with i.carousel i.extents.items)) }
-    ensures short { IfOk result (λ _. All HasShortIds records.items) }
+    ensures typed { IfOk result (λ _. All IsTyped records.items) }
     ensures refused { IfErr result
         (λ fault. IsFoldRefusal geometry.now.objects records.items fault.refusal) }
     ensures reason { IfErr result (λ fault. HasReason fault.refusal fault.reason) }
@@ -76,7 +77,7 @@ fn fold_records(alloc: Global, geometry: &Geometry, records: Vec<Record>) -> Res
     requires numbered { vec_len records ≤ 65536 }
     ensures folded { IfOk result (λ f. catalogue_of geometry.now.objects records.items
         ≡ Ok (catalogue_with f.carousel f.extents.items)) }
-    ensures short { IfOk result (λ _. All HasShortIds records.items) }
+    ensures typed { IfOk result (λ _. All IsTyped records.items) }
     ensures refused { IfErr result
         (λ fault. IsFoldRefusal geometry.now.objects records.items fault.refusal) }
     ensures reason { IfErr result (λ fault. HasReason fault.refusal fault.reason) }

@@ -30,7 +30,7 @@ returns-clause-in_order g c =
     c.in_ok-inventory.inventory.extents.items c.in_ok-loaded.loaded.records.items
     (g.D.Disk.state c.args.disk.now).len c.in_ok-loaded.ensures.valid
     c.in_ok-loaded.ensures.long_enough c.in_ok-loaded.ensures.sound
-    c.in_ok-inventory.ensures.short
+    c.in_ok-inventory.ensures.typed
     (ap (λ (x : Geometry). catalogue_of x.objects c.in_ok-loaded.loaded.records.items)
     (sym c.geometry-geometry.ensures) ∙ c.in_ok-inventory.ensures.folded)
     c.in_ok-inventory.inventory.paired c.in_ok-loaded.ensures.going

@@ -6,9 +6,8 @@ use Rattle.std.proofs.lemmas.List.Elements.{All-push}
 use Rattle.mot_journal.specs.declared.record.Record.{Record}
 use Rattle.mot_journal.specs.Catalogue.{Catalogue}
 use Rattle.mot_repository.specs.Inner.Extents.{catalogue_with}
-use Rattle.mot_repository.specs.Inner.Fold.{HasShortIds}
+use Rattle.mot_repository.specs.Inner.Planned.{IsTyped}
 use Rattle.mot_repository.proofs.Folding.{is_step}
-use Rattle.mot_repository.proofs.Planned.{short-id}
 use Rattle.mot_repository.proofs.FoldSteps.{IsNext, is_next, fold_goes_on, fold_breaks, fold_ends}
 use Rattle.mot_repository.proofs.FoldSteps.{breaks_there, folds_so_far, fold_none, folded}
 use Rattle.mot_journal.specs.Catalogue.{is_consistent, new_catalogue}
@@ -80,12 +79,8 @@ loop-entry-preserved c =
       consistent = (is_step c.args.geometry.now.objects now c.in-Some.entry then
           c.in-Ok.ensures.after).consistent;
       bounded = c.in-Ok.ensures.bounded;
-      short = All-push HasShortIds c.loop-entry.yielded c.in-Some.entry c.loop-entry.invariant.short
-          (record {
-            directory = c.know_fields.ensures.directory.1;
-            cursor = c.know_fields.ensures.cursor.1;
-            object = short-id c.in-Some.entry.action c.know_fields.ensures.action;
-          });
+      typed = All-push IsTyped c.loop-entry.yielded c.in-Some.entry c.loop-entry.invariant.typed
+          c.know_fields.ensures;
       so_far = folds_so_far c.args.geometry.now.objects c.loop-entry.slot now records
           c.in-Some.entry next c.loop-entry.invariant.so_far then c.in-Ok.ensures.after;
       folds = c.loop-entry.invariant.folds
@@ -107,15 +102,15 @@ returns-clause-folded c =
     ∙ fold_ends c.args.geometry.now.objects c.loop-entry.slot now records
     (c.loop-entry.invariant.slot_is ∙ end.1)
 
-pub returns-clause-short : goal.returns-clause-short
-returns-clause-short c =
+pub returns-clause-typed : goal.returns-clause-typed
+returns-clause-typed c =
     let records : List Record = c.args.records.items in
     let end = YieldsList-end
     (YieldsList-from_vec {s = c.into_iter-entry-iterator.result} records (search rules)
     (search rules))
     c.loop-entry.yielded c.loop-entry.entry-iterator c.loop-entry.yielded_by c.next.result
     c.next.new.self c.in-None.is c.next.ensures.steps in
-    subst (All HasShortIds) (sym (map-id c.loop-entry.yielded) ∙ end.0) c.loop-entry.invariant.short
+    subst (All IsTyped) (sym (map-id c.loop-entry.yielded) ∙ end.0) c.loop-entry.invariant.typed
 
 pub loop-entry-init : goal.loop-entry-init
 loop-entry-init c = record {
@@ -124,7 +119,7 @@ loop-entry-init c = record {
   room_of_extents = c.in_ok-folded.ensures.room_of_extents;
   consistent = ap is_consistent c.in_ok-folded.ensures.new;
   bounded = search rules;
-  short = search rules;
+  typed = search rules;
   so_far = fold_none c.args.geometry.now.objects 0 new_catalogue
       ∙ ap folded (sym c.in_ok-folded.ensures.new);
   folds = search rules;
