@@ -316,20 +316,17 @@ prepared_is view command p from is given at body extents =
     let within = body-within g view.extents command from is.lies in
     let size : length p.body.now ≡ length (body_of command) = ap length body in
     record {
-      change = record {
-        from = from;
-        at_is = at;
-        body_is = body;
-        prepared = record {
-          short = is.short;
-          changes = is.changes;
-          lies = is.lies;
-          record_is =
-              is.record_is;
-          given_is = given;
-        };
-        extents_are = extents;
+      from = from;
+      at_is = at;
+      body_is = body;
+      prepared = record {
+        short = is.short;
+        changes = is.changes;
+        lies = is.lies;
+        record_is = is.record_is;
+        given_is = given;
       };
+      extents_are = extents;
       given = λ full. subst (λ (l : List Record). CanBeGiven view.journal l) (sym (given full))
           (record {
             some = rewriting.some;

@@ -32,10 +32,10 @@ returns-clause-any_moment g c = rw (← c.self.view_is) (λ command is s holds.
     let view : RepositoryView =
     view_with r.journal r.inventory.carousel r.inventory.extents.items r.halted in
     c.commit_change-written.ensures.any_moment view s command p.done p.inventory.carousel
-    is.change.from refl is.change.at_is
-    is.change.body_is
-    (subst (λ l. IsPreparedFor view command p.done p.inventory.carousel is.change.from p.record l)
-    (sym c.deref.ensures.value) is.change.prepared) holds)
+    is.from refl is.at_is
+    is.body_is
+    (subst (λ l. IsPreparedFor view command p.done p.inventory.carousel is.from p.record l)
+    (sym c.deref.ensures.value) is.prepared) holds)
 
 pub returns-clause-now : goal.returns-clause-now
 returns-clause-now g c =
@@ -70,9 +70,9 @@ returns-clause-changed g c =
       layout = w.ensures.layout;
       halted = sym going;
       becomes = prepared_is_accepted view new command p.done p.inventory.carousel
-          is.change.from p.record
-          p.given.items is.change.prepared
-          w.ensures.geometry refl is.change.extents_are;
+          is.from p.record
+          p.given.items is.prepared
+          w.ensures.geometry refl is.extents_are;
     }))
 
 pub returns-clause-ok : goal.returns-clause-ok
@@ -91,12 +91,12 @@ returns-clause-ok g c = rw (← c.self.view_is) (λ command is s holds.
     × Holds (view_with w.new.journal k.carousel k.extents.items b) next
     (g.D.Disk.state w.new.disk))
     c.take_up.ensures.answer c.take_up.ensures.kept c.is_err-self-inside.ensures.value
-    (w.ensures.ok view s command p.done p.inventory.carousel is.change.from
-    refl is.change.at_is
-    is.change.body_is
-    (subst (λ l. IsPreparedFor view command p.done p.inventory.carousel is.change.from p.record l)
-    (sym c.deref.ensures.value) is.change.prepared) holds)
-    (λ found. (found.0, found.1, found.2 new refl refl refl is.change.extents_are)))
+    (w.ensures.ok view s command p.done p.inventory.carousel is.from
+    refl is.at_is
+    is.body_is
+    (subst (λ l. IsPreparedFor view command p.done p.inventory.carousel is.from p.record l)
+    (sym c.deref.ensures.value) is.prepared) holds)
+    (λ found. (found.0, found.1, found.2 new refl refl refl is.extents_are)))
 
 -- a failure's cause is also that of what was answered then
 same_cause : {T E A : Type 0} {before now : ℕ} (w : Result T E) (d : A) → HasCause before now w
@@ -120,7 +120,7 @@ returns-clause-cause g c = rw (← c.self.view_is) (rw c.take_up.ensures.answer
 pub returns-clause-cost : goal.returns-clause-cost
 returns-clause-cost g c = rw (← c.self.view_is) (λ command is. rw c.take_up.ensures.answer
     (same_cost c.commit_change-written.result c.args.prepared.done
-    (rw (← is.change.body_is) c.commit_change-written.ensures.cost)))
+    (rw (← is.body_is) c.commit_change-written.ensures.cost)))
 
 -- so is the refusal
 same_refusal : {T E A : Type 0} (w : Result T E) (d : A) (P : E → Type 0) → IfErr w P
