@@ -43,24 +43,12 @@ pub returns-then-not-is_full-clause-keeps : goal.returns-then-not-is_full-clause
 returns-then-not-is_full-clause-keeps g c =
     record { frame = keeps_none (g.D.Disk.state c.args.disk.now); honest = λ is. is }
 
-pub returns-then-not-is_full-clause-cause : goal.returns-then-not-is_full-clause-cause
-returns-then-not-is_full-clause-cause g c = tt
-
-pub returns-then-not-is_full-clause-calm : goal.returns-then-not-is_full-clause-calm
-returns-then-not-is_full-clause-calm g c = refl
-
 pub returns-then-not-is_full-clause-cost : goal.returns-then-not-is_full-clause-cost
 returns-then-not-is_full-clause-cost g c = record {
   at_most = no_less _ _;
   exact = none_more _ _
       (room_free c.args.journal.now (λ full. not_both (c.if-not-is_full.ensures.1 full)));
 }
-
-pub returns-then-not-is_full-clause-geometry : goal.returns-then-not-is_full-clause-geometry
-returns-then-not-is_full-clause-geometry g c = refl
-
-pub returns-then-not-is_full-clause-layout : goal.returns-then-not-is_full-clause-layout
-returns-then-not-is_full-clause-layout g c = refl
 
 pub returns-then-not-is_full-clause-going : goal.returns-then-not-is_full-clause-going
 returns-then-not-is_full-clause-going g c = c.requires.going
@@ -94,9 +82,6 @@ returns-then-not-is_full-clause-room g c = λ view s k is holds fold fold'.
         refl,
       );
     }
-
-pub returns-then-not-is_full-clause-fault : goal.returns-then-not-is_full-clause-fault
-returns-then-not-is_full-clause-fault g c = tt
 
 pub rewrite-requires-clause-some : goal.rewrite-requires-clause-some
 rewrite-requires-clause-some g c = (c.requires.given (c.if-not-is_full.ensures.0 refl)).some

@@ -114,12 +114,6 @@ returns-in_err-write_body-clause-ok g c =
     rw p.1 (λ view s records before next from layout command done is at fold fold' beside holds
     same step. tt)
 
-pub returns-in_err-write_body-clause-geometry : goal.returns-in_err-write_body-clause-geometry
-returns-in_err-write_body-clause-geometry g c = refl
-
-pub returns-in_err-write_body-clause-layout : goal.returns-in_err-write_body-clause-layout
-returns-in_err-write_body-clause-layout g c = refl
-
 pub append-requires-clause-not_full : goal.append-requires-clause-not_full
 append-requires-clause-not_full g c = c.requires.not_full
 

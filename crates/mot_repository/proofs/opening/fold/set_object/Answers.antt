@@ -150,9 +150,6 @@ stands_apart-requires-2-clause-bounded c =
     (within_but_last c.args.bounds.now os es c.args.object e
     (same_count os es c.requires.paired) c.requires.bounded)
 
-pub get-requires : goal.get-requires
-get-requires c = tt
-
 pub place_of_name-requires : goal.place_of_name-requires
 place_of_name-requires c = subst (AreNamesFlagged c.args.bounds.now.names)
     (sym c.deref.ensures.value) c.requires.bounded.names
@@ -181,12 +178,6 @@ stands_apart-requires-clause-within c =
 
 pub returns-in-Some-clause-listed : goal.returns-in-Some-clause-listed
 returns-in-Some-clause-listed c = c.requires.listed
-
-pub returns-in-Some-clause-room : goal.returns-in-Some-clause-room
-returns-in-Some-clause-room c = refl
-
-pub returns-in-Some-clause-room_of_extents : goal.returns-in-Some-clause-room_of_extents
-returns-in-Some-clause-room_of_extents c = refl
 
 pub returns-in-Some-clause-bounded : goal.returns-in-Some-clause-bounded
 returns-in-Some-clause-bounded c =
@@ -260,24 +251,11 @@ returns-clause-fault c =
     (sym objects) (sym extents))) is)
     c.stands_apart-2.ensures.fault
 
-pub from-requires : goal.from-requires
-from-requires c = tt
-
 pub returns-then-place-from-clause-paired : goal.returns-then-place-from-clause-paired
 returns-then-place-from-clause-paired c = c.requires.paired
 
 pub returns-then-place-from-clause-listed : goal.returns-then-place-from-clause-listed
 returns-then-place-from-clause-listed c = c.requires.listed
-
-pub returns-then-place-from-clause-room : goal.returns-then-place-from-clause-room
-returns-then-place-from-clause-room c = refl
-
-pub returns-then-place-from-clause-room_of_extents :
-    goal.returns-then-place-from-clause-room_of_extents
-returns-then-place-from-clause-room_of_extents c = refl
-
-pub returns-then-place-from-clause-bounded : goal.returns-then-place-from-clause-bounded
-returns-then-place-from-clause-bounded c = tt
 
 pub push_reserved-requires : goal.push_reserved-requires
 push_reserved-requires c =

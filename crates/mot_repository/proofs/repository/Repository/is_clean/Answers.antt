@@ -39,15 +39,6 @@ returns-then-self-clause-only_reads g c = reads_none (g.D.Disk.state c.args.self
 pub returns-then-self-clause-cost : goal.returns-then-self-clause-cost
 returns-then-self-clause-cost g c = no_less _ _
 
-pub returns-then-self-clause-calm : goal.returns-then-self-clause-calm
-returns-then-self-clause-calm g c = tt
-
-pub returns-then-self-clause-view : goal.returns-then-self-clause-view
-returns-then-self-clause-view g c = refl
-
-pub returns-then-self-clause-going : goal.returns-then-self-clause-going
-returns-then-self-clause-going g c = tt
-
 pub returns-then-self-clause-refused : goal.returns-then-self-clause-refused
 returns-then-self-clause-refused g c = halted (rw (← c.self.view_is) c.if-self.true) refl refl
 
@@ -74,9 +65,6 @@ returns-clause-cost g c = rw (← c.self.view_is) c.is_clean.ensures.cost
 
 pub returns-clause-calm : goal.returns-clause-calm
 returns-clause-calm g c = rw (← c.self.view_is) c.is_clean.ensures.calm
-
-pub returns-clause-view : goal.returns-clause-view
-returns-clause-view g c = rw (← c.self.view_is) refl
 
 pub returns-clause-going : goal.returns-clause-going
 returns-clause-going g c = rw (← c.self.view_is) (at_once c.is_clean.result _ c.if-self.false)

@@ -340,82 +340,16 @@ returns-clause-cost g c = rw (← c.self.view_is) (λ one. record {
   exact = c.in_default-migrate.ensures.cost.exact;
 })
 
-pub returns-then-self-clause-going : goal.returns-then-self-clause-going
-returns-then-self-clause-going g c = tt
-
-pub returns-then-self-clause-halted : goal.returns-then-self-clause-halted
-returns-then-self-clause-halted g c = tt
-
-pub returns-then-self-clause-calm : goal.returns-then-self-clause-calm
-returns-then-self-clause-calm g c = tt
-
-pub returns-then-self-clause-rewritten : goal.returns-then-self-clause-rewritten
-returns-then-self-clause-rewritten g c = tt
-
-pub returns-then-self-clause-layout : goal.returns-then-self-clause-layout
-returns-then-self-clause-layout g c = tt
-
-pub returns-then-self-clause-geometry : goal.returns-then-self-clause-geometry
-returns-then-self-clause-geometry g c = refl
-
-pub returns-then-self-clause-carousel : goal.returns-then-self-clause-carousel
-returns-then-self-clause-carousel g c = refl
-
-pub returns-then-self-clause-extents : goal.returns-then-self-clause-extents
-returns-then-self-clause-extents g c = refl
-
 pub returns-then-self-clause-cost : goal.returns-then-self-clause-cost
 returns-then-self-clause-cost g c = λ one. record { at_most = no_less _ _; exact = tt }
-
-pub returns-then-self-clause-layouts : goal.returns-then-self-clause-layouts
-returns-then-self-clause-layouts g c = λ s holds. tt
-
-pub returns-then-self-clause-ok : goal.returns-then-self-clause-ok
-returns-then-self-clause-ok g c = λ s holds. tt
-
-pub layout-requires : goal.layout-requires
-layout-requires g c = tt
-
-pub returns-in_default-clause-geometry : goal.returns-in_default-clause-geometry
-returns-in_default-clause-geometry g c = refl
-
-pub returns-in_default-clause-carousel : goal.returns-in_default-clause-carousel
-returns-in_default-clause-carousel g c = refl
-
-pub returns-in_default-clause-extents : goal.returns-in_default-clause-extents
-returns-in_default-clause-extents g c = refl
-
-pub returns-in_default-clause-halted : goal.returns-in_default-clause-halted
-returns-in_default-clause-halted g c = refl
-
-pub returns-in_default-clause-calm : goal.returns-in_default-clause-calm
-returns-in_default-clause-calm g c = refl
 
 pub returns-in_default-clause-layout : goal.returns-in_default-clause-layout
 returns-in_default-clause-layout g c = rw (← c.self.view_is)
     (no_third c.self.inside.journal.layout (λ one. c.in_default.not-One (c.layout.ensures ∙ one)))
 
-pub returns-in_default-clause-refused : goal.returns-in_default-clause-refused
-returns-in_default-clause-refused g c = tt
-
-pub returns-in_default-clause-untouched : goal.returns-in_default-clause-untouched
-returns-in_default-clause-untouched g c = tt
-
 pub returns-in_default-clause-layouts : goal.returns-in_default-clause-layouts
 returns-in_default-clause-layouts g c = λ s holds image left.
     (_, (holds.journal.each image left).read, returns-in_default-clause-layout g c)
-
-pub records_of-requires : goal.records_of-requires
-records_of-requires g c = tt
-
-pub returns-in_err-given-clause-geometry : goal.returns-in_err-given-clause-geometry
-returns-in_err-given-clause-geometry g c = refl
-
-pub returns-in_err-given-clause-carousel : goal.returns-in_err-given-clause-carousel
-returns-in_err-given-clause-carousel g c = refl
-
-pub returns-in_err-given-clause-extents : goal.returns-in_err-given-clause-extents
-returns-in_err-given-clause-extents g c = refl
 
 pub returns-in_err-given-clause-going : goal.returns-in_err-given-clause-going
 returns-in_err-given-clause-going g c =
@@ -436,47 +370,5 @@ returns-in_err-given-clause-layout g c =
 pub migrate-requires-clause-going : goal.migrate-requires-clause-going
 migrate-requires-clause-going g c = c.self.invariant.going c.if-self.false
 
-pub returns-in-Err-clause-carousel : goal.returns-in-Err-clause-carousel
-returns-in-Err-clause-carousel g c = rw (← c.self.view_is) refl
-
-pub returns-in-Err-clause-extents : goal.returns-in-Err-clause-extents
-returns-in-Err-clause-extents g c = rw (← c.self.view_is) refl
-
-pub returns-in-Err-clause-going : goal.returns-in-Err-clause-going
-returns-in-Err-clause-going g c = tt
-
-pub returns-in-Err-clause-halted : goal.returns-in-Err-clause-halted
-returns-in-Err-clause-halted g c = tt
-
-pub returns-in-Err-clause-calm : goal.returns-in-Err-clause-calm
-returns-in-Err-clause-calm g c = tt
-
-pub returns-in-Err-clause-rewritten : goal.returns-in-Err-clause-rewritten
-returns-in-Err-clause-rewritten g c = tt
-
-pub returns-in-Err-clause-layout : goal.returns-in-Err-clause-layout
-returns-in-Err-clause-layout g c = tt
-
-pub returns-in-Err-clause-layouts : goal.returns-in-Err-clause-layouts
-returns-in-Err-clause-layouts g c = λ s holds. tt
-
-pub returns-in-Err-clause-ok : goal.returns-in-Err-clause-ok
-returns-in-Err-clause-ok g c = λ s holds. tt
-
-pub returns-clause-carousel : goal.returns-clause-carousel
-returns-clause-carousel g c = rw (← c.self.view_is) refl
-
-pub returns-clause-extents : goal.returns-clause-extents
-returns-clause-extents g c = rw (← c.self.view_is) refl
-
-pub returns-clause-halted : goal.returns-clause-halted
-returns-clause-halted g c = rw (← c.self.view_is) refl
-
 pub returns-clause-calm : goal.returns-clause-calm
 returns-clause-calm g c = rw (← c.self.view_is) (calm_where_ok _ c.in_default-migrate.ensures.cause)
-
-pub returns-clause-refused : goal.returns-clause-refused
-returns-clause-refused g c = tt
-
-pub returns-clause-untouched : goal.returns-clause-untouched
-returns-clause-untouched g c = tt

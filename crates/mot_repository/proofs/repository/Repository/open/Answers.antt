@@ -46,12 +46,6 @@ returns-then-is_err-clause-only_syncs g c = record {
   still = λ honest. c.sync.ensures.still (c.sync.ensures.keeps.frame.was_honest honest);
 }
 
-pub returns-then-is_err-clause-going : goal.returns-then-is_err-clause-going
-returns-then-is_err-clause-going g c = tt
-
-pub returns-then-is_err-clause-opened : goal.returns-then-is_err-clause-opened
-returns-then-is_err-clause-opened g c = tt
-
 pub returns-then-is_err-clause-refused : goal.returns-then-is_err-clause-refused
 returns-then-is_err-clause-refused g c =
     device refl (c.sync.ensures.cause.cause (sym c.is_err.ensures.value ∙ c.if-is_err.true))
@@ -77,9 +71,6 @@ returns-in-Ok-clause-only_syncs g c =
 pub returns-in-Ok-clause-going : goal.returns-in-Ok-clause-going
 returns-in-Ok-clause-going g c = ap (λ (v : RepositoryView). v.halted) c.of.ensures.view
 
-pub returns-in-Ok-clause-refused : goal.returns-in-Ok-clause-refused
-returns-in-Ok-clause-refused g c = tt
-
 pub returns-in-Ok-clause-calm : goal.returns-in-Ok-clause-calm
 returns-in-Ok-clause-calm g c =
     let state = g.D.Disk.state in
@@ -98,12 +89,6 @@ returns-in-Err-clause-only_syncs g c =
     let state = g.D.Disk.state in
     syncs_on (state c.args.disk) (state c.sync.new.self) (state c.load_inventory.new.disk)
     c.sync.ensures.keeps.frame c.sync.ensures.still c.load_inventory.ensures.only_reads
-
-pub returns-in-Err-clause-going : goal.returns-in-Err-clause-going
-returns-in-Err-clause-going g c = tt
-
-pub returns-in-Err-clause-opened : goal.returns-in-Err-clause-opened
-returns-in-Err-clause-opened g c = tt
 
 pub returns-in-Err-clause-calm : goal.returns-in-Err-clause-calm
 returns-in-Err-clause-calm g c =

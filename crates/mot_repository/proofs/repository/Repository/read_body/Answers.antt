@@ -72,9 +72,6 @@ pub returns-in_default-clause-cost : goal.returns-in_default-clause-cost
 returns-in_default-clause-cost g c = rw (← c.self.view_is)
     (record { at_most = at_most _ _ c.read.ensures.called; exact = tt })
 
-pub returns-in_default-clause-view : goal.returns-in_default-clause-view
-returns-in_default-clause-view g c = rw (← c.self.view_is) refl
-
 pub returns-in_default-clause-unchanged : goal.returns-in_default-clause-unchanged
 returns-in_default-clause-unchanged g c = rw (← c.self.view_is) c.read.ensures.unchanged
 
@@ -90,17 +87,11 @@ pub returns-clause-cost : goal.returns-clause-cost
 returns-clause-cost g c = rw (← c.self.view_is)
     (record { at_most = at_most _ _ c.read.ensures.called; exact = c.read.ensures.called })
 
-pub returns-clause-view : goal.returns-clause-view
-returns-clause-view g c = rw (← c.self.view_is) refl
-
 pub returns-clause-unchanged : goal.returns-clause-unchanged
 returns-clause-unchanged g c = rw (← c.self.view_is) c.read.ensures.unchanged
 
 pub returns-clause-lies : goal.returns-clause-lies
 returns-clause-lies g c = c.place_on_disk-at.ensures.room
-
-pub returns-in_default-clause-fault : goal.returns-in_default-clause-fault
-returns-in_default-clause-fault g c = refl
 
 pub returns-in_default-clause-honest : goal.returns-in_default-clause-honest
 returns-in_default-clause-honest g c = rw (← c.self.view_is) c.in_default.ensures.honest
