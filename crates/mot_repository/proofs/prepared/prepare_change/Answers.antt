@@ -115,6 +115,3 @@ returns-clause-prepared c = λ view k told.
     ]))
     (rw geometry (search rules))
     c.body_bytes-body.ensures.value (rw (carousel, extents) c.in_ok-extents.ensures)
-
-pub returns-clause-short : goal.returns-clause-short
-returns-clause-short c = sym c.is_name_too_long.ensures.value ∙ c.if-is_name_too_long.false

@@ -124,28 +124,3 @@ loop-entry-init c = record {
       ∙ ap folded (sym c.in_ok-folded.ensures.new);
   folds = search rules;
 }
-
-pub folded_after-requires-clause-bounded : goal.folded_after-requires-clause-bounded
-folded_after-requires-clause-bounded c = c.loop-entry.invariant.bounded
-
-pub folded_after-requires-clause-few : goal.folded_after-requires-clause-few
-folded_after-requires-clause-few c = c.requires.few
-
-pub folded_after-requires-clause-room : goal.folded_after-requires-clause-room
-folded_after-requires-clause-room c = c.loop-entry.invariant.room
-
-pub folded_after-requires-clause-room_of_extents : goal.folded_after-requires-clause-room_of_extents
-folded_after-requires-clause-room_of_extents c = c.loop-entry.invariant.room_of_extents
-
-pub folded_after-requires-clause-consistent : goal.folded_after-requires-clause-consistent
-folded_after-requires-clause-consistent c = c.loop-entry.invariant.consistent
-
-pub overflow_cast-slot : goal.overflow_cast-slot
-overflow_cast-slot c =
-    let next = turn_is (goal.at.overflow_cast-slot c).In-Some in
-    omega (arith, next.within, c.requires.numbered, c.args.records.ok.0)
-
-pub overflow_add-slot : goal.overflow_add-slot
-overflow_add-slot c =
-    let next = turn_is (goal.at.overflow_add-slot c).In-Some in
-    omega (arith, next.within, c.requires.numbered, c.args.records.ok.0)

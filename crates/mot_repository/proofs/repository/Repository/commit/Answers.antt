@@ -5,7 +5,6 @@ use Rattle.disk_model.proofs.Laws.{at_end}
 use Rattle.disk_model.specs.Disk.{State, Costs}
 use Rattle.disk_model.specs.Failures.{HasCause}
 use Rattle.mot_journal.specs.Image.{Standing}
-use Rattle.mot_numbers.specs.declared.refusal.Refusal.TheVariants.{DeviceFault}
 use Rattle.mot_objects.specs.declared.command.Done.{Done}
 use Rattle.mot_repository.specs.Answers.{IsChanged, IsHalted}
 use Rattle.mot_repository.specs.Inner.InOrder.{view_with}
@@ -112,11 +111,6 @@ same_cost : {T E A : Type 0} {n : ℕ} {old new : State} (w : Result T E) (d : A
 same_cost (Ok v) d is = record { at_most = is.at_most; exact = is.exact }
 same_cost (Err e) d is = record { at_most = is.at_most; exact = tt }
 
-pub returns-clause-cause : goal.returns-clause-cause
-returns-clause-cause g c = rw (← c.self.view_is) (rw c.take_up.ensures.answer
-    (same_cause c.commit_change-written.result c.args.prepared.done
-    c.commit_change-written.ensures.cause))
-
 pub returns-clause-cost : goal.returns-clause-cost
 returns-clause-cost g c = rw (← c.self.view_is) (λ command is. rw c.take_up.ensures.answer
     (same_cost c.commit_change-written.result c.args.prepared.done
@@ -133,14 +127,6 @@ where_refused : {T E A B : Type 0} (w : Result T E) (d : A) (old next : B) (P : 
     → P old true → OnErr (result_and w (Ok d)) (P (if is_ok w then next else old) (is_err w))
 where_refused (Ok v) d old next P is = tt
 where_refused (Err e) d old next P is = is
-
-pub returns-clause-keeps : goal.returns-clause-keeps
-returns-clause-keeps g c = rw (← c.self.view_is) c.commit_change-written.ensures.keeps
-
-pub returns-clause-fault : goal.returns-clause-fault
-returns-clause-fault g c = rw c.take_up.ensures.answer
-    (same_refusal c.commit_change-written.result c.args.prepared.done
-    (λ refusal. refusal ≡ DeviceFault) c.commit_change-written.ensures.fault)
 
 pub returns-clause-halted : goal.returns-clause-halted
 returns-clause-halted g c =

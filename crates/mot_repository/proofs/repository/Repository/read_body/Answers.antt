@@ -1,4 +1,4 @@
-use Rattle.std.proofs.Common.{◌≡◌, ◌∙◌, ◌+◌, ◌≤◌, ℕ, length, refl, sym, ap, arith}
+use Rattle.std.proofs.Common.{◌≡◌, ◌∙◌, ◌+◌, ◌≤◌, ℕ, length, sym, ap, arith}
 use Rattle.std.proofs.Common.{slice_range}
 use Rattle.mot_numbers.specs.Geometry.{area_start}
 use Rattle.mot_repository.specs.OnDisk.{extent_at, body_on}
@@ -59,39 +59,3 @@ returns-clause-bytes g c = λ s has honest.
     returns-clause-read g c honest
     ∙ sym (ap (λ body. slice_range body c.args.from (c.args.from + n))
     (body_held old.view s (g.D.Disk.state old.disk) sound has c.args.place c.requires.place))
-
-pub returns-in_default-clause-keeps : goal.returns-in_default-clause-keeps
-returns-in_default-clause-keeps g c = rw (← c.self.view_is) c.read.ensures.keeps
-
-pub returns-in_default-clause-cause : goal.returns-in_default-clause-cause
-returns-in_default-clause-cause g c = rw (← c.self.view_is) (
-    let k = c.in_default.ensures.cause in
-    record { later = k.later; fits = k.fits; cause = k.cause; shown = k.shown })
-
-pub returns-in_default-clause-cost : goal.returns-in_default-clause-cost
-returns-in_default-clause-cost g c = rw (← c.self.view_is)
-    (record { at_most = at_most _ _ c.read.ensures.called; exact = tt })
-
-pub returns-in_default-clause-unchanged : goal.returns-in_default-clause-unchanged
-returns-in_default-clause-unchanged g c = rw (← c.self.view_is) c.read.ensures.unchanged
-
-pub returns-in_default-clause-lies : goal.returns-in_default-clause-lies
-returns-in_default-clause-lies g c = c.place_on_disk-at.ensures.room
-
-pub returns-clause-cause : goal.returns-clause-cause
-returns-clause-cause g c = rw (← c.self.view_is) (
-    let k = c.in-Ok.ensures.cause in
-    record { later = k.later; fits = k.fits; cause = k.cause; shown = k.shown })
-
-pub returns-clause-cost : goal.returns-clause-cost
-returns-clause-cost g c = rw (← c.self.view_is)
-    (record { at_most = at_most _ _ c.read.ensures.called; exact = c.read.ensures.called })
-
-pub returns-clause-unchanged : goal.returns-clause-unchanged
-returns-clause-unchanged g c = rw (← c.self.view_is) c.read.ensures.unchanged
-
-pub returns-clause-lies : goal.returns-clause-lies
-returns-clause-lies g c = c.place_on_disk-at.ensures.room
-
-pub returns-in_default-clause-honest : goal.returns-in_default-clause-honest
-returns-in_default-clause-honest g c = rw (← c.self.view_is) c.in_default.ensures.honest
