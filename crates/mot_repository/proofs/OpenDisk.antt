@@ -277,11 +277,3 @@ syncs_on old mid new keeps still reads = record {
 -- a sync and two calls more are three calls
 pub three_calls : (old mid new : ℕ) → mid ≡ old + 1 → new ≡ mid + 2 → new ≡ old + 3
 three_calls old mid new one two = omega arith
-
--- a sync and at most two calls more are at most three calls
-pub at_most_three : (old mid new : ℕ) → mid ≡ old + 1 → new ≤ mid + 2 → new ≤ old + 3
-at_most_three old mid new one two = omega arith
-
--- a sync alone is at most three calls
-pub one_of_three : (old new : ℕ) → new ≡ old + 1 → new ≤ old + 3
-one_of_three old new one = omega arith

@@ -1,6 +1,6 @@
 use Rattle.std.proofs.Common.{◌≡◌, ◌∙◌, ◌+◌, ◌≤◌, ◌<◌, ℕ, false, true, inl, inr, refl, sym, ap}
 use Rattle.std.proofs.Common.{subst, arith}
-use Rattle.std.proofs.lemmas.Bool.{cases_lt, le-leb, false_from_ne_true, leb-true}
+use Rattle.std.proofs.lemmas.Bool.{le-leb, false_from_ne_true, leb-true}
 use Rattle.std.specs.Prelude.{if◌then◌else◌, nat_le}
 use Rattle.std.proofs.lemmas.Result.{on_ok_weaker}
 use Rattle.disk_model.proofs.Laws.{begins}
@@ -15,12 +15,6 @@ use Rattle.mot_repository.proofs.commit.make_room.Goals as goal
 
 not_both : false ≡ true → ⊥
 not_both e = cc
-
-below : (a b : ℕ) → (b ≤ a → ⊥) → a < b
-below a b not = elim (cases_lt a b) [ inl lt ↦ lt | inr le ↦ absurd (not le) ]
-
-no_more : {a b : ℕ} → a < b → a ≤ b
-no_more lt = omega arith
 
 none_more : (a n : ℕ) → n ≡ 0 → a ≡ a + n
 none_more a n none = omega arith

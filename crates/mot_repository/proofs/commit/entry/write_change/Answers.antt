@@ -1,8 +1,7 @@
 use Rattle.std.proofs.Common.{◌≡◌, ℕ, ◌+◌, List, ◌++◌, [], ◌∷◌, ◌∙◌, Ok, inl, sym, ap, subst}
-use Rattle.std.proofs.Common.{length, ◌≤◌, Result, arith}
+use Rattle.std.proofs.Common.{length, ◌≤◌, arith}
 use Rattle.std.proofs.lemmas.Result.{err_from_is_err_and, on_ok_weaker}
 use Rattle.disk_model.specs.Disk.{WritesWithin}
-use Rattle.disk_model.specs.Failures.{HasCause}
 use Rattle.disk_model.proofs.Laws.{weakens, keeps_all_on}
 use Rattle.mot_journal.specs.declared.record.Record.{Record}
 use Rattle.mot_journal.specs.Image.{catalogue_of}
@@ -27,11 +26,6 @@ at_most_four_behind a b mid n first then = omega arith
 
 four_behind : (a b mid n : ℕ) → mid ≡ a + b → n ≡ mid + 4 → n ≡ a + (b + 4)
 four_behind a b mid n first then = omega arith
-
--- a call behind calm ones has a cause in all of them
-behind_calm : {T E : Type 0} {r : Result T E} (before mid now : ℕ) → mid ≡ before
-    → HasCause mid now r → HasCause before now r
-behind_calm {T} {E} {r} before mid now calm is = subst (λ n. HasCause n now r) calm is
 
 -- what the write of the body left
 body_left : (g : given.Over) (c : After-write_body g) (view : RepositoryView) (s : Standing)

@@ -1,9 +1,8 @@
 use Rattle.std.proofs.Common.{◌≡◌, ℕ, Bool, Result, Ok, Err, true, false, refl, sym, subst}
-use Rattle.std.specs.Prelude.{IfOk, IfErr, OnOk, OnErr, if◌then◌else◌, is_err, is_ok}
+use Rattle.std.specs.Prelude.{IfOk, OnOk, OnErr, if◌then◌else◌, is_err, is_ok}
 use Rattle.std.specs.Result.{result_and}
 use Rattle.disk_model.proofs.Laws.{at_end}
 use Rattle.disk_model.specs.Disk.{State, Costs}
-use Rattle.disk_model.specs.Failures.{HasCause}
 use Rattle.mot_journal.specs.Image.{Standing}
 use Rattle.mot_objects.specs.declared.command.Done.{Done}
 use Rattle.mot_repository.specs.Answers.{IsChanged, IsHalted}
@@ -97,14 +96,6 @@ returns-clause-ok g c = rw (← c.self.view_is) (λ command is s holds.
     (sym c.deref.ensures.value) is.prepared) holds)
     (λ found. (found.0, found.1, found.2 new refl refl refl is.extents_are)))
 
--- a failure's cause is also that of what was answered then
-same_cause : {T E A : Type 0} {before now : ℕ} (w : Result T E) (d : A) → HasCause before now w
-    → HasCause before now (result_and w (Ok d))
-same_cause (Ok v) d is =
-    record { later = is.later; fits = is.fits; cause = is.cause; shown = is.shown }
-same_cause (Err e) d is =
-    record { later = is.later; fits = is.fits; cause = is.cause; shown = is.shown }
-
 -- and the cost is the same
 same_cost : {T E A : Type 0} {n : ℕ} {old new : State} (w : Result T E) (d : A)
     → Costs n old new w → Costs n old new (result_and w (Ok d))
@@ -115,12 +106,6 @@ pub returns-clause-cost : goal.returns-clause-cost
 returns-clause-cost g c = rw (← c.self.view_is) (λ command is. rw c.take_up.ensures.answer
     (same_cost c.commit_change-written.result c.args.prepared.done
     (rw (← is.body_is) c.commit_change-written.ensures.cost)))
-
--- so is the refusal
-same_refusal : {T E A : Type 0} (w : Result T E) (d : A) (P : E → Type 0) → IfErr w P
-    → IfErr (result_and w (Ok d)) P
-same_refusal (Ok v) d P is = tt
-same_refusal (Err e) d P is = is
 
 -- a fault leaves what was kept, and halts
 where_refused : {T E A B : Type 0} (w : Result T E) (d : A) (old next : B) (P : B → Bool → Type 0)

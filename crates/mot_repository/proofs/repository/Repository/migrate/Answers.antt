@@ -1,5 +1,5 @@
 use Rattle.std.proofs.Common.{◌≡◌, ◌∙◌, refl, sym, ap, subst, arith}
-use Rattle.std.proofs.Common.{true, false, ℕ, ◌+◌, ◌≤◌}
+use Rattle.std.proofs.Common.{true, false, ℕ, ◌≤◌}
 use Rattle.disk_model.proofs.Laws.{at_end}
 use Rattle.mot_journal.specs.declared.layout.Layout.{Layout}
 use Rattle.mot_journal.specs.declared.layout.Layout.TheVariants.{One, Two}
@@ -14,10 +14,6 @@ use Rattle.mot_repository.proofs.Layouts.{migrates, whole_in_two}
 use Rattle.mot_repository.proofs.Moved.{here, folds, moments, held, rewrites}
 use Rattle.mot_repository.proofs.repository.Repository.migrate.Goals as goal
 
--- a journal is of one layout
-not_both : Two ≡ One → ⊥
-not_both e = cc
-
 -- a journal of another layout than the first is of the second
 no_third : (layout : Layout) → (layout ≡ One → ⊥) → layout ≡ Two
 no_third One not = absurd (not refl)
@@ -30,10 +26,6 @@ halted_goes e = cc
 -- a disk that kept its length is long enough
 no_shorter : (n len len' : ℕ) → n ≤ len → len' ≡ len → n ≤ len'
 no_shorter n len len' le same = omega arith
-
--- a sum is no less than its first part
-no_less : (n more : ℕ) → n ≤ n + more
-no_less n more = omega arith
 
 pub migrate-requires-clause-few : goal.migrate-requires-clause-few
 migrate-requires-clause-few g c =

@@ -1,12 +1,9 @@
-use Rattle.std.proofs.Common.{◌≡◌, ◌∙◌, ◌+◌, ◌≤◌, ℕ, length, sym, ap, arith}
+use Rattle.std.proofs.Common.{◌≡◌, ◌∙◌, ◌+◌, length, sym, ap, arith}
 use Rattle.std.proofs.Common.{slice_range}
 use Rattle.mot_numbers.specs.Geometry.{area_start}
 use Rattle.mot_repository.specs.OnDisk.{extent_at, body_on}
 use Rattle.mot_repository.proofs.Bodies.{part_of_part, body_held}
 use Rattle.mot_repository.proofs.repository.Repository.read_body.Goals as goal
-
-at_most : (n m : ℕ) → n ≡ m → n ≤ m
-at_most n m is = omega arith
 
 pub read-requires : goal.read-requires
 read-requires g c =
