@@ -52,7 +52,7 @@ use Rattle.mot_update.specs.Told.{answers_of, came_of, was_accepted}
 use Rattle.mot_update.specs.Updating.{is_known}
 use Rattle.mot_update.specs.declared.settling.SettleOutcome.{SettleOutcome}
 use Rattle.mot_update.specs.declared.settling.SettleOutcome.TheVariants as settles
-use Rattle.mot_update.specs.declared.wanted.Wanted.{Wanted}
+use Rattle.mot_objects.specs.declared.command.Item.{Item}
 
 -- those that were read, of more entries
 pub read-more : (entries more : List LookEvent)
@@ -212,7 +212,7 @@ image_noted name None = refl
 image_noted name (Some other) = refl
 
 -- what is noted of one object more
-notes_more : (wanted : List Wanted) (w : Wanted)
+notes_more : (wanted : List Item) (w : Item)
     → all_image_notes (wanted ++ w ∷ []) ≡ all_image_notes wanted ++ image_notes w
 notes_more wanted w = flat_map-append image_notes wanted (w ∷ [])
     ∙ ap (λ l. all_image_notes wanted ++ l) (append-nil (image_notes w))
@@ -220,14 +220,14 @@ notes_more wanted w = flat_map-append image_notes wanted (w ∷ [])
 -- ---- names that were gone over
 
 -- two lists that nothing was added to
-pub plain : (P : List Answer → List Wanted → Type 0) (answers : List Answer) (given : List Wanted)
+pub plain : (P : List Answer → List Item → Type 0) (answers : List Answer) (given : List Item)
     → P (answers ++ []) (given ++ []) → P answers given
 plain P answers given told =
-    subst (λ (l : List Wanted). P answers l) (append-nil given)
+    subst (λ (l : List Item). P answers l) (append-nil given)
     (subst (λ (l : List Answer). P l (given ++ [])) (append-nil answers) told)
 
 -- one behind the other
-pub behind : (P Q R : List Answer → List Wanted → Type 0) (more : List Wanted)
+pub behind : (P Q R : List Answer → List Item → Type 0) (more : List Item)
     → TellsBoth P Q [] [] → TellsBoth Q R [] more → TellsBoth P R [] more
 behind P Q R more first last = λ given answers was.
     last given answers (plain Q answers given (first given answers was))
@@ -270,15 +270,15 @@ answers_kept kept name (settles.Put came) is = (is, tt)
 answers_kept kept name (settles.Replaced came) is = (is, tt)
 
 -- nothing more was told or given
-pub both_same : (P : List Answer → List Wanted → Type 0) → TellsBoth P P [] []
+pub both_same : (P : List Answer → List Item → Type 0) → TellsBoth P P [] []
 both_same P = λ given answers was.
-    subst (λ (l : List Wanted). P (answers ++ []) l) (sym (append-nil given))
+    subst (λ (l : List Item). P (answers ++ []) l) (sym (append-nil given))
     (subst (λ (l : List Answer). P l given) (sym (append-nil answers)) was)
 
 -- what is wanted of a file has its name
-pub named_of : {types : List SuffixType} {g h : Given} (name : List ℕ) (w : Wanted)
+pub named_of : {types : List SuffixType} {g h : Given} (name : List ℕ) (w : Item)
     → Takes types name g h w → name ≡ w.name
-named_of name w is = sym (ap (λ (v : Wanted). v.name) is.made)
+named_of name w is = sym (ap (λ (v : Item). v.name) is.made)
 
 why_so : {P E F : Type 0} → (E → F) → P ⊎ E → P ⊎ F
 why_so on (inl untakable) = inl untakable
@@ -305,7 +305,7 @@ module _ (types : List SuffixType) where
   -- what came of files, where memory may have been wanted for the one or for the other
   pub taken_so : {E F : Type 0} → (E → F) → {names : List (List ℕ)}
       {read : List (List ℕ × List ℕ)} {unchanged : List (List ℕ × Stamp)}
-      {missed : List (List ℕ)} {wanted : List Wanted}
+      {missed : List (List ℕ)} {wanted : List Item}
       {told : List (List ℕ)} → AreTaken types E names read unchanged missed wanted told
       → AreTaken types F names read unchanged missed wanted told
   taken_so on no_file = no_file
@@ -339,7 +339,7 @@ module _ (types : List SuffixType) where
       let last = event_for answer why in
       let is = answer_told answer why in
       λ given answers was.
-      subst (λ (l : List Wanted). TellsOf types g new after names (answers ++ answer ∷ []) l)
+      subst (λ (l : List Item). TellsOf types g new after names (answers ++ answer ∷ []) l)
       (sym (append-nil given)) (record {
         entries = was.entries ++ last ∷ [];
         told = one was.entries was.told;
@@ -370,7 +370,7 @@ module _ (types : List SuffixType) where
   counted_one g old new waiting names answer any stays counted is_kept one =
       let after = and_waiting waiting (is_waiting answer) in
       λ given answers was.
-      subst (λ (l : List Wanted). TellsOf types g new after names (answers ++ answer ∷ []) l)
+      subst (λ (l : List Item). TellsOf types g new after names (answers ++ answer ∷ []) l)
       (sym (append-nil given)) (record {
         entries = was.entries;
         told = one was.entries was.told;
@@ -409,7 +409,7 @@ module _ (types : List SuffixType) where
       told_or_counted g old new waiting names answer why _ any stays refl is_kept one
 
   -- a file of this name is gone over that is not taken
-  more_missed : {E : Type 0} (old new : Given) (names missed : List (List ℕ)) (given : List Wanted)
+  more_missed : {E : Type 0} (old new : Given) (names missed : List (List ℕ)) (given : List Item)
       (name : List ℕ) → Misses types name old new E
       → AreTaken types E names old.read old.unchanged old.missed given missed
       → AreTaken types E (names ++ name ∷ []) new.read new.unchanged new.missed given
@@ -438,8 +438,8 @@ module _ (types : List SuffixType) where
       subst (λ (n : Given). SameNames old n × (n.kept ≡ old.kept)) (sym is) ((refl, refl, refl), refl)
 
   -- one that is
-  more_taken : {E : Type 0} (old new : Given) (names missed : List (List ℕ)) (given : List Wanted)
-      (name : List ℕ) (w : Wanted) → Takes types name old new w
+  more_taken : {E : Type 0} (old new : Given) (names missed : List (List ℕ)) (given : List Item)
+      (name : List ℕ) (w : Item) → Takes types name old new w
       → AreTaken types E names old.read old.unchanged old.missed given missed
       → AreTaken types E (names ++ name ∷ []) new.read new.unchanged new.missed (given ++ w ∷ [])
       missed
@@ -447,7 +447,7 @@ module _ (types : List SuffixType) where
       subst (λ (n : Given).
       AreTaken types E (names ++ name ∷ []) n.read n.unchanged n.missed (given ++ w ∷ []) missed)
       (sym is.read)
-      (subst (λ (v : Wanted). AreTaken types E (names ++ name ∷ [])
+      (subst (λ (v : Item). AreTaken types E (names ++ name ∷ [])
       (old.read ++ (name, is.bytes) ∷ []) old.unchanged
       old.missed (given ++ v ∷ []) missed) (sym is.made)
       (one_wanted names old.missed missed old.read old.unchanged given name is.bytes is.type is.typed was))
@@ -460,7 +460,7 @@ module _ (types : List SuffixType) where
       (TellsOf types h new waiting (names ++ name ∷ [])) [] []
   of_missed g h old new waiting names name is any stays one = λ given answers was.
       let last = event_of name one.0 in
-      subst (λ (l : List Wanted). TellsOf types h new waiting (names ++ name ∷ []) (answers ++ []) l)
+      subst (λ (l : List Item). TellsOf types h new waiting (names ++ name ∷ []) (answers ++ []) l)
       (sym (append-nil given))
       (subst (λ (l : List Answer). TellsOf types h new waiting (names ++ name ∷ []) l given)
       (sym (append-nil answers)) (record {
@@ -482,7 +482,7 @@ module _ (types : List SuffixType) where
 
   -- an object is given, and its image type noted
   pub of_given : (g h : Given) (old new : Report) (waiting : ℕ) (names : List (List ℕ))
-      (name : List ℕ) (w : Wanted) → Takes types name g h w → NotesImage old new w
+      (name : List ℕ) (w : Item) → Takes types name g h w → NotesImage old new w
       → TellsBoth (TellsOf types g old waiting names)
       (TellsOf types h new waiting (names ++ name ∷ [])) [] (w ∷ [])
   of_given g h old new waiting names name w is notes = λ given answers was.
@@ -515,7 +515,7 @@ module _ (types : List SuffixType) where
   of_passed g h report waiting names name stamp is = λ given answers was.
       subst (λ (n : Given). TellsOf types n report waiting (names ++ name ∷ []) (answers ++ [])
       (given ++ [])) (sym is)
-      (subst (λ (l : List Wanted). TellsOf types (and_unchanged g name stamp) report waiting
+      (subst (λ (l : List Item). TellsOf types (and_unchanged g name stamp) report waiting
       (names ++ name ∷ []) (answers ++ []) l) (sym (append-nil given))
       (subst (λ (l : List Answer). TellsOf types (and_unchanged g name stamp) report waiting
       (names ++ name ∷ []) l given) (sym (append-nil answers)) (record {
@@ -535,7 +535,7 @@ module _ (types : List SuffixType) where
   -- a note is told
   pub of_note : (g : Given) (old new : Report) (waiting : ℕ) (names : List (List ℕ)) (name : List ℕ)
       (outcome : LookResult)
-      (answers : List Answer) (given : List Wanted) → is_note outcome ≡ true
+      (answers : List Answer) (given : List Item) → is_note outcome ≡ true
       → new.any_refused ≡ old.any_refused
       → new.any_without_memory ≡ old.any_without_memory
       → TellsOne old new (event_of name outcome)
@@ -584,12 +584,12 @@ module _ (types : List SuffixType) where
   -- where no file is told, and none passed over, each name is that of an object
   taken_all : {E : Type 0} {names : List (List ℕ)} {read : List (List ℕ × List ℕ)}
       {unchanged : List (List ℕ × Stamp)}
-      {missed : List (List ℕ)} {wanted : List Wanted} {told : List (List ℕ)}
+      {missed : List (List ℕ)} {wanted : List Item} {told : List (List ℕ)}
       → AreTaken types E names read unchanged missed wanted told → told ≡ [] → unchanged ≡ []
       → names_of wanted ≡ names
   taken_all no_file none all = refl
   taken_all (one_wanted names missed told read unchanged others name bytes type typed was) none all =
-      map-append (λ (w : Wanted). w.name) others _
+      map-append (λ (w : Item). w.name) others _
       ∙ ap (λ l. l ++ name ∷ []) (taken_all was none all)
   taken_all (one_unchanged names missed told read unchanged others name stamp was) none all =
       absurd (last_none unchanged (name, stamp) all)
@@ -601,7 +601,7 @@ module _ (types : List SuffixType) where
       absurd (last_none told name none)
 
   -- so an object was given of each
-  pub every_named : (given : Given) (names : List (List ℕ)) (wanted : List Wanted)
+  pub every_named : (given : Given) (names : List (List ℕ)) (wanted : List Item)
       (fault : Option Refusal) (entries : List LookEvent)
       → EachIsTold types given names wanted fault entries → names_read entries ≡ []
       → given.unchanged ≡ [] → names_of wanted ≡ names
@@ -632,7 +632,7 @@ module _ (began : LookStart) (types : List SuffixType) (known : List Known) (pat
     (names : List (List ℕ)) where
   -- what was given and told in a look goes on
   pub look_on : (g h : Given) (place after : ℕ) (old new : Report) (waiting waits : ℕ) (answers : List Answer)
-      (more : List Wanted) → (IsListing types path g names → IsListing types path h names)
+      (more : List Item) → (IsListing types path g names → IsListing types path h names)
       → TellsBoth (TellsOf types g old waiting (take place names))
       (TellsOf types h new waits (take after names)) answers more
       → TellsBoth (TellsLook began types known path g names place old waiting)
@@ -645,8 +645,8 @@ module _ (began : LookStart) (types : List SuffixType) (known : List Known) (pat
   }
 
   -- and an object of the next name is given
-  pub then_given : (P : List Answer → List Wanted → Type 0) (g h : Given) (place : ℕ)
-      (old new : Report) (waiting : ℕ) (name : List ℕ) (w : Wanted)
+  pub then_given : (P : List Answer → List Item → Type 0) (g h : Given) (place : ℕ)
+      (old new : Report) (waiting : ℕ) (name : List ℕ) (w : Item)
       → TellsBoth P (TellsLook began types known path g names place old waiting) [] []
       → place < length names → slice_get names place ≡ Some name → Takes types name g h w
       → NotesImage old new w
@@ -662,7 +662,7 @@ module _ (began : LookStart) (types : List SuffixType) (known : List Known) (pat
       (of_given types g h old new waiting (take place names) name w is notes)))
 
   -- or it is told as that of a file that could not be taken
-  pub then_missed : {E : Type 0} (P : List Answer → List Wanted → Type 0) (g h : Given) (place : ℕ)
+  pub then_missed : {E : Type 0} (P : List Answer → List Item → Type 0) (g h : Given) (place : ℕ)
       (old new : Report) (waiting : ℕ) (name : List ℕ)
       → TellsBoth P (TellsLook began types known path g names place old waiting) [] []
       → place < length names → slice_get names place ≡ Some name → Misses types name g h E
@@ -681,7 +681,7 @@ module _ (began : LookStart) (types : List SuffixType) (known : List Known) (pat
       one)))
 
   -- or the file of the next name is passed over
-  pub then_passed : (P : List Answer → List Wanted → Type 0) (g h : Given) (place : ℕ)
+  pub then_passed : (P : List Answer → List Item → Type 0) (g h : Given) (place : ℕ)
       (report : Report) (waiting : ℕ) (name : List ℕ) (stamp : Stamp)
       → TellsBoth P (TellsLook began types known path g names place report waiting) [] []
       → place < length names → slice_get names place ≡ Some name
@@ -698,8 +698,8 @@ module _ (began : LookStart) (types : List SuffixType) (known : List Known) (pat
       (of_passed types g h report waiting (take place names) name stamp is)))
 
   -- an object is offered: its file was read
-  pub then_offered : (P : List Answer → List Wanted → Type 0) (g h : Given) (place : ℕ)
-      (report : Report) (waiting : ℕ) (name : List ℕ) (w : Wanted)
+  pub then_offered : (P : List Answer → List Item → Type 0) (g h : Given) (place : ℕ)
+      (report : Report) (waiting : ℕ) (name : List ℕ) (w : Item)
       → TellsBoth P (TellsLook began types known path g names place report waiting) [] []
       → place < length names → slice_get names place ≡ Some name → Takes types name g h w
       → TellsBoth P (TellsOffered began types known path h names (place + 1) report waiting w) [] []
@@ -715,7 +715,7 @@ module _ (began : LookStart) (types : List SuffixType) (known : List Known) (pat
 
   -- nothing is read for a file that is made to last
   look_kept : (h : Given) (place : ℕ) (report : Report) (waiting : ℕ) (name : List ℕ)
-      (told : List Answer) (gave : List Wanted)
+      (told : List Answer) (gave : List Item)
       → TellsLook began types known path h names place report waiting told gave
       → TellsLook began types known path (and_kept h name) names place report waiting told gave
   look_kept h place report waiting name told gave is = record {
@@ -737,7 +737,7 @@ module _ (began : LookStart) (types : List SuffixType) (known : List Known) (pat
   }
 
   -- and then it is given
-  pub then_taken : (h : Given) (place : ℕ) (old new : Report) (waiting : ℕ) (w : Wanted)
+  pub then_taken : (h : Given) (place : ℕ) (old new : Report) (waiting : ℕ) (w : Item)
       → NotesImage old new w
       → TellsBoth (TellsOffered began types known path h names place old waiting w)
       (TellsLook began types known path h names place new waiting) [] (w ∷ [])
@@ -749,7 +749,7 @@ module _ (began : LookStart) (types : List SuffixType) (known : List Known) (pat
       (both_same before) was.within was.named was.takes notes given answers was.was)
 
   -- also if it was made to last before
-  pub then_kept : (h k : Given) (place : ℕ) (old new : Report) (waiting : ℕ) (w : Wanted)
+  pub then_kept : (h k : Given) (place : ℕ) (old new : Report) (waiting : ℕ) (w : Item)
       (name : List ℕ) → k ≡ and_kept h name → NotesImage old new w
       → TellsBoth (TellsOffered began types known path h names place old waiting w)
       (TellsLook began types known path k names place new waiting) [] (w ∷ [])
@@ -760,7 +760,7 @@ module _ (began : LookStart) (types : List SuffixType) (known : List Known) (pat
       (then_taken h place old new waiting w notes given answers was))
 
   -- or its file is told as one that could not be taken
-  pub then_left : (h k : Given) (place : ℕ) (old new : Report) (waiting : ℕ) (w : Wanted)
+  pub then_left : (h k : Given) (place : ℕ) (old new : Report) (waiting : ℕ) (w : Item)
       → k ≡ and_missed h w.name → new.any_refused ≡ true
       → (old.any_without_memory ≡ true → new.any_without_memory ≡ true)
       → TellsFile old new w.name

@@ -23,7 +23,7 @@ use Rattle.mot_suffixes.specs.Types.{SuffixType}
 use Rattle.mot_suffixes.specs.declared.images.OtherImage.{OtherImage}
 use Rattle.mot_update.specs.Told.{Answer, Put, Replaced, Withdrew, came_of, was_accepted}
 use Rattle.mot_update.specs.Updating.{is_known}
-use Rattle.mot_update.specs.declared.wanted.Wanted.{Wanted}
+use Rattle.mot_objects.specs.declared.command.Item.{Item}
 
 -- what came of a command, with the reason of a refusal
 abbrev pub result_for : LookStep → Attempt → Why → LookResult
@@ -112,10 +112,10 @@ image_note name (Some other) = event_of name (outcome.OtherImage other) ∷ []
 
 -- what is noted of a wanted object: exactly where its suffix says an image type that its bytes do
 -- not begin as
-abbrev pub image_notes : Wanted → List LookEvent
+abbrev pub image_notes : Item → List LookEvent
 image_notes w = image_note w.name (other_image w.content w.body)
 
-abbrev pub all_image_notes : List Wanted → List LookEvent
+abbrev pub all_image_notes : List Item → List LookEvent
 all_image_notes wanted = flat_map image_notes wanted
 
 -- the object of a command has to wait, since there are as many as there may be
@@ -165,7 +165,7 @@ AreKept kept answers = AllByRecursion (IsKept kept) answers
 -- files; before that the files are told that have no name of an object. Of each object that was given its image type is noted where
 -- its bytes do not begin as its suffix says.
 pub record TellsOf (types : List SuffixType) (given : Given) (report : Report) (waiting : ℕ)
-    (names : List (List ℕ)) (answers : List Answer) (wanted : List Wanted) : Type 0 where
+    (names : List (List ℕ)) (answers : List Answer) (wanted : List Item) : Type 0 where
   pub entries : List LookEvent
   pub told : ReportTells report entries
   pub are : of_look entries ≡ map event_of_answer (told_of answers)

@@ -38,7 +38,7 @@ use Rattle.mot_update.specs.Looking.{AreAccepted}
 use Rattle.mot_update.specs.Told.{Answer, AreAnswers, AreAttemptsOf}
 use Rattle.mot_update.specs.Updating.{updating}
 use Rattle.mot_update.specs.declared.moment.UpdatePoint.{UpdatePoint}
-use Rattle.mot_update.specs.declared.wanted.Wanted.{Wanted}
+use Rattle.mot_objects.specs.declared.command.Item.{Item}
 
 -- Why the folder of this path is not listed, which gave this: a call of it failed, or it gave names
 -- without an end; too many of its names have one of the suffixes; or memory was wanted.
@@ -58,7 +58,7 @@ pub data IsUnlisted (types : List SuffixType) (path : List ℕ) (given : Given)
 -- that a fault ended. Of the objects, exactly those are noted whose suffix says an image type that
 -- their bytes do not begin as.
 pub record EachIsTold (types : List SuffixType) (given : Given) (names : List (List ℕ))
-    (wanted : List Wanted) (fault : Option Refusal) (entries : List LookEvent) : Type 0 where
+    (wanted : List Item) (fault : Option Refusal) (entries : List LookEvent) : Type 0 where
   pub missed : List (List ℕ)
   pub read : names_read entries ≡ nameless given.files ++ missed
   pub taken : AreTaken types (fault ≢ None) names given.read given.unchanged given.missed wanted
@@ -71,7 +71,7 @@ pub record EachIsTold (types : List SuffixType) (given : Given) (names : List (L
 -- before it, and those are behind it.
 pub data IsLook (types : List SuffixType) (guard : Guard) (path : List ℕ) (given : Given)
     (c : Carousel) (commands : List Command) (marks : List Bool) (fault : Option Refusal)
-    (names : List (List ℕ)) (wanted : List Wanted) (fine : Bool) (entries : List LookEvent)
+    (names : List (List ℕ)) (wanted : List Item) (fine : Bool) (entries : List LookEvent)
     (known after : List Known) : Type 0 where
   -- the folder was not listed, which is told, and no command was run
   unlisted : (refusal : Refusal) → IsUnlisted types path given refusal → fine ≡ false
@@ -123,7 +123,7 @@ pub record HasLookedAtFolder {D : Type 0} (old new : ServerView D) (start now : 
   pub marks : List Bool
   pub run : HasRun old new start now s commands marks fault
   pub names : List (List ℕ)
-  pub wanted : List Wanted
+  pub wanted : List Item
   pub entries : List LookEvent
   pub look : IsLook types guard path given s.carousel commands marks fault names wanted
       (not report.any_refused) entries known after
@@ -178,7 +178,7 @@ pub data TellsLooks (w : Watch) (moment : UpdatePoint) (old new : LooksSoFar) (c
       → new ≡ record old { left = packets_left_behind w.within (may_look moment) old.left }
       → commands ≡ [] → TellsLooks w moment old new c commands marks fault
   one_look : is_look_due old.left (may_look moment) ≡ true
-      → (any_left : Bool) (given : Given) (names : List (List ℕ)) (wanted : List Wanted)
+      → (any_left : Bool) (given : Given) (names : List (List ℕ)) (wanted : List Item)
       (fine : Bool) (entries : List LookEvent) (files : List Known)
       → Gives old.folder nothing new.folder given
       → new ≡ so_far (packets_left any_left w.every) new.folder

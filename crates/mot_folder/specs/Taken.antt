@@ -3,10 +3,10 @@ use Rattle.std.specs.Prelude.{◌≡◌, ◌⊎◌, ◌<◌, ℕ, List, [], ◌�
 use Rattle.mot_files.specs.declared.system.Stamp.{Stamp}
 use Rattle.mot_objects.specs.declared.body.TheConstants.{MAX_BODY}
 use Rattle.mot_suffixes.specs.Types.{SuffixType, type_of_name}
-use Rattle.mot_update.specs.declared.wanted.Wanted.{Wanted}
+use Rattle.mot_objects.specs.declared.command.Item.{Item}
 
 -- what is wanted of a file of this name with these bytes, and of what its suffix says
-abbrev pub wanted_file : SuffixType → List ℕ → List ℕ → Wanted
+abbrev pub wanted_file : SuffixType → List ℕ → List ℕ → Item
 wanted_file type name bytes =
     record { name = name; content = type.content; mime = type.mime; body = bytes }
 
@@ -23,32 +23,32 @@ IsUntakable types name bytes =
 -- and nothing told. One that was missed is told.
 pub data AreTaken (types : List SuffixType) (NoMemory : Type 0) : (names : List (List ℕ))
     → (read : List (List ℕ × List ℕ)) → (unchanged : List (List ℕ × Stamp))
-    → (missed : List (List ℕ)) → (wanted : List Wanted) → (told : List (List ℕ)) → Type 0 where
+    → (missed : List (List ℕ)) → (wanted : List Item) → (told : List (List ℕ)) → Type 0 where
   no_file : AreTaken types NoMemory [] [] [] [] [] []
   one_wanted : (names missed told : List (List ℕ)) (read : List (List ℕ × List ℕ))
-      (unchanged : List (List ℕ × Stamp)) (others : List Wanted) (name bytes : List ℕ)
+      (unchanged : List (List ℕ × Stamp)) (others : List Item) (name bytes : List ℕ)
       (type : SuffixType) → type_of_name types name ≡ Some type
       → AreTaken types NoMemory names read unchanged missed others told
       → AreTaken types NoMemory (names ++ name ∷ []) (read ++ (name, bytes) ∷ []) unchanged missed
       (others ++ wanted_file type name bytes ∷ []) told
   one_unchanged : (names missed told : List (List ℕ)) (read : List (List ℕ × List ℕ))
-      (unchanged : List (List ℕ × Stamp)) (others : List Wanted) (name : List ℕ) (stamp : Stamp)
+      (unchanged : List (List ℕ × Stamp)) (others : List Item) (name : List ℕ) (stamp : Stamp)
       → AreTaken types NoMemory names read unchanged missed others told
       → AreTaken types NoMemory (names ++ name ∷ []) read (unchanged ++ (name, stamp) ∷ []) missed
       others told
   one_refused : (names missed told : List (List ℕ)) (read : List (List ℕ × List ℕ))
-      (unchanged : List (List ℕ × Stamp)) (others : List Wanted) (name bytes : List ℕ)
+      (unchanged : List (List ℕ × Stamp)) (others : List Item) (name bytes : List ℕ)
       → IsUntakable types name bytes ⊎ NoMemory
       → AreTaken types NoMemory names read unchanged missed others told
       → AreTaken types NoMemory (names ++ name ∷ []) (read ++ (name, bytes) ∷ []) unchanged missed
       others (told ++ name ∷ [])
   one_unread : (names missed told : List (List ℕ)) (read : List (List ℕ × List ℕ))
-      (unchanged : List (List ℕ × Stamp)) (others : List Wanted) (name : List ℕ)
+      (unchanged : List (List ℕ × Stamp)) (others : List Item) (name : List ℕ)
       → AreTaken types NoMemory names read unchanged missed others told
       → AreTaken types NoMemory (names ++ name ∷ []) read unchanged (missed ++ name ∷ []) others
       (told ++ name ∷ [])
   one_unkept : (names missed told : List (List ℕ)) (read : List (List ℕ × List ℕ))
-      (unchanged : List (List ℕ × Stamp)) (others : List Wanted) (name bytes : List ℕ)
+      (unchanged : List (List ℕ × Stamp)) (others : List Item) (name bytes : List ℕ)
       → AreTaken types NoMemory names read unchanged missed others told
       → AreTaken types NoMemory (names ++ name ∷ []) (read ++ (name, bytes) ∷ []) unchanged
       (missed ++ name ∷ []) others (told ++ name ∷ [])

@@ -30,11 +30,11 @@ use crate::report::{Report, Sizes, has_to_wait};
 use mot_events::{LookResult, LookStep, Why};
 use mot_files::{ReadFailure, Stamp, System};
 use mot_numbers::Refusal;
-use mot_objects::{Body, MAX_BODY, Name};
+use mot_objects::{Body, Item, MAX_BODY, Name};
 use mot_playout::Attempt;
 use mot_shelf::FolderReader;
 use mot_suffixes::{FileTypes, other_image};
-use mot_update::{SettleOutcome, Source, Wanted};
+use mot_update::{SettleOutcome, Source};
 use std::alloc::Global;
 use std::io;
 
@@ -127,7 +127,7 @@ impl<'a, S: System + Drop> Source for Folder<'a, S> {
         self.names.has(name)
     }
 
-    fn next(&mut self, alloc: Global) -> Option<Wanted> {
+    fn next(&mut self, alloc: Global) -> Option<Item> {
         while self.place < self.names.names.len() {
             let place = self.place;
             self.place += 1;
@@ -150,7 +150,7 @@ impl<'a, S: System + Drop> Source for Folder<'a, S> {
         None
     }
 
-    fn take(&mut self, wanted: &Wanted, is_new: bool) -> bool {
+    fn take(&mut self, wanted: &Item, is_new: bool) -> bool {
         if !is_new {
             note_image(&mut self.report, wanted);
             return true;
@@ -235,7 +235,7 @@ fn tell_fault(report: &mut Report, name: &[u8], error: io::Error)
 }
 
 /// Notes that the bytes of an object are of another image type than its suffix says, if they are.
-fn note_image(report: &mut Report, wanted: &Wanted)
+fn note_image(report: &mut Report, wanted: &Item)
     ensures notes { NotesImage report.old report.new wanted.now }
 {
     if let Some(other) = other_image(wanted.content, wanted.body.as_bytes()) {
@@ -313,7 +313,7 @@ fn is_unchanged<S: System + Drop>(
 
 /// The stamp of a file of which this is wanted, but where its image type is noted: a note comes again
 /// in each look.
-fn stamp_to_keep(wanted: &Wanted, stamp: Option<Stamp>) -> Option<Stamp>
+fn stamp_to_keep(wanted: &Item, stamp: Option<Stamp>) -> Option<Stamp>
     ensures { IfSome result (λ kept. stamp ≡ Some kept) }
 {
     if other_image(wanted.content, wanted.body.as_bytes()).is_some() {
@@ -329,7 +329,7 @@ fn read<S: System + Drop>(
     alloc: Global,
     types: &FileTypes,
     name: &Name,
-) -> Result<(Wanted, Option<Stamp>), Untaken>
+) -> Result<(Item, Option<Stamp>), Untaken>
     ensures same { reader_path shelf.new ≡ reader_path shelf.old }
     ensures took { GoesOnSo (view S.calls shelf.old) (view S.calls shelf.new) (λ given after.
         MatchResult result
@@ -353,7 +353,7 @@ fn read<S: System + Drop>(
 }
 
 /// What is wanted of a file of this name with these bytes.
-fn wanted_of_file(types: &FileTypes, name: &Name, bytes: Vec<u8>) -> Result<Wanted, Refusal>
+fn wanted_of_file(types: &FileTypes, name: &Name, bytes: Vec<u8>) -> Result<Item, Refusal>
     ensures made { IfOk result (λ wanted. (type : SuffixType)
         × (type_of_name types.now name.now ≡ Some type)
         × (wanted ≡ wanted_file type name.now bytes.items)) }
@@ -364,7 +364,7 @@ fn wanted_of_file(types: &FileTypes, name: &Name, bytes: Vec<u8>) -> Result<Want
         return Err(Refusal::BadName);
     };
     let body = Body::new(bytes)?;
-    Ok(Wanted {
+    Ok(Item {
         name: name.clone()?,
         content: file_type.content,
         mime: file_type.mime.clone()?,

@@ -22,7 +22,7 @@ ghost use Rattle.mot_shelf.specs.Reader.{reader_path, view};
 ghost use Rattle.mot_shelf.specs.View.{FolderView};
 ghost use Rattle.mot_suffixes.specs.Types.{SuffixType};
 ghost use Rattle.mot_update.specs.Told.{Answer};
-ghost use Rattle.mot_update.specs.declared.wanted.Wanted.{Wanted};
+ghost use Rattle.mot_objects.specs.declared.command.Item.{Item};
 ghost use Rattle.mot_numbers.specs.declared.refusal.Refusal.TheVariants.{OutOfMemory};
 ghost use Rattle.mot_playout.specs.Attempts.{fault_of};
 
@@ -175,7 +175,7 @@ fn look_at_names<S: System + Drop, D: Disk>(
 fn end_listed<S: System + Drop>(folder: &mut Folder<'_, S>, gap: u32) -> Result<(), Refusal>
     ensures same { folder.new ≡ record folder.old { report = folder.new.report } }
     ensures told { (types : List SuffixType) (given : Given) (waiting : ℕ) (names : List (List ℕ))
-        (answers : List Answer) (wanted : List Wanted)
+        (answers : List Answer) (wanted : List Item)
         → TellsOf types given folder.old.report waiting names answers wanted
         → TellsOf types given folder.new.report waiting names answers wanted }
     ensures whole { OnOk result ((folder.new.report.any_left_out ≡ false)
@@ -197,7 +197,7 @@ fn note_if(report: &mut Report, path: &str, is_so: bool, note: LookResult)
         → TellsNameless files report.old → TellsNameless files report.new }
     ensures told { is_note note ≡ true
         → (types : List SuffixType) (given : Given) (waiting : ℕ) (names : List (List ℕ))
-        (answers : List Answer) (wanted : List Wanted)
+        (answers : List Answer) (wanted : List Item)
         → TellsOf types given report.old waiting names answers wanted
         → TellsOf types given report.new waiting names answers wanted }
     ensures none { is_so ≡ false → report.new ≡ report.old }

@@ -5,7 +5,7 @@ use Rattle.std.specs.Prelude.{codes, bytes_eq, is_ok, IsOk, IfOk, IfErr}
 use Rattle.std.specs.Prelude.{◌↔◌}
 use Rattle.std.proofs.lemmas.Bool.{false_from_ne_true}
 use Rattle.hex.specs.Hex.{decode_of}
-use Rattle.mot_lines.specs.declared.line.description.Description.{Description}
+use Rattle.mot_objects.specs.declared.command.Item.{Item}
 use Rattle.mot_lines.specs.Fields.{name_in, content_in, mime_in, body_in}
 use Rattle.mot_lines.specs.Words.{number_of_word}
 use Rattle.mot_lines.specs.Line.{description_of}
@@ -74,16 +74,16 @@ module _ (bytes : List ℕ) (named : bytes_eq bytes (codes "-") ≡ false) (r : 
 
 -- ---- the words of a put or a replace
 
-abbrev described : List ℕ → ContentNumbers → Option (List ℕ) → List ℕ → Result Description Refusal
+abbrev described : List ℕ → ContentNumbers → Option (List ℕ) → List ℕ → Result Item Refusal
 described n c m b = Ok (record { name = n; content = c; mime = m; body = b })
 
-abbrev from_body : List ℕ → List ℕ → ContentNumbers → Option (List ℕ) → Result Description Refusal
+abbrev from_body : List ℕ → List ℕ → ContentNumbers → Option (List ℕ) → Result Item Refusal
 from_body hex n c m = body_in (decode_of hex) >>= described n c m
 
-abbrev from_mime : List ℕ → List ℕ → List ℕ → ContentNumbers → Result Description Refusal
+abbrev from_mime : List ℕ → List ℕ → List ℕ → ContentNumbers → Result Item Refusal
 from_mime mime hex n c = mime_in mime >>= from_body hex n c
 
-abbrev from_content : List ℕ → List ℕ → List ℕ → List ℕ → List ℕ → Result Description Refusal
+abbrev from_content : List ℕ → List ℕ → List ℕ → List ℕ → List ℕ → Result Item Refusal
 from_content kind subtype mime hex n =
     content_in (number_of_word kind) (number_of_word subtype) >>= from_mime mime hex n
 
@@ -99,7 +99,7 @@ module _ (words : List (List ℕ)) (name kind subtype mime hex : List ℕ)
   describe_name r h = rw steps (bound_err (name_in name) (from_content kind subtype mime hex) r h)
 
   module _ (n : List ℕ) (named : OrOutOfMemory (Ok n) (name_in name)) where
-    after_name : (r : Result Description Refusal)
+    after_name : (r : Result Item Refusal)
         → OrOutOfMemory r (from_content kind subtype mime hex n)
         → OrOutOfMemory r (description_of words)
     after_name r h = rw steps
@@ -115,7 +115,7 @@ module _ (words : List (List ℕ)) (name kind subtype mime hex : List ℕ)
 
     module _ (c : ContentNumbers)
         (content : Ok c ≡ content_in (number_of_word kind) (number_of_word subtype)) where
-      after_content : (r : Result Description Refusal) → OrOutOfMemory r (from_mime mime hex n c)
+      after_content : (r : Result Item Refusal) → OrOutOfMemory r (from_mime mime hex n c)
           → OrOutOfMemory r (description_of words)
       after_content r h = after_name r (bound_ok
           (content_in (number_of_word kind) (number_of_word subtype)) (from_mime mime hex n) c r
@@ -127,7 +127,7 @@ module _ (words : List (List ℕ)) (name kind subtype mime hex : List ℕ)
       describe_mime r h = after_content (Err r) (bound_err (mime_in mime) (from_body hex n c) r h)
 
       module _ (m : Option (List ℕ)) (typed : OrOutOfMemory (Ok m) (mime_in mime)) where
-        after_mime : (r : Result Description Refusal) → OrOutOfMemory r (from_body hex n c m)
+        after_mime : (r : Result Item Refusal) → OrOutOfMemory r (from_body hex n c m)
             → OrOutOfMemory r (description_of words)
         after_mime r h = after_content r (bound_ok (mime_in mime) (from_body hex n c) m r typed h)
 

@@ -1,7 +1,6 @@
 -- What crates above may cite: the lines of an input that grows, what is kept of a line in hand,
 -- why a line is refused, what a list shows, and what the lines ask for that rebuild a carousel.
 use Rattle.std.proofs.Common.{◌≡◌, ℕ, List, [], ◌∷◌, ◌++◌, Err}
-use Rattle.mot_lines.specs.Hand.{bytes_in_hand}
 use Rattle.mot_lines.specs.Lines.{HasNoLineEnd}
 use Rattle.mot_lines.specs.Listing.{listing_text_beside}
 use Rattle.mot_lines.specs.Line.{line_of}
@@ -12,7 +11,6 @@ use Rattle.mot_lines.proofs.Exported as exported
 use Rattle.mot_lines.proofs.Faults as faults
 use Rattle.mot_lines.proofs.Input as input
 use Rattle.mot_lines.proofs.Listed as listed
-use Rattle.mot_lines.proofs.Requests as requests
 use Rattle.mot_numbers.specs.declared.refusal.Refusal.TheVariants.{DeviceFault}
 use Rattle.mot_objects.specs.declared.carousel.Carousel.{Carousel}
 use Rattle.mot_objects.specs.Stands.{carousel_of, AreBodiesOf}

@@ -1,8 +1,8 @@
 -- Which lines take memory.
 use Rattle.std.proofs.Common.{ℕ, List, [], ◌∷◌, Result, Ok, Err, inl, inr}
 use Rattle.hex.specs.Hex.{decode_of}
-use Rattle.mot_lines.specs.Fields.{kind_in, number_to, segment_in, name_in}
-use Rattle.mot_lines.specs.Line.{raw_of, put_of, replace_of, withdraw_of, description_of}
+use Rattle.mot_lines.specs.Fields.{kind_in, number_to, segment_in}
+use Rattle.mot_lines.specs.Line.{raw_of}
 use Rattle.mot_numbers.specs.Refusal.{◌>>=◌}
 use Rattle.mot_lines.specs.Line.{NeedsMemory, IsParsed}
 use Rattle.mot_lines.specs.Inner.Words.{OrOutOfMemory}
@@ -26,20 +26,6 @@ raw-needs (a ∷ b ∷ c ∷ []) = needs-after (kind_in (number_of_word a)) _ (�
     needs-after (number_to 65535 (number_of_word b)) _
     (λ t. needs-after (segment_in (decode_of c)) _ (λ body. tt)))
 raw-needs (a ∷ b ∷ c ∷ d ∷ words) = tt
-
--- whatever a put's line asks for may want memory
-pub put-needs : (words : List (List ℕ)) → NeedsMemory (put_of words)
-put-needs words = needs-after (description_of words) _ (λ d. tt)
-
--- whatever a replace's line asks for may want memory
-pub replace-needs : (words : List (List ℕ)) → NeedsMemory (replace_of words)
-replace-needs words = needs-after (description_of words) _ (λ d. tt)
-
--- whatever a withdraw's line asks for may want memory
-pub withdraw-needs : (words : List (List ℕ)) → NeedsMemory (withdraw_of words)
-withdraw-needs [] = tt
-withdraw-needs (name ∷ []) = needs-after (name_in name) _ (λ n. tt)
-withdraw-needs (name ∷ other ∷ words) = tt
 
 -- so a growth that is refused may stand in the place of what they ask for
 pub parsed : (result request : Result Line Refusal) → NeedsMemory request

@@ -7,7 +7,7 @@ use Rattle.mot_lines.specs.Fields.{body_in, period_in}
 use Rattle.mot_lines.specs.Verb.{verb_of}
 use Rattle.mot_lines.specs.Words.{words_of, number_of_word}
 use Rattle.mot_lines.specs.declared.line.TheConstants.{MAX_LINE, MAX_PACKETS}
-use Rattle.mot_lines.specs.declared.line.description.Description.{Description}
+use Rattle.mot_objects.specs.declared.command.Item.{Item}
 use Rattle.mot_lines.specs.declared.line.Line.{Line}
 use Rattle.mot_lines.specs.declared.line.Line.TheVariants.{Raw, Command}
 use Rattle.mot_lines.specs.declared.line.Line.TheVariants as asks
@@ -28,7 +28,7 @@ raw_of (kind ∷ tid ∷ hex ∷ []) = do
 raw_of words = Err BadLine
 
 -- the words of a `put` or `replace` line, after its first: NAME TYPE SUBTYPE MIME HEX
-unfoldable pub description_of : List (List ℕ) → Result Description Refusal
+unfoldable pub description_of : List (List ℕ) → Result Item Refusal
 description_of (name ∷ kind ∷ subtype ∷ mime ∷ hex ∷ []) = do
   n ← name_in name
   c ← content_in (number_of_word kind) (number_of_word subtype)

@@ -10,7 +10,7 @@ mod text;
 pub use export::export_laws;
 pub use hand::Hand;
 pub use line::{
-    Description, Line, MAX_LINE, MAX_PACKETS, Verb, cut_word, four_words, parse_content, parse_line,
+    Line, MAX_LINE, MAX_PACKETS, Verb, cut_word, four_words, parse_content, parse_line,
 };
 pub use line_end::cut_at_line_end;
 pub use mot_groups::SegmentBytes;

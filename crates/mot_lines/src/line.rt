@@ -1,6 +1,6 @@
 //! A line of the input, read.
 ghost use Rattle.std.specs.Prelude.{◌≡◌};
-ghost use Rattle.mot_lines.specs.Line.{raw_of, put_of, replace_of, withdraw_of, period_of};
+ghost use Rattle.mot_lines.specs.Line.{raw_of, withdraw_of, period_of};
 ghost use Rattle.mot_lines.specs.Line.{alone_of, asked_by, next_of, line_of};
 ghost use Rattle.mot_lines.specs.Line.{IsParsed};
 ghost use Rattle.mot_lines.specs.Inner.Words.{OrOutOfMemory};
@@ -12,7 +12,6 @@ mod verb;
 mod words;
 
 use crate::SegmentBytes;
-pub use description::Description;
 use description::parse_description;
 pub use fields::parse_content;
 use fields::{parse_count, parse_kind, parse_name, parse_period, parse_segment, parse_tid};
@@ -73,8 +72,8 @@ fn parse_request(alloc: Global, verb: Option<Verb>, words: Option<&[u8]>) -> Res
 {
     match verb {
         Some(Verb::Raw) => parse_raw(alloc, words),
-        Some(Verb::Put) => parse_put(alloc, words),
-        Some(Verb::Replace) => parse_replace(alloc, words),
+        Some(Verb::Put) => Ok(Line::Command(parse_description(alloc, words)?.into_put())),
+        Some(Verb::Replace) => Ok(Line::Command(parse_description(alloc, words)?.into_replace())),
         Some(Verb::Withdraw) => parse_withdraw(alloc, words),
         Some(Verb::Period) => parse_set_period(words),
         Some(Verb::List) => parse_list(words),
@@ -82,42 +81,6 @@ fn parse_request(alloc: Global, verb: Option<Verb>, words: Option<&[u8]>) -> Res
         Some(Verb::Turn) => parse_turn(words),
         None => Err(Refusal::BadLine),
     }
-}
-
-/// What a `put` line asks for, by its words after the first.
-fn parse_put(alloc: Global, words: Option<&[u8]>) -> Result<Line, Refusal>
-    ensures { OrOutOfMemory result (put_of (words_after words.entry)) }
-{
-    let Description {
-        name,
-        content,
-        mime,
-        body,
-    } = parse_description(alloc, words)?;
-    Ok(Line::Command(Command::Put {
-        name,
-        content,
-        mime,
-        body,
-    }))
-}
-
-/// What a `replace` line asks for, by its words after the first.
-fn parse_replace(alloc: Global, words: Option<&[u8]>) -> Result<Line, Refusal>
-    ensures { OrOutOfMemory result (replace_of (words_after words.entry)) }
-{
-    let Description {
-        name,
-        content,
-        mime,
-        body,
-    } = parse_description(alloc, words)?;
-    Ok(Line::Command(Command::Replace {
-        name,
-        content,
-        mime,
-        body,
-    }))
 }
 
 /// What a `withdraw` line asks for, by its words after the first.

@@ -1,4 +1,7 @@
 //! What changes a carousel.
+ghost use Rattle.std.specs.Prelude.{◌≡◌};
+ghost use Rattle.mot_objects.specs.declared.command.Command.TheVariants.{Put, Replace};
+
 use crate::{Body, Carousel, Content, Mime, Name, Period};
 use mot_numbers::TransportId;
 
@@ -25,6 +28,45 @@ pub enum Command {
     },
     /// The DataCarouselPeriod is set.
     Period(Period),
+}
+
+/// An object as a put or a replace brings it: with no transport id and no version.
+#[derive(Drop)]
+pub struct Item {
+    /// Its ContentName.
+    pub name: Name,
+    /// Its content type and subtype.
+    pub content: Content,
+    /// Its MimeType, if it has one.
+    pub mime: Option<Mime>,
+    /// Its body.
+    pub body: Body,
+}
+
+impl Item {
+    /// The command that puts it.
+    pub fn into_put(self) -> Command
+        ensures { result ≡ Put self.name self.content self.mime self.body }
+    {
+        Command::Put {
+            name: self.name,
+            content: self.content,
+            mime: self.mime,
+            body: self.body,
+        }
+    }
+
+    /// The command that makes it replace the object of its name.
+    pub fn into_replace(self) -> Command
+        ensures { result ≡ Replace self.name self.content self.mime self.body }
+    {
+        Command::Replace {
+            name: self.name,
+            content: self.content,
+            mime: self.mime,
+            body: self.body,
+        }
+    }
 }
 
 /// The transport ids that an accepted command took.

@@ -13,7 +13,7 @@ mod text;
 
 pub use body::{Body, BodyLength, MAX_BODY};
 pub use carousel::Carousel;
-pub use command::{Change, Command, Done};
+pub use command::{Change, Command, Done, Item};
 pub use content::{Content, MAX_SUBTYPE, MAX_TYPE};
 pub use mime::{MAX_MIME, Mime};
 pub use name::{MAX_NAME, Name};

@@ -29,13 +29,15 @@ use Rattle.mot_objects.specs.declared.carousel.Carousel.{Carousel}
 use Rattle.mot_objects.specs.declared.object.Object.{Object}
 use Rattle.mot_repository.specs.Extents.{ArePaired}
 use Rattle.mot_repository.specs.Inner.Extents.{catalogue_with, objects_in}
-use Rattle.mot_repository.specs.Inner.Fold.{HaveLengths, IsFoldRefusal, HasShortIds}
+use Rattle.mot_repository.specs.Inner.Fold.{HaveLengths, IsFoldRefusal}
+use Rattle.mot_repository.specs.Inner.Planned.{IsTyped}
 use Rattle.mot_repository.specs.Inner.InOrder.{IsInOrder}
 use Rattle.mot_repository.specs.Inner.Loaded.{IsLoaded}
 use Rattle.mot_repository.specs.Opening.{IsOpened, IsOpeningRefusal}
 use Rattle.mot_journal.specs.Journal.IsReadingRefusal.{not_formatted, damaged, no_memory, device}
 use Rattle.mot_repository.specs.Inner.InOrder.{view_with}
 use Rattle.mot_repository.specs.Repository.{RepositoryView}
+use Rattle.mot_repository.proofs.Planned.{short-id}
 use Rattle.mot_repository.proofs.Preparing.{opened}
 use Rattle.mot_repository.proofs.Reading.{by_recursion, IsRead}
 use Rattle.mot_repository.proofs.Soundness.{whole_fold}
@@ -121,16 +123,16 @@ reason_later reason mid old same so = subst (λ b. IfSome reason (IsReasonOf b))
 
 are-read : (g : Geometry) (layout : Layout) (records : List Record)
     → AllByRecursion (λ r. is_sound g layout r ≡ true) records
-    → AllByRecursion HasShortIds records → AllByRecursion (IsRead g layout) records
-are-read g layout [] sound short = tt
-are-read g layout (r ∷ records) sound short = (
+    → AllByRecursion IsTyped records → AllByRecursion (IsRead g layout) records
+are-read g layout [] sound typed = tt
+are-read g layout (r ∷ records) sound typed = (
   record {
     sound = sound.0;
-    directory = short.0.directory;
-    cursor = short.0.cursor;
-    object = short.0.object;
+    directory = typed.0.directory.1;
+    cursor = typed.0.cursor.1;
+    object = short-id r.action typed.0.action;
   },
-  are-read g layout records sound.1 short.1,
+  are-read g layout records sound.1 typed.1,
 )
 
 -- what was loaded and folded without a fault is in order
@@ -138,17 +140,17 @@ pub is_in_order : (j : JournalView) (carousel : Carousel) (extents : List (ℕ �
     (records : List Record) (len : ℕ)
     → is_valid j.geometry ≡ true → length_of j.geometry ≤ len
     → All (λ r. is_sound j.geometry j.layout r ≡ true) records
-    → All HasShortIds records
+    → All IsTyped records
     → catalogue_of j.geometry.objects records ≡ Ok (catalogue_with carousel extents)
     → ArePaired carousel extents → IsFalse j.spent
     → IsInOrder (view_with j carousel extents false) len
-is_in_order j carousel extents records len valid long sound short fold paired going = record {
+is_in_order j carousel extents records len valid long sound typed fold paired going = record {
   valid = valid;
   long_enough = long;
   whole = whole_fold j.geometry j.layout records (catalogue_with carousel extents)
       (are-read j.geometry j.layout records
       (by_recursion (λ r. is_sound j.geometry j.layout r ≡ true) records sound)
-      (by_recursion HasShortIds records short)) fold;
+      (by_recursion IsTyped records typed)) fold;
   paired = paired;
   going = λ goes_on. going;
 }
@@ -275,11 +277,3 @@ syncs_on old mid new keeps still reads = record {
 -- a sync and two calls more are three calls
 pub three_calls : (old mid new : ℕ) → mid ≡ old + 1 → new ≡ mid + 2 → new ≡ old + 3
 three_calls old mid new one two = omega arith
-
--- a sync and at most two calls more are at most three calls
-pub at_most_three : (old mid new : ℕ) → mid ≡ old + 1 → new ≤ mid + 2 → new ≤ old + 3
-at_most_three old mid new one two = omega arith
-
--- a sync alone is at most three calls
-pub one_of_three : (old new : ℕ) → new ≡ old + 1 → new ≤ old + 3
-one_of_three old new one = omega arith

@@ -224,7 +224,7 @@ action-fits g layout extents old next (Withdraw name) from lies short =
     remove-fits g layout (kept_object_named name old.objects.items)
 action-fits g layout extents old next (Period period) from lies short = tt
 
-short-id : (a : Action) → HasFields a → HasShortId a
+pub short-id : (a : Action) → HasFields a → HasShortId a
 short-id Nothing is = tt
 short-id (Remove tid) is = is.1
 short-id (Set tid version content start size name mime) is = is.id.1
@@ -316,20 +316,17 @@ prepared_is view command p from is given at body extents =
     let within = body-within g view.extents command from is.lies in
     let size : length p.body.now ≡ length (body_of command) = ap length body in
     record {
-      change = record {
-        from = from;
-        at_is = at;
-        body_is = body;
-        prepared = record {
-          short = is.short;
-          changes = is.changes;
-          lies = is.lies;
-          record_is =
-              is.record_is;
-          given_is = given;
-        };
-        extents_are = extents;
+      from = from;
+      at_is = at;
+      body_is = body;
+      prepared = record {
+        short = is.short;
+        changes = is.changes;
+        lies = is.lies;
+        record_is = is.record_is;
+        given_is = given;
       };
+      extents_are = extents;
       given = λ full. subst (λ (l : List Record). CanBeGiven view.journal l) (sym (given full))
           (record {
             some = rewriting.some;

@@ -7,7 +7,6 @@ pub mod Following
 pub mod InOrder
 pub mod Kept
 pub mod Loaded
-pub mod Placing
 pub mod Planned
 pub mod Prepared
 pub mod Ready

@@ -1,14 +1,13 @@
 //! A command for which all memory was taken, and nothing was written.
-ghost use Rattle.std.specs.Prelude.{◌≡◌, ◌+◌, true, false, IsTrue, IsFalse, OnOk, IfOk, IfErr, Ok};
+ghost use Rattle.std.specs.Prelude.{◌≡◌, ◌+◌, ◌≤◌, length, true, false, IsTrue, IsFalse, OnOk, IfOk, IfErr, Ok};
 ghost use Rattle.std.specs.Prelude.{if◌then◌else◌, is_ok};
 ghost use Rattle.std.specs.Result.{result_and};
 ghost use Rattle.mot_journal.specs.declared.layout.Layout.TheVariants.{Two};
-ghost use Rattle.mot_numbers.specs.Geometry as Sizes;
 ghost use Rattle.mot_numbers.specs.Geometry.{is_valid};
+ghost use Rattle.mot_objects.specs.declared.body.TheConstants.{MAX_BODY};
 ghost use Rattle.mot_repository.specs.Answers.{IsRefusal, carousel_after};
 ghost use Rattle.mot_repository.specs.Inner.Extents.{catalogue_with};
 ghost use Rattle.mot_repository.specs.Inner.Whole.{IsWhole};
-ghost use Rattle.mot_repository.specs.Records.{records_of_catalogue};
 ghost use Rattle.mot_repository.specs.Outcome.{body_of, has_long_name};
 ghost use Rattle.mot_repository.specs.Inner.Prepared.{IsFull};
 ghost use Rattle.mot_repository.specs.Inner.Ready.{IsPrepared};
@@ -17,16 +16,15 @@ ghost use Rattle.mot_repository.specs.Repository.{RepositoryView};
 
 mod placing;
 
-use crate::by_start::by_start_after;
+use crate::by_start::sorted_by_start;
 use crate::inventory::Inventory;
 use crate::records::{record_of_change, records_of};
-use mot_carousel::plan;
+use mot_carousel::{first_fit, plan};
 use mot_journal::{Layout, Record, area_start};
 use mot_numbers::{Geometry, Refusal};
 use mot_objects::{Carousel, Command, Done};
-use placing::{body_start, extents_after, place_in};
-use std::alloc::{AllocError, Global};
-use std::mem::swap;
+use placing::extents_after;
+use std::alloc::Global;
 
 /// A change that was worked out, with all memory that doing it takes. Its body stays the command's.
 #[derive(Drop)]
@@ -63,19 +61,9 @@ impl Prepared<'_> {
         ensures kept { kept.new
             ≡ (if is_ok written then self.entry.inventory else kept.old) }
     {
-        drop(self.record);
-        let mut next = self.inventory;
-        swap_where(written.is_ok(), kept, &mut next);
-        written.and(Ok(self.done))
-    }
-}
-
-/// Swaps the two inventories, where they are to be swapped.
-fn swap_where(is_to_be: bool, one: &mut Inventory, other: &mut Inventory)
-    ensures { one.new ≡ (if is_to_be then other.old else one.old) }
-{
-    if is_to_be {
-        swap(one, other);
+        written?;
+        *kept = self.inventory;
+        Ok(self.done)
     }
 }
 
@@ -107,14 +95,18 @@ pub(crate) fn prepare_change<'a>(
         return Err(Refusal::BadName);
     }
     let change = plan(alloc, &inventory.carousel, geometry.objects, command)?;
-    let start = body_start(&inventory.by_start, command, geometry.area);
+    let body = body_bytes(command);
+    let start = first_fit(&inventory.by_start, body.len() as u32, geometry.area);
     let Some(start) = start else {
         return Err(Refusal::NoRoom);
     };
-    let place = place_in(inventory, command);
-    let extents = extents_after(alloc, inventory, place, command, start)?;
-    let by_start = by_start_after(alloc, inventory, place, command, start)?;
-    let given = records_to_give(alloc, is_full, inventory)?;
+    let extents = extents_after(alloc, inventory, command, start)?;
+    let by_start = sorted_by_start(alloc, &extents)?;
+    let given = if is_full {
+        records_of(alloc, inventory)?
+    } else {
+        Vec::new(alloc)
+    };
     let record = record_of_change(&inventory.carousel, &change.next, command, start)?;
     Ok(Prepared {
         inventory: Inventory {
@@ -123,26 +115,11 @@ pub(crate) fn prepare_change<'a>(
             by_start,
         },
         done: change.done,
-        at: place_in_area(geometry, start),
-        body: body_bytes(command),
+        at: area_start(geometry) + u64::from(start),
+        body,
         record,
         given,
     })
-}
-
-/// The records that a full half is rewritten to; none if it has room.
-fn records_to_give(
-    alloc: Global,
-    is_full: bool,
-    inventory: &Inventory,
-) -> Result<Vec<Record>, AllocError>
-    ensures { let kept = catalogue_with inventory.now.carousel inventory.now.extents.items in
-        IfOk result (λ records. IsTrue is_full → records.items ≡ records_of_catalogue kept) }
-{
-    if is_full {
-        return records_of(alloc, inventory);
-    }
-    Ok(Vec::new(alloc))
 }
 
 /// Whether the slots of this layout have no room for the name that the command speaks of.
@@ -162,19 +139,11 @@ fn is_name_too_long(layout: Layout, command: &Command) -> bool
 
 /// The bytes that the command brings.
 fn body_bytes(command: &Command) -> &[u8]
-    ensures { result.now ≡ body_of command.now }
+    ensures value { result.now ≡ body_of command.now }
+    ensures short { length result.now ≤ MAX_BODY }
 {
     match command {
-        Command::Put { body, .. } => body.as_bytes(),
-        Command::Replace { body, .. } => body.as_bytes(),
-        Command::Withdraw { .. } => &[],
-        Command::Period(_) => &[],
+        Command::Put { body, .. } | Command::Replace { body, .. } => body.as_bytes(),
+        Command::Withdraw { .. } | Command::Period(_) => &[],
     }
-}
-
-/// Where on a disk of this geometry a part of the data area begins.
-fn place_in_area(geometry: &Geometry, start: u32) -> u64
-    ensures { result ≡ Sizes.area_start geometry.now + start }
-{
-    area_start(geometry) + u64::from(start)
 }

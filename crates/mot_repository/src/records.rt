@@ -74,7 +74,7 @@ fn action_of_change(
 
 /// What the types of the fields keep of a record. It is there for the proof, and does nothing when
 /// it runs.
-fn know_fields(made: &Record)
+pub(crate) fn know_fields(made: &Record)
     ensures { IsTyped made.now }
 {
     made.directory.get();

@@ -11,7 +11,7 @@ use Rattle.std.specs.Str.{is_utf8}
 use Rattle.disk_model.specs.Failures.{Rises}
 use Rattle.mot_journal.specs.declared.layout.Layout.TheVariants.{Two}
 use Rattle.mot_journal.specs.Image.{Standing, stands_for}
-use Rattle.mot_lines.specs.declared.line.description.Description.{Description}
+use Rattle.mot_objects.specs.declared.command.Item.{Item}
 use Rattle.mot_lines.specs.declared.line.Line.{Line}
 use Rattle.mot_lines.specs.declared.line.Line.TheVariants as asks
 use Rattle.mot_lines.specs.declared.line.TheConstants.{MAX_LINE, MAX_PACKETS}
@@ -98,12 +98,12 @@ then-some : {A B : Type 0} (r : Result A Refusal) (f : A → Result B Refusal) (
 then-some (Ok a) f b e = (a, refl, e)
 then-some (Err r) f b e = cc
 
-named : (x d : Description) → ◌≡◌ {A = Result Description Refusal} (Ok x) (Ok d)
+named : (x d : Item) → ◌≡◌ {A = Result Item Refusal} (Ok x) (Ok d)
     → nat_lt MAX_NAME (length x.name) ≡ false → nat_lt MAX_NAME (length d.name) ≡ false
 named x d e short = let same : x ≡ d = cc in
-    subst (λ (y : Description). nat_lt MAX_NAME (length y.name) ≡ false) same short
+    subst (λ (y : Item). nat_lt MAX_NAME (length y.name) ≡ false) same short
 
-described : (words : List (List ℕ)) (d : Description) → description_of words ≡ Ok d
+described : (words : List (List ℕ)) (d : Item) → description_of words ≡ Ok d
     → nat_lt MAX_NAME (length d.name) ≡ false
 unfolding description_of
 described [] d e = cc

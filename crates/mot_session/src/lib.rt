@@ -10,7 +10,7 @@ pub use law::told_laws;
 pub use life::{
     ServedLife, ServedLineOn, ServedOn, format_and_serve, serve_and_restart, serve_line_and_restart,
 };
-pub use mot_lines::{Description, Line, SegmentBytes, parse_line};
+pub use mot_lines::{Line, SegmentBytes, parse_line};
 pub use mot_numbers::Geometry;
 pub use serving::{
     MAX_READS, READ_SIZE, ServeEnd, WriteFault, answer_reading, serve, serve_line, write_listing,

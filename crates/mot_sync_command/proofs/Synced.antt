@@ -48,7 +48,7 @@ use Rattle.mot_update.proofs.Laws.{made}
 use Rattle.mot_update.specs.Faults.{StaysCalm}
 use Rattle.mot_update.specs.HasRun.{HasRun}
 use Rattle.mot_update.specs.Looking.{AreAccepted}
-use Rattle.mot_update.specs.declared.wanted.Wanted.{Wanted}
+use Rattle.mot_objects.specs.declared.command.Item.{Item}
 use Rattle.mot_numbers.specs.Refusal.{is_device_fault}
 use Rattle.std.specs.List.{flat_map}
 use Rattle.std.specs.Option.{option_map_or}
@@ -144,7 +144,7 @@ module _ {D : Type 0} (state : D → State) (disk : D) (server new : ServerView 
       )
     where
       equal : (fine : Bool) (fault : Option Refusal) (commands : List Command)
-          (marks : List Bool) (names : List (List ℕ)) (wanted : List Wanted)
+          (marks : List Bool) (names : List (List ℕ)) (wanted : List Item)
           (entries : List LookEvent)
           → HasRun server new (state server.disk) (state new.disk) s commands marks fault
           → IsLook types guard folder.path given s.carousel commands marks fault names wanted fine entries

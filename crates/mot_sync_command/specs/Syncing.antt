@@ -19,11 +19,11 @@ use Rattle.mot_shelf.specs.Gives.{GaveSo}
 use Rattle.mot_shelf.specs.View.{FolderView}
 use Rattle.mot_suffixes.specs.Types.{SuffixType}
 use Rattle.mot_update.specs.Laws.{IsUpdated, names_of}
-use Rattle.mot_update.specs.declared.wanted.Wanted.{Wanted}
+use Rattle.mot_objects.specs.declared.command.Item.{Item}
 
 -- Nothing was refused: an object of each name was read, and now the disk stands for exactly these
 -- objects, of which those that were right before are untouched.
-pub record IsEqual (s : Standing) (names : List (List ℕ)) (wanted : List Wanted)
+pub record IsEqual (s : Standing) (names : List (List ℕ)) (wanted : List Item)
     (now : State) : Type 0 where
   pub every : names_of wanted ≡ names
   pub last : Standing
@@ -43,7 +43,7 @@ module _ (types : List SuffixType) (guard : Guard) (folder then_folder : FolderV
     pub marks : List Bool
     pub leaves : Leaves s commands marks fault start now
     pub names : List (List ℕ)
-    pub wanted : List Wanted
+    pub wanted : List Item
     -- no file was known before it: so none was passed over
     pub known : List Known
     pub look : GaveSo folder then_folder (λ given. IsLook types guard folder.path given s.carousel

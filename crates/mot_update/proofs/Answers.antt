@@ -12,7 +12,7 @@ use Rattle.mot_update.specs.Told.{Answer, AreAnswers, TellsMore, TellsSince, Wit
 use Rattle.mot_update.specs.Told.{answers_of, commands_of}
 use Rattle.mot_update.specs.declared.settling.SettleOutcome.{SettleOutcome}
 use Rattle.mot_update.specs.declared.settling.SettleOutcome.TheVariants as settled
-use Rattle.mot_update.specs.declared.wanted.Wanted.{Wanted}
+use Rattle.mot_objects.specs.declared.command.Item.{Item}
 
 -- what was told, and then more
 pub tells_trans : (a b c : List Answer → Type 0) (xs ys : List Answer) → TellsMore a b xs
@@ -32,39 +32,39 @@ tells_on a b c xs p q = λ told was. q told (subst b (append-nil told) (p told w
 
 -- ---- the same with what was given
 
-pub both_trans : {Since : Type 0} (a b c : Since → List Answer → List Wanted → Type 0) (xs ys : List Answer)
-    (us vs : List Wanted) → TellsSince a b xs us → TellsSince b c ys vs
+pub both_trans : {Since : Type 0} (a b c : Since → List Answer → List Item → Type 0) (xs ys : List Answer)
+    (us vs : List Item) → TellsSince a b xs us → TellsSince b c ys vs
     → TellsSince a c (xs ++ ys) (us ++ vs)
 both_trans a b c xs ys us vs p q = λ since given told was.
-    subst (λ (l : List Wanted). c since (told ++ (xs ++ ys)) l) (append_assoc given us vs)
+    subst (λ (l : List Item). c since (told ++ (xs ++ ys)) l) (append_assoc given us vs)
     (tells_trans (λ t. a since t given) (λ t. b since t (given ++ us))
     (λ t. c since t ((given ++ us) ++ vs)) xs ys (p since given) (q since (given ++ us)) told was)
 
-pub both_nil : {Since : Type 0} (a : Since → List Answer → List Wanted → Type 0) → TellsSince a a [] []
+pub both_nil : {Since : Type 0} (a : Since → List Answer → List Item → Type 0) → TellsSince a a [] []
 both_nil a = λ since given told was.
-    subst (λ (l : List Wanted). a since (told ++ []) l) (sym (append-nil given))
+    subst (λ (l : List Item). a since (told ++ []) l) (sym (append-nil given))
     (tells_nil (λ t. a since t given) told was)
 
 -- nothing more was told or given
-pub both_kept : {Since : Type 0} (a b c : Since → List Answer → List Wanted → Type 0) (xs : List Answer) (us : List Wanted)
+pub both_kept : {Since : Type 0} (a b c : Since → List Answer → List Item → Type 0) (xs : List Answer) (us : List Item)
     → TellsSince a b xs us → TellsSince b c [] [] → TellsSince a c xs us
 both_kept a b c xs us p q =
-    subst (λ (l : List Wanted). TellsSince a c xs l) (append-nil us)
+    subst (λ (l : List Item). TellsSince a c xs l) (append-nil us)
     (subst (λ (l : List Answer). TellsSince a c l (us ++ [])) (append-nil xs)
     (both_trans a b c xs [] us [] p q))
 
 -- nothing more was told, and these were given
-pub both_gives : {Since : Type 0} (a b c : Since → List Answer → List Wanted → Type 0) (xs : List Answer)
-    (us vs : List Wanted) → TellsSince a b xs us → TellsSince b c [] vs → TellsSince a c xs (us ++ vs)
+pub both_gives : {Since : Type 0} (a b c : Since → List Answer → List Item → Type 0) (xs : List Answer)
+    (us vs : List Item) → TellsSince a b xs us → TellsSince b c [] vs → TellsSince a c xs (us ++ vs)
 both_gives a b c xs us vs p q =
     subst (λ (l : List Answer). TellsSince a c l (us ++ vs)) (append-nil xs)
     (both_trans a b c xs [] us vs p q)
 
 -- these were given, and then these told
-pub both_on : {Since : Type 0} (a b c : Since → List Answer → List Wanted → Type 0) (xs : List Answer) (us : List Wanted)
+pub both_on : {Since : Type 0} (a b c : Since → List Answer → List Item → Type 0) (xs : List Answer) (us : List Item)
     → TellsSince a b [] us → TellsSince b c xs [] → TellsSince a c xs us
 both_on a b c xs us p q =
-    subst (λ (l : List Wanted). TellsSince a c xs l) (append-nil us)
+    subst (λ (l : List Item). TellsSince a c xs l) (append-nil us)
     (both_trans a b c [] xs us [] p q)
 
 -- commands that were not answered
@@ -112,7 +112,7 @@ answer-withdrew name (Accepted done) = (refl, refl, refl)
 answer-withdrew name (Refused refusal) = (refl, refl, refl)
 
 -- one wanted object
-pub answers-settled : (settled : SettleOutcome) (w : Wanted)
+pub answers-settled : (settled : SettleOutcome) (w : Item)
     → AreAnswers (answers_of w.name settled) (commands_of settled w)
     (marks_of_settling (Ok settled))
 answers-settled settled.Right w = refl

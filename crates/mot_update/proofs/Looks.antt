@@ -28,7 +28,7 @@ use Rattle.mot_playout.specs.Server.{ServerView}
 use Rattle.mot_playout.specs.Attempts as attempts
 use Rattle.mot_playout.specs.declared.running.Attempt.{Attempt}
 use Rattle.mot_playout.specs.declared.running.Attempt.TheVariants.{Accepted, Refused}
-use Rattle.mot_update.specs.declared.wanted.Wanted.{Wanted}
+use Rattle.mot_objects.specs.declared.command.Item.{Item}
 use Rattle.mot_update.specs.HasRun.{HasRun}
 use Rattle.mot_update.specs.Laws.{names_of}
 use Rattle.mot_update.specs.HasRun.{marks_of_settling}
@@ -74,10 +74,10 @@ apart (x ∷ names) (suc i) (suc j) n m d lt at also =
     apart names i j n m p.1 (omega (arith, lt)) at also
 
 -- the name of an object that was given is one of those before this place
-abbrev pub IsBelow : List (List ℕ) → ℕ → Wanted → Type 0
+abbrev pub IsBelow : List (List ℕ) → ℕ → Item → Type 0
 IsBelow names place w = (i : ℕ) × (i < place) × (slice_get names i ≡ Some w.name)
 
-fresh : (names : List (List ℕ)) (place i : ℕ) (w : Wanted) (wanted : List Wanted)
+fresh : (names : List (List ℕ)) (place i : ℕ) (w : Item) (wanted : List Item)
     → are_names_distinct names ≡ true → place ≤ i → slice_get names i ≡ Some w.name
     → AllByRecursion (IsBelow names place) wanted → is_known (names_of wanted) w.name ≡ false
 fresh names place i w [] d le at below = refl
@@ -89,13 +89,13 @@ fresh names place i w (v ∷ wanted) d le at below =
     (fresh names place i w wanted d le at below.1)
 
 -- what holds of each wanted object and of one more, holds of each of them
-pub all-push : (P : Wanted → Type 0) (wanted : List Wanted) (w : Wanted) → AllByRecursion P wanted
+pub all-push : (P : Item → Type 0) (wanted : List Item) (w : Item) → AllByRecursion P wanted
     → P w → AllByRecursion P (wanted ++ w ∷ [])
 all-push P [] w all p = (p, tt)
 all-push P (v ∷ wanted) w all p = (all.0, all-push P wanted w all.1 p)
 
 -- names that stand before a place stand before a later one
-pub below_more : (names : List (List ℕ)) (place further : ℕ) (wanted : List Wanted)
+pub below_more : (names : List (List ℕ)) (place further : ℕ) (wanted : List Item)
     → place ≤ further
     → AllByRecursion (IsBelow names place) wanted → AllByRecursion (IsBelow names further) wanted
 below_more names place further [] le all = tt
@@ -149,11 +149,11 @@ take_next (x ∷ names) (suc i) n at = ap (λ l. x ∷ l) (take_next names i n a
 -- ---- what was given
 
 -- where nothing more is given, the given objects go on by none
-pub gives_nil : (a : Option (List Wanted)) → Gives a a []
+pub gives_nil : (a : Option (List Item)) → Gives a a []
 gives_nil None = tt
 gives_nil (Some x) = sym (append-nil x)
 
-pub gives_trans : (a b c : Option (List Wanted)) (xs ys : List Wanted) → Gives a b xs
+pub gives_trans : (a b c : Option (List Item)) (xs ys : List Item) → Gives a b xs
     → Gives b c ys → Gives a c (xs ++ ys)
 gives_trans None b c xs ys p q = tt
 gives_trans (Some x) None c xs ys p q = absurd p
@@ -162,13 +162,13 @@ gives_trans (Some x) (Some y) (Some z) xs ys p q =
     q ∙ ap (λ l. l ++ ys) p ∙ append_assoc x xs ys
 
 -- nothing more was given
-pub gives_kept : (a b c : Option (List Wanted)) (xs : List Wanted) → Gives a b xs → Gives b c []
+pub gives_kept : (a b c : Option (List Item)) (xs : List Item) → Gives a b xs → Gives b c []
     → Gives a c xs
 gives_kept a b c xs p q = subst (Gives a c) (append-nil xs) (gives_trans a b c xs [] p q)
 
 -- ---- settling one after the other
 
-settles_on : (old last : Carousel) (limit : ℕ) (done : List Wanted) (marks : List Bool) (w : Wanted)
+settles_on : (old last : Carousel) (limit : ℕ) (done : List Item) (marks : List Bool) (w : Item)
     → is_known (names_of done) w.name ≡ false
     → carousel_after old limit (accepted_commands (flat_map (settling old.objects) done) marks)
     ≡ Some last → settling last.objects w ≡ settling old.objects w
@@ -177,7 +177,7 @@ settles_on old last limit done marks w unwanted e =
     (flat_map (settling old.objects) done) marks
     (settlings-others w.name old.objects done unwanted) e)
 
-flat_map-push : (f : Wanted → List Command) (wanted : List Wanted) (w : Wanted)
+flat_map-push : (f : Item → List Command) (wanted : List Item) (w : Item)
     → flat_map f (wanted ++ w ∷ []) ≡ flat_map f wanted ++ f w
 flat_map-push f wanted w =
     flat_map-append f wanted (w ∷ [])
@@ -185,14 +185,14 @@ flat_map-push f wanted w =
 
 -- objects settled so far, and how many of the names were gone over
 pub record SettledSoFar {D : Type 0} (old new : ServerView D) (start now : State) (s : Standing)
-    (names : List (List ℕ)) (first place : ℕ) (before after : Option (List Wanted))
+    (names : List (List ℕ)) (first place : ℕ) (before after : Option (List Item))
     (fine : Bool) : Type 0 where
   -- the objects that were given
-  pub wanted : List Wanted
+  pub wanted : List Item
   -- those that are told go on by them
   pub gives : Gives before after wanted
   -- each one's name is known
-  pub known : AllByRecursion (λ (w : Wanted). is_known names w.name ≡ true) wanted
+  pub known : AllByRecursion (λ (w : Item). is_known names w.name ≡ true) wanted
   -- their names differ
   pub distinct : are_names_distinct (names_of wanted) ≡ true
   -- each one's name stands before the place
@@ -216,7 +216,7 @@ pub record SettledSoFar {D : Type 0} (old new : ServerView D) (start now : State
 
 -- a look that begins has settled nothing
 abbrev pub settled_none : {D : Type 0} (old : ServerView D) (start : State) (s : Standing)
-    (names : List (List ℕ)) (place : ℕ) (given : Option (List Wanted)) (fine : Bool)
+    (names : List (List ℕ)) (place : ℕ) (given : Option (List Item)) (fine : Bool)
     → IsHonestDisk start → start.IsHonest → IsUnchanged start start → Holds old.view s start
     → SettledSoFar old old start start s names place place given given fine
 settled_none old start s names place given fine sound honest still holds = record {
@@ -236,7 +236,7 @@ settled_none old start s names place given fine sound honest still holds = recor
 
 module _ {D : Type 0} (old mid new : ServerView D) (start between now : State) (s : Standing)
     (names : List (List ℕ)) (first place further : ℕ)
-    (before after then_given last : Option (List Wanted)) (fine : Bool) (w : Wanted)
+    (before after then_given last : Option (List Item)) (fine : Bool) (w : Item)
     (distinct : are_names_distinct names ≡ true)
     (is : (i : ℕ) × (place ≤ i) × (i < further) × (slice_get names i ≡ Some w.name))
     (one_given : Gives after then_given (w ∷ [])) (rest_given : Gives then_given last [])
@@ -251,7 +251,7 @@ module _ {D : Type 0} (old mid new : ServerView D) (start between now : State) (
       (flat_map (settling s.carousel.objects) (so_far.wanted ++ w ∷ []))
       (so_far.marks ++ marks) fault
   run_more marks fault run =
-      let f : Wanted → List Command = settling s.carousel.objects in
+      let f : Item → List Command = settling s.carousel.objects in
       let t : Standing = so_far.run.leaves.last in
       let two = run t (so_far.run.leaves.going refl) in
       let same : settling t.carousel.objects w ≡ f w =
@@ -268,7 +268,7 @@ module _ {D : Type 0} (old mid new : ServerView D) (start between now : State) (
       → AreAnswers (so_far.answers ++ answers)
       (flat_map (settling s.carousel.objects) (so_far.wanted ++ w ∷ [])) (so_far.marks ++ marks)
   told_more answers marks told =
-      let f : Wanted → List Command = settling s.carousel.objects in
+      let f : Item → List Command = settling s.carousel.objects in
       let t : Standing = so_far.run.leaves.last in
       let same : settling t.carousel.objects w ≡ f w =
       settles_on s.carousel t.carousel s.geometry.objects so_far.wanted so_far.marks w new_name
@@ -286,7 +286,7 @@ module _ {D : Type 0} (old mid new : ServerView D) (start between now : State) (
       (flat_map (settling s.carousel.objects) (so_far.wanted ++ w ∷ []))
       (so_far.answers ++ answers)
   right_more answers right =
-      let f : Wanted → List Command = settling s.carousel.objects in
+      let f : Item → List Command = settling s.carousel.objects in
       let t : Standing = so_far.run.leaves.last in
       let layout = old.view.journal.layout in
       let same : settling t.carousel.objects w ≡ f w =
@@ -303,7 +303,7 @@ module _ {D : Type 0} (old mid new : ServerView D) (start between now : State) (
   pub right_cut : AreAttemptsOf old.view.journal.layout s
       (flat_map (settling s.carousel.objects) (so_far.wanted ++ w ∷ [])) so_far.answers
   right_cut =
-      let f : Wanted → List Command = settling s.carousel.objects in
+      let f : Item → List Command = settling s.carousel.objects in
       subst (λ l. AreAttemptsOf old.view.journal.layout s l so_far.answers)
       (sym (flat_map-push f so_far.wanted w))
       (right-cut old.view.journal.layout s (flat_map f so_far.wanted) (f w) so_far.answers
@@ -312,7 +312,7 @@ module _ {D : Type 0} (old mid new : ServerView D) (start between now : State) (
   pub told_cut : AreAnswers so_far.answers
       (flat_map (settling s.carousel.objects) (so_far.wanted ++ w ∷ [])) (so_far.marks ++ [])
   told_cut =
-      let f : Wanted → List Command = settling s.carousel.objects in
+      let f : Item → List Command = settling s.carousel.objects in
       subst (λ l. AreAnswers so_far.answers l (so_far.marks ++ []))
       (sym (flat_map-push f so_far.wanted w))
       (answers-cut so_far.answers (flat_map f so_far.wanted) (f w) so_far.marks so_far.told)
@@ -321,14 +321,14 @@ module _ {D : Type 0} (old mid new : ServerView D) (start between now : State) (
   gives_more = gives_trans before after last so_far.wanted (w ∷ []) so_far.gives
       (gives_kept after then_given last (w ∷ []) one_given rest_given)
 
-  pub known_more : AllByRecursion (λ (v : Wanted). is_known names v.name ≡ true)
+  pub known_more : AllByRecursion (λ (v : Item). is_known names v.name ≡ true)
       (so_far.wanted ++ w ∷ [])
-  known_more = all-push (λ (v : Wanted). is_known names v.name ≡ true) so_far.wanted w so_far.known
+  known_more = all-push (λ (v : Item). is_known names v.name ≡ true) so_far.wanted w so_far.known
       (known_at names is.0 w.name is.3)
 
   pub distinct_more : are_names_distinct (names_of (so_far.wanted ++ w ∷ [])) ≡ true
   distinct_more = subst (λ l. are_names_distinct l ≡ true)
-      (sym (map-append (λ (v : Wanted). v.name) so_far.wanted (w ∷ [])))
+      (sym (map-append (λ (v : Item). v.name) so_far.wanted (w ∷ [])))
       (names-push (names_of so_far.wanted) w.name so_far.distinct new_name)
 
   -- where none was passed over
@@ -340,7 +340,7 @@ module _ {D : Type 0} (old mid new : ServerView D) (start between now : State) (
       let at : is.0 ≡ place = omega (arith, low, high, next) in
       let there : slice_get names place ≡ Some w.name =
       subst (λ i. slice_get names i ≡ Some w.name) at is.3 in
-      ap (λ l. take first names ++ l) (map-append (λ (v : Wanted). v.name) so_far.wanted (w ∷ []))
+      ap (λ l. take first names ++ l) (map-append (λ (v : Item). v.name) so_far.wanted (w ∷ []))
       ∙ sym (append_assoc (take first names) (names_of so_far.wanted) (w.name ∷ []))
       ∙ ap (λ l. l ++ w.name ∷ []) (so_far.every was)
       ∙ sym (take_next names place w.name there)
@@ -402,7 +402,7 @@ module _ {D : Type 0} (old mid new : ServerView D) (start between now : State) (
 -- one that was offered was not given, and nothing was done
 abbrev pub settled_left : {D : Type 0} (old mid new : ServerView D) (start between now : State)
     (s : Standing) (names : List (List ℕ)) (first place further : ℕ)
-    (before after last : Option (List Wanted)) (fine later : Bool) → place ≤ further
+    (before after last : Option (List Item)) (fine later : Bool) → place ≤ further
     → Gives after last [] → (later ≡ true → ⊥)
     → (so_far : SettledSoFar old mid start between s names first place before after fine)
     → ((t : Standing) → Holds mid.view t between → HasRun mid new between now t [] [] None)
@@ -430,7 +430,7 @@ settled_left old mid new start between now s names first place further before af
 
 -- all were settled
 abbrev pub settled_all : {D : Type 0} (old new : ServerView D) (start now : State) (s : Standing)
-    (names : List (List ℕ)) (first place : ℕ) (before after last : Option (List Wanted))
+    (names : List (List ℕ)) (first place : ℕ) (before after last : Option (List Item))
     (fine later : Bool)
     → SettledSoFar old new start now s names first place before after fine → Gives after last []
     → (later ≡ true → (fine ≡ true) × (length names ≤ place))
@@ -643,10 +643,10 @@ withdrawals-are names view s agrees =
     ∙ withdrawals-by names view.carousel.objects.items agrees.bodies agrees.are_bodies
 
 pub same_settlings : (names : List (List ℕ)) (old last : Carousel) (limit : ℕ)
-    (commands : List Command) (marks : List Bool) (wanted : List Wanted)
+    (commands : List Command) (marks : List Bool) (wanted : List Item)
     → commands ≡ withdrawals names old.objects
     → carousel_after old limit (accepted_commands commands marks) ≡ Some last
-    → AllByRecursion (λ (w : Wanted). is_known names w.name ≡ true) wanted
+    → AllByRecursion (λ (w : Item). is_known names w.name ≡ true) wanted
     → flat_map (settling last.objects) wanted ≡ flat_map (settling old.objects) wanted
 same_settlings names old last limit commands marks [] is e known = refl
 same_settlings names old last limit commands marks (w ∷ wanted) is e known =
@@ -662,7 +662,7 @@ same_settlings names old last limit commands marks (w ∷ wanted) is e known =
 
 -- a fault came while the names were gathered, or in withdrawing
 abbrev pub look_cut : {D : Type 0} (old new : ServerView D) (start now : State) (s : Standing)
-    (names gone : List (List ℕ)) (first : ℕ) (before after : Option (List Wanted)) (fine : Bool)
+    (names gone : List (List ℕ)) (first : ℕ) (before after : Option (List Item)) (fine : Bool)
     (refusal : Refusal)
     → withdrawals names s.carousel.objects ≡ withdraw_all gone → Gives before after []
     → RunsThrough old new start now s (withdraw_all gone) fine (Some refusal)
@@ -689,7 +689,7 @@ look_cut old new start now s names gone first before after fine refusal are give
 -- all were withdrawn, and then what was given was settled
 abbrev pub look_on : {D : Type 0} (old mid new : ServerView D) (start between now : State)
     (s : Standing)
-    (names gone : List (List ℕ)) (first : ℕ) (before after last : Option (List Wanted))
+    (names gone : List (List ℕ)) (first : ℕ) (before after last : Option (List Item))
     (fine later : Bool) (fault : Option Refusal)
     → withdrawals names s.carousel.objects ≡ withdraw_all gone → Gives before after []
     → (one : RunsThrough old mid start between s (withdraw_all gone) fine None)

@@ -28,7 +28,7 @@ use Rattle.mot_update.specs.declared.settling.Need.{Need}
 use Rattle.mot_update.specs.declared.settling.Need.TheVariants as need
 use Rattle.mot_update.specs.declared.settling.SettleOutcome.{SettleOutcome}
 use Rattle.mot_update.specs.declared.settling.SettleOutcome.TheVariants as settles
-use Rattle.mot_update.specs.declared.wanted.Wanted.{Wanted}
+use Rattle.mot_objects.specs.declared.command.Item.{Item}
 
 -- as many objects as stand beside bodies
 objects-beside : (os : List Object) (bodies : List (List ℕ))
@@ -45,7 +45,7 @@ few-cases true many r s e = cc
 few-cases false true r s e = cc
 few-cases false false r s e = refl
 
-put-few : (c next : Carousel) (limit : ℕ) (w : Wanted) (done : Done)
+put-few : (c next : Carousel) (limit : ℕ) (w : Item) (done : Done)
     → change c limit (command.Put w.name w.content w.mime w.body) ≡ Ok (next, done)
     → length c.objects < limit
 unfolding change
@@ -79,7 +79,7 @@ module _ (view : RepositoryView) (s : Standing) (agrees : Agrees view s) where
       ∙ ap (λ (g : Geometry). least_gap s.extents n g.area) agrees.geometry ∙ at)
 
   -- what was stored had room
-  pub room_for : (layout : Layout) (n : Need) (w : Wanted) (settled : SettleOutcome)
+  pub room_for : (layout : Layout) (n : Need) (w : Item) (settled : SettleOutcome)
       → AreAttemptsOf layout s (commands_for n w) (answers_of w.name settled)
       → was_stored settled ≡ true → HasRoomFor view n w
   room_for layout n w settles.Right right stored = absurd (let no : false ≡ true = stored in cc)

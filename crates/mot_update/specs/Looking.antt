@@ -15,7 +15,7 @@ use Rattle.mot_update.specs.Told.{Answer, AreAnswers, AreAttemptsOf, was_accepte
 use Rattle.mot_update.specs.Updating.{is_known, settling, updating}
 use Rattle.mot_update.specs.declared.settling.SettleOutcome.{SettleOutcome}
 use Rattle.mot_update.specs.declared.settling.SettleOutcome.TheVariants.{Right, Put, Replaced}
-use Rattle.mot_update.specs.declared.wanted.Wanted.{Wanted}
+use Rattle.mot_objects.specs.declared.command.Item.{Item}
 
 -- what was to be done for an object, if anything was, is done
 abbrev pub was_settled : SettleOutcome → Bool
@@ -34,7 +34,7 @@ abbrev pub AreAccepted : List Bool → Type 0
 AreAccepted marks = AllByRecursion (λ (mark : Bool). mark ≡ true) marks
 
 -- the objects that were given, where they are told, go on by these
-abbrev pub Gives : Option (List Wanted) → Option (List Wanted) → List Wanted → Type 0
+abbrev pub Gives : Option (List Item) → Option (List Item) → List Item → Type 0
 Gives None new more = ⊤
 Gives (Some known) None more = ⊥
 Gives (Some known) (Some new) more = new ≡ known ++ more
@@ -67,9 +67,9 @@ pub record RunsThrough {D : Type 0} (old new : ServerView D) (start now : State)
 -- Objects of these names were given, and settled one after the other. Where nothing was refused one
 -- of each name was given, behind the first so many.
 pub record HasSettled {D : Type 0} (old new : ServerView D) (start now : State) (s : Standing)
-    (names : List (List ℕ)) (first : ℕ) (before after : Option (List Wanted)) (fine : Bool)
+    (names : List (List ℕ)) (first : ℕ) (before after : Option (List Item)) (fine : Bool)
     (fault : Option Refusal) : Type 0 where
-  pub wanted : List Wanted
+  pub wanted : List Item
   pub gives : Gives before after wanted
   pub is_update : IsUpdate names wanted
   pub every : fine ≡ true → fault ≡ None → take first names ++ names_of wanted ≡ names
@@ -79,9 +79,9 @@ pub record HasSettled {D : Type 0} (old new : ServerView D) (start now : State) 
 -- The carousel was updated to what was given: the commands are those of the update, or, up to a
 -- fault, a beginning of them.
 pub record HasLooked {D : Type 0} (old new : ServerView D) (start now : State) (s : Standing)
-    (names : List (List ℕ)) (first : ℕ) (before after : Option (List Wanted)) (fine : Bool)
+    (names : List (List ℕ)) (first : ℕ) (before after : Option (List Item)) (fine : Bool)
     (fault : Option Refusal) : Type 0 where
-  pub wanted : List Wanted
+  pub wanted : List Item
   pub gives : Gives before after wanted
   pub is_update : IsUpdate names wanted
   pub every : fine ≡ true → fault ≡ None → take first names ++ names_of wanted ≡ names

@@ -9,7 +9,7 @@ use Rattle.mot_playout.specs.declared.running.Attempt.{Attempt}
 use Rattle.mot_playout.specs.declared.running.Attempt.TheVariants.{Accepted, Refused}
 use Rattle.mot_update.specs.declared.settling.SettleOutcome.{SettleOutcome}
 use Rattle.mot_update.specs.declared.settling.SettleOutcome.TheVariants as settled
-use Rattle.mot_update.specs.declared.wanted.Wanted.{Wanted}
+use Rattle.mot_objects.specs.declared.command.Item.{Item}
 
 -- what came of a command on the object of this name
 pub data Answer : Type 0 where
@@ -24,7 +24,7 @@ answers_of name (settled.Put attempt) = Put name attempt ∷ []
 answers_of name (settled.Replaced attempt) = Replaced name attempt ∷ []
 
 -- what was done for a wanted object
-abbrev pub commands_of : SettleOutcome → Wanted → List Command
+abbrev pub commands_of : SettleOutcome → Item → List Command
 commands_of settled.Right w = []
 commands_of (settled.Put attempt) w = command.Put w.name w.content w.mime w.body ∷ []
 commands_of (settled.Replaced attempt) w = command.Replace w.name w.content w.mime w.body ∷ []
@@ -73,13 +73,13 @@ abbrev pub TellsMore : (List Answer → Type 0) → (List Answer → Type 0) →
 TellsMore before after answers = (told : List Answer) → before told → after (told ++ answers)
 
 -- what was told goes on by these, and what was given by those
-abbrev pub TellsBoth : (List Answer → List Wanted → Type 0) → (List Answer → List Wanted → Type 0)
-    → List Answer → List Wanted → Type 0
+abbrev pub TellsBoth : (List Answer → List Item → Type 0) → (List Answer → List Item → Type 0)
+    → List Answer → List Item → Type 0
 TellsBoth before after answers wanted =
-    (given : List Wanted)
+    (given : List Item)
     → TellsMore (λ told. before told given) (λ told. after told (given ++ wanted)) answers
 
 -- the same, of whatever stays true meanwhile
-abbrev pub TellsSince : {Since : Type 0} → (Since → List Answer → List Wanted → Type 0)
-    → (Since → List Answer → List Wanted → Type 0) → List Answer → List Wanted → Type 0
+abbrev pub TellsSince : {Since : Type 0} → (Since → List Answer → List Item → Type 0)
+    → (Since → List Answer → List Item → Type 0) → List Answer → List Item → Type 0
 TellsSince before after answers wanted = (since : _) → TellsBoth (before since) (after since) answers wanted

@@ -17,10 +17,10 @@ ghost use Rattle.mot_update.specs.Told.{TellsSince};
 ghost use Rattle.mot_update.specs.declared.settling.Need.{Need};
 ghost use Rattle.mot_update.specs.declared.settling.SettleOutcome.{SettleOutcome};
 
-use crate::{Need, SettleOutcome, Source, Wanted, need_of, settle, withdraw};
+use crate::{Need, SettleOutcome, Source, need_of, settle, withdraw};
 use disk_model::Disk;
 use mot_numbers::Refusal;
-use mot_objects::{Carousel, Name};
+use mot_objects::{Carousel, Item, Name};
 use mot_playout::Server;
 use std::alloc::Global;
 
@@ -142,7 +142,7 @@ fn settle_taken<D: Disk, S: Source>(
     server: &mut Server<D>,
     alloc: Global,
     source: &mut S,
-    wanted: Wanted,
+    wanted: Item,
 ) -> Result<Option<SettleOutcome>, Refusal>
     requires { S.last source.old ≡ wanted.name }
     ensures keeps { KeepsLength (D.state server.old.disk) (D.state server.new.disk) }
@@ -179,7 +179,7 @@ fn settle_taken<D: Disk, S: Source>(
 
 /// Whether the object comes into the carousel: a command is needed, and there is room for what it
 /// brings. What could not be stored is not made to last: it would be again at each look.
-fn comes_in<D: Disk>(server: &Server<D>, need: Result<Need, Refusal>, wanted: &Wanted) -> bool
+fn comes_in<D: Disk>(server: &Server<D>, need: Result<Need, Refusal>, wanted: &Item) -> bool
     ensures needed { result ≡ true → is_command need ≡ true }
     ensures room { (n : Need) → need ≡ Ok n → HasRoomFor server.now.view n wanted.now
         → result ≡ true }
@@ -200,7 +200,7 @@ fn has_place<D: Disk>(server: &Server<D>) -> bool
 }
 
 /// Whether a gap holds the body.
-fn has_gap<D: Disk>(server: &Server<D>, wanted: &Wanted) -> bool
+fn has_gap<D: Disk>(server: &Server<D>, wanted: &Item) -> bool
     ensures { HasGapFor server.now.view (length wanted.now.body) → result ≡ true }
 {
     wanted.body.length().get() <= server.longest_gap()

@@ -6,10 +6,10 @@ ghost use Rattle.mot_update.specs.Looking.{Gives, was_settled, was_stored};
 ghost use Rattle.mot_update.specs.Told.{Answer, TellsSince, Withdrew, answers_of, was_accepted};
 ghost use Rattle.mot_update.specs.Updating.{is_known};
 ghost use Rattle.mot_update.specs.declared.settling.SettleOutcome.{SettleOutcome};
-ghost use Rattle.mot_update.specs.declared.wanted.Wanted.{Wanted};
+ghost use Rattle.mot_objects.specs.declared.command.Item.{Item};
 
-use crate::{SettleOutcome, Wanted};
-use mot_objects::Name;
+use crate::SettleOutcome;
+use mot_objects::{Item, Name};
 use mot_playout::Attempt;
 use std::alloc::Global;
 
@@ -33,10 +33,10 @@ pub trait Source {
     ghost Since: { Type 0 };
 
     // What it learned so far is this, and what it gave is that.
-    ghost was_told: { Self → Since → List Answer → List Wanted → Type 0 };
+    ghost was_told: { Self → Since → List Answer → List Item → Type 0 };
 
     // The same, once this object is offered, and before it is taken.
-    ghost offers: { Self → Wanted → Since → List Answer → List Wanted → Type 0 };
+    ghost offers: { Self → Item → Since → List Answer → List Item → Type 0 };
 
     // The name of the object that it offered last.
     ghost last: { Self → List ℕ };
@@ -45,14 +45,14 @@ pub trait Source {
     ghost lasts: { Self → Type 0 } = { λ _. ⊤ };
 
     // The objects that it gave, if that is known.
-    ghost given: { Self → Option (List Wanted) } = { λ _. None };
+    ghost given: { Self → Option (List Item) } = { λ _. None };
 
     /// Whether the name is known.
     fn knows(&self, name: &Name) -> bool
         ensures { result ≡ is_known (names self.now) name.now };
 
     /// The next object that it offers, of a further one of the names; `None` if there is none.
-    fn next(&mut self, alloc: Global) -> Option<Wanted>
+    fn next(&mut self, alloc: Global) -> Option<Item>
         ensures same { names self.new ≡ names self.old }
         ensures goes { place self.old ≤ place self.new }
         ensures gives { Gives (given self.old) (given self.new) [] }
@@ -71,7 +71,7 @@ pub trait Source {
 
     /// Takes the object that it offered last, this one: whether it gives it. One that is new to the
     /// carousel, which has room for it, is made to last before, and left if that fails.
-    fn take(&mut self, wanted: &Wanted, is_new: bool) -> bool
+    fn take(&mut self, wanted: &Item, is_new: bool) -> bool
         requires { last self.old ≡ wanted.now.name }
         ensures same { names self.new ≡ names self.old }
         ensures stays { (place self.new ≡ place self.old) × (last self.new ≡ last self.old) }

@@ -29,10 +29,10 @@ use Rattle.mot_shelf.specs.View.{FolderView}
 use Rattle.mot_suffixes.specs.Types.{SuffixType, type_of_name}
 use Rattle.mot_update.specs.Told.{Answer}
 use Rattle.mot_update.specs.Updating.{is_known}
-use Rattle.mot_update.specs.declared.wanted.Wanted.{Wanted}
+use Rattle.mot_objects.specs.declared.command.Item.{Item}
 
 -- the file of this name was read, and this is wanted of it
-pub record Takes (types : List SuffixType) (name : List ℕ) (old new : Given) (wanted : Wanted) :
+pub record Takes (types : List SuffixType) (name : List ℕ) (old new : Given) (wanted : Item) :
     Type 0 where
   pub bytes : List ℕ
   pub type : SuffixType
@@ -67,7 +67,7 @@ pub record LookStart : Type 0 where
 -- the names. It still has its types, and knows of files what it knew.
 pub record TellsLook (began : LookStart) (types : List SuffixType) (known : List Known)
     (path : List ℕ) (given : Given) (names : List (List ℕ)) (place : ℕ) (report : Report)
-    (waiting : ℕ) (told : List Answer) (gave : List Wanted) : Type 0 where
+    (waiting : ℕ) (told : List Answer) (gave : List Item) : Type 0 where
   pub same_types : types ≡ began.types
   pub same_known : known ≡ began.known
   pub listing : IsListing types path given names
@@ -76,7 +76,7 @@ pub record TellsLook (began : LookStart) (types : List SuffixType) (known : List
 -- the same, once the file of the name before this place was read, of which this is wanted
 pub record TellsOffered (began : LookStart) (types : List SuffixType) (known : List Known)
     (path : List ℕ) (given : Given) (names : List (List ℕ)) (place : ℕ) (report : Report)
-    (waiting : ℕ) (offered : Wanted) (told : List Answer) (gave : List Wanted) : Type 0 where
+    (waiting : ℕ) (offered : Item) (told : List Answer) (gave : List Item) : Type 0 where
   pub before : Given
   pub index : ℕ
   pub next : place ≡ index + 1
@@ -88,7 +88,7 @@ pub record TellsOffered (began : LookStart) (types : List SuffixType) (known : L
 -- the look, by the calls since it began
 abbrev pub LookedSince : (began : LookStart) (now : FolderView) (types : List SuffixType)
     (files : KnownFiles) (names : List (List ℕ)) (place : ℕ) (report : Report) (waiting : ℕ)
-    (is_kept : Bool) → List Answer → List Wanted → Type 0
+    (is_kept : Bool) → List Answer → List Item → Type 0
 LookedSince began now types files names place report waiting is_kept told gave =
     GaveSo began.folder now (λ given. TellsLook began types files.known.items now.path given names
     place report waiting told gave × KnowsFiles given files told
@@ -96,7 +96,7 @@ LookedSince began now types files names place report waiting is_kept told gave =
 
 abbrev pub OfferedSince : (began : LookStart) (now : FolderView) (types : List SuffixType)
     (files : KnownFiles) (names : List (List ℕ)) (place : ℕ) (report : Report) (waiting : ℕ)
-    (is_kept : Bool) → Wanted → List Answer → List Wanted → Type 0
+    (is_kept : Bool) → Item → List Answer → List Item → Type 0
 OfferedSince began now types files names place report waiting is_kept offered told gave =
     GaveSo began.folder now (λ given. TellsOffered began types files.known.items now.path given names
     place report waiting offered told gave × KnowsFiles given files told × (is_kept ≡ false))

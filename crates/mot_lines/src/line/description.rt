@@ -7,24 +7,11 @@ ghost use Rattle.mot_lines.specs.Words.{words_after};
 use super::fields::{parse_body, parse_content, parse_mime, parse_name};
 use super::words::five_words;
 use mot_numbers::Refusal;
-use mot_objects::{Body, Content, Mime, Name};
+use mot_objects::Item;
 use std::alloc::Global;
 
-/// An object, as a put or a replace describes it.
-#[derive(Drop)]
-pub struct Description {
-    /// NAME.
-    pub name: Name,
-    /// TYPE and SUBTYPE.
-    pub content: Content,
-    /// MIME, if it is not `-`.
-    pub mime: Option<Mime>,
-    /// HEX.
-    pub body: Body,
-}
-
 /// NAME TYPE SUBTYPE MIME HEX.
-pub(super) fn parse_description(alloc: Global, words: Option<&[u8]>) -> Result<Description, Refusal>
+pub(super) fn parse_description(alloc: Global, words: Option<&[u8]>) -> Result<Item, Refusal>
     ensures { OrOutOfMemory result (description_of (words_after words.entry)) }
 {
     let Some((name, kind, subtype, mime, hex)) = five_words(words) else {
@@ -34,7 +21,7 @@ pub(super) fn parse_description(alloc: Global, words: Option<&[u8]>) -> Result<D
     let content = parse_content(kind, subtype)?;
     let mime = parse_mime(alloc, mime)?;
     let body = parse_body(alloc, hex)?;
-    Ok(Description {
+    Ok(Item {
         name,
         content,
         mime,

@@ -52,9 +52,3 @@ abbrev pub HasShortId : Action → Type 0
 HasShortId Nothing = Unit {0}
 HasShortId (Remove tid) = tid ≤ 65535
 HasShortId (Set tid version content start size name mime) = tid ≤ 65535
-
--- the ids of a record are numbers of two bytes
-pub record HasShortIds (r : Record) : Type 0 where
-  pub directory : r.directory ≤ 65535
-  pub cursor : r.cursor ≤ 65535
-  pub object : HasShortId r.action

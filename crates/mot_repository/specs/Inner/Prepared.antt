@@ -1,12 +1,11 @@
 -- What a change that is prepared for a command is, and what it writes.
-use Rattle.std.specs.Prelude.{◌≡◌, ◌<◌, ◌≤◌, All, true, false, ℕ, ◌+◌, List, [], ◌∷◌, length}
+use Rattle.std.specs.Prelude.{◌≡◌, ◌<◌, ◌≤◌, All, true, false, ℕ, List, [], ◌∷◌, length}
 use Rattle.std.specs.Prelude.{Option, Some, None, Ok, bytes_eq, if◌then◌else◌}
 use Rattle.mot_journal.specs.declared.record.Record.{Record}
 use Rattle.mot_journal.specs.declared.record.Action.{Action}
 use Rattle.mot_journal.specs.declared.record.Action.TheVariants.{Nothing, Set, Remove}
 use Rattle.mot_journal.specs.Slot.{is_sound, slot_count}
 use Rattle.mot_journal.specs.Journal.{JournalView}
-use Rattle.mot_numbers.specs.Geometry.{area_start}
 use Rattle.mot_objects.specs.declared.carousel.Carousel.{Carousel}
 use Rattle.mot_objects.specs.declared.object.Object.{Object}
 use Rattle.mot_objects.specs.declared.command.Command.{Command}
@@ -14,9 +13,9 @@ use Rattle.mot_objects.specs.declared.command.Command.TheVariants.{Put, Replace,
 use Rattle.mot_objects.specs.declared.command.Done.{Done}
 use Rattle.mot_objects.specs.Carousel.{change}
 use Rattle.mot_objects.specs.Stands.{carousel_of, bodies_after, AreBodiesOf}
-use Rattle.mot_repository.specs.Inner.Extents.{catalogue_in, names_kept}
+use Rattle.mot_repository.specs.Inner.Extents.{catalogue_in}
 use Rattle.mot_repository.specs.Records.{records_of_catalogue}
-use Rattle.mot_repository.specs.Outcome.{body_of, extents_after, has_long_name, start_of}
+use Rattle.mot_repository.specs.Outcome.{has_long_name, start_of}
 use Rattle.mot_repository.specs.Repository.{RepositoryView}
 
 -- the first object of this name
@@ -71,17 +70,6 @@ pub record IsPreparedFor (view : RepositoryView) (command : Command) (done : Don
   pub lies : start_of view.extents view.journal.geometry.area command ≡ Some from
   pub record_is : r ≡ kept_record view.carousel next command from
   pub given_is : IsFull view.journal → given ≡ records_of_catalogue (catalogue_in view)
-
--- what is kept of a prepared change is that of this command
-pub record IsPreparedChange (view : RepositoryView) (command : Command) (done : Done)
-    (next : Carousel) (extents : List (ℕ × ℕ))
-    (at : ℕ) (body : List ℕ) (r : Record) (given : List Record) : Type 0 where
-  pub from : ℕ
-  pub at_is : at ≡ area_start view.journal.geometry + from
-  pub body_is : body ≡ body_of command
-  pub prepared : IsPreparedFor view command done next from r given
-  pub extents_are : extents
-      ≡ extents_after (names_kept view.carousel) view.extents command from
 
 -- these records can be written into the other half, and leave room there
 pub record CanBeGiven (j : JournalView) (given : List Record) : Type 0 where

@@ -19,13 +19,15 @@ ghost use Rattle.mot_repository.specs.Inner.Bounds.{AreEndsWithin, AreIdsWithin,
 ghost use Rattle.mot_repository.specs.Inner.Bounds.{AreWithin};
 ghost use Rattle.mot_repository.specs.Inner.Fold.{HaveLengths, are_extents_apart, are_consistent};
 ghost use Rattle.mot_repository.specs.Inner.Fold.{if_consistent, if_done, objects_set};
-ghost use Rattle.mot_repository.specs.Inner.Fold.{IsFoldRefusal, HasShortId, HasShortIds};
+ghost use Rattle.mot_repository.specs.Inner.Fold.{IsFoldRefusal};
+ghost use Rattle.mot_repository.specs.Inner.Planned.{IsTyped};
 ghost use Rattle.mot_repository.specs.Inner.Faults.{HasSettingFault, IsClash, IsFoldReason};
 ghost use Rattle.mot_repository.specs.declared.opening.bounds.Bounds.{Bounds};
 
 use super::bounds::Bounds;
 use crate::by_start::sorted_by_start;
 use crate::inventory::Inventory;
+use crate::records::know_fields;
 use mot_carousel::is_clear;
 use mot_journal::{Action, Fault, ListFault, Reason, Record};
 use mot_numbers::{Geometry, TransportId};
@@ -52,7 +54,7 @@ pub(crate) fn inventory_of(
     requires numbered { vec_len records ≤ 65536 }
     ensures folded { IfOk result (λ i. catalogue_of geometry.now.objects records.items
         ≡ Ok (catalogue_with i.carousel i.extents.items)) }
-    ensures short { IfOk result (λ _. All HasShortIds records.items) }
+    ensures typed { IfOk result (λ _. All IsTyped records.items) }
     ensures refused { IfErr result
         (λ fault. IsFoldRefusal geometry.now.objects records.items fault.refusal) }
     ensures reason { IfErr result (λ fault. HasReason fault.refusal fault.reason) }
@@ -75,7 +77,7 @@ fn fold_records(alloc: Global, geometry: &Geometry, records: Vec<Record>) -> Res
     requires numbered { vec_len records ≤ 65536 }
     ensures folded { IfOk result (λ f. catalogue_of geometry.now.objects records.items
         ≡ Ok (catalogue_with f.carousel f.extents.items)) }
-    ensures short { IfOk result (λ _. All HasShortIds records.items) }
+    ensures typed { IfOk result (λ _. All IsTyped records.items) }
     ensures refused { IfErr result
         (λ fault. IsFoldRefusal geometry.now.objects records.items fault.refusal) }
     ensures reason { IfErr result (λ fault. HasReason fault.refusal fault.reason) }
@@ -87,7 +89,7 @@ fn fold_records(alloc: Global, geometry: &Geometry, records: Vec<Record>) -> Res
     let mut bounds = Bounds::of_none();
     let mut slot: usize = 0;
     for entry in records {
-        know_ids(&entry);
+        know_fields(&entry);
         match folded_after(folded, &mut bounds, limit, entry) {
             Ok(next) => folded = next,
             Err(fault) => {
@@ -98,29 +100,6 @@ fn fold_records(alloc: Global, geometry: &Geometry, records: Vec<Record>) -> Res
         slot += 1;
     }
     Ok(folded)
-}
-
-/// What the types of a record's ids say: they are numbers of two bytes. It is there for the proof,
-/// and does nothing when it runs.
-fn know_ids(entry: &Record)
-    ensures { HasShortIds entry.now }
-{
-    entry.directory.get();
-    entry.cursor.get();
-    know_object_id(&entry.action);
-}
-
-/// What the type of the id of a record that names an object says. It is there for the proof, and
-/// does nothing when it runs.
-fn know_object_id(action: &Action)
-    ensures { HasShortId action.now }
-{
-    match action {
-        Action::Nothing => {}
-        Action::Set { tid, .. } | Action::Remove { tid } => {
-            tid.get();
-        }
-    }
 }
 
 /// No objects, with room for so many.
@@ -171,33 +150,18 @@ fn folded_after(
     ensures bounded { IfOk result (λ next. AreWithin bounds.new next.carousel.objects.items
         next.extents.items) }
 {
-    let Folded {
-        carousel,
-        mut extents,
-    } = folded;
-    let Carousel {
-        period: _,
-        directory: _,
-        cursor: _,
-        mut objects,
-    } = carousel;
-    let Record {
-        period,
-        directory,
-        cursor,
-        action,
-    } = entry;
-    apply(&mut objects, &mut extents, bounds, limit, action)?;
-    if is_id_used(&objects, bounds.greatest_id, directory) {
-        return Err(ListFault::DirectoryId {
-            id: directory.get(),
-        });
+    let mut objects = folded.carousel.objects;
+    let mut extents = folded.extents;
+    apply(&mut objects, &mut extents, bounds, limit, entry.action)?;
+    if is_id_used(&objects, bounds.greatest_id, entry.directory) {
+        let id = entry.directory.get();
+        return Err(ListFault::DirectoryId { id });
     }
     Ok(Folded {
         carousel: Carousel {
-            period,
-            directory,
-            cursor,
+            period: entry.period,
+            directory: entry.directory,
+            cursor: entry.cursor,
             objects,
         },
         extents,

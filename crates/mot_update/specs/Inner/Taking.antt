@@ -15,7 +15,7 @@ use Rattle.mot_update.specs.Updating.{settling}
 use Rattle.mot_update.specs.declared.settling.Need.{Need}
 use Rattle.mot_update.specs.declared.settling.Need.TheVariants as need
 use Rattle.mot_update.specs.declared.settling.SettleOutcome.{SettleOutcome}
-use Rattle.mot_update.specs.declared.wanted.Wanted.{Wanted}
+use Rattle.mot_objects.specs.declared.command.Item.{Item}
 
 -- whether a command is needed
 abbrev pub is_command : Result Need Refusal → Bool
@@ -30,7 +30,7 @@ HasGapFor view n =
     (gap : ℕ) → IsLongestGap view.extents view.journal.geometry.area gap → n ≤ gap
 
 -- the object comes into the carousel: a command is needed, and there is room for what it brings
-abbrev pub HasRoomFor : RepositoryView → Need → Wanted → Type 0
+abbrev pub HasRoomFor : RepositoryView → Need → Item → Type 0
 HasRoomFor view need.Nothing w = ⊥
 HasRoomFor view need.Put w =
     (length view.carousel.objects.items < view.journal.geometry.objects)
@@ -38,13 +38,13 @@ HasRoomFor view need.Put w =
 HasRoomFor view need.Replace w = HasGapFor view (length w.body)
 
 -- what was given
-abbrev pub given_if : Result (Option SettleOutcome) Refusal → Wanted → List Wanted
+abbrev pub given_if : Result (Option SettleOutcome) Refusal → Item → List Item
 given_if (Ok None) w = []
 given_if (Ok (Some settled)) w = w ∷ []
 given_if (Err refusal) w = w ∷ []
 
 -- what was to be done for it, and the marks of what was answered
-abbrev pub commands_if : Result (Option SettleOutcome) Refusal → List Object → Wanted → List Command
+abbrev pub commands_if : Result (Option SettleOutcome) Refusal → List Object → Item → List Command
 commands_if (Ok None) objects w = []
 commands_if (Ok (Some settled)) objects w = settling objects w
 commands_if (Err refusal) objects w = settling objects w
@@ -55,7 +55,7 @@ marks_if (Ok (Some settled)) = marks_of_settling (Ok settled)
 marks_if (Err refusal) = []
 
 -- what was done is what was to be done, and its ids and its refusal are the command's
-abbrev pub IsDoneRightly : Layout → Standing → Wanted → Result (Option SettleOutcome) Refusal → Type 0
+abbrev pub IsDoneRightly : Layout → Standing → Item → Result (Option SettleOutcome) Refusal → Type 0
 IsDoneRightly layout s w (Ok None) = ⊤
 IsDoneRightly layout s w (Ok (Some settled)) =
     (settling s.carousel.objects w ≡ commands_of settled w)

@@ -38,7 +38,7 @@ use Rattle.mot_shelf.proofs.Laws.{gives_path}
 use Rattle.mot_shelf.specs.Given.{Given, nothing}
 use Rattle.mot_update.specs.HasRun.{HasRun}
 use Rattle.mot_update.specs.Told.{Answer}
-use Rattle.mot_update.specs.declared.wanted.Wanted.{Wanted}
+use Rattle.mot_objects.specs.declared.command.Item.{Item}
 use Rattle.std.specs.Prelude.{◌≢◌, IsOk, OnOk}
 use Rattle.mot_playout.specs.Attempts.{fault_of}
 use Rattle.mot_suffixes.specs.Types.{AreShown, SuffixType}
@@ -168,7 +168,7 @@ knows_begins first files unread none = record {
 -- a look that began so is of the types that it began with, and of this path and these names
 behind : {waiting : ℕ} (began : LookStart) (types : List SuffixType) (known : List Known)
     (path other : List ℕ) (last : Given) (names after : List (List ℕ)) (place : ℕ)
-    (report : Report) (answers : List Answer) (wanted : List Wanted)
+    (report : Report) (answers : List Answer) (wanted : List Item)
     → TellsLook began types known other last after place report waiting answers wanted
     → other ≡ path → after ≡ names
     → TellsLook began began.types known path last names place report waiting answers wanted

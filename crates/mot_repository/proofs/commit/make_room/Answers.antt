@@ -1,26 +1,20 @@
 use Rattle.std.proofs.Common.{◌≡◌, ◌∙◌, ◌+◌, ◌≤◌, ◌<◌, ℕ, false, true, inl, inr, refl, sym, ap}
 use Rattle.std.proofs.Common.{subst, arith}
-use Rattle.std.proofs.lemmas.Bool.{cases_lt, le-leb, false_from_ne_true, leb-true}
+use Rattle.std.proofs.lemmas.Bool.{le-leb, false_from_ne_true, leb-true}
 use Rattle.std.specs.Prelude.{if◌then◌else◌, nat_le}
 use Rattle.std.proofs.lemmas.Result.{on_ok_weaker}
-use Rattle.disk_model.proofs.Laws.{begins, keeps_none}
+use Rattle.disk_model.proofs.Laws.{begins}
 use Rattle.disk_model.specs.Disk.{Costs}
 use Rattle.mot_journal.specs.Slot.{slot_count}
 use Rattle.mot_journal.specs.Journal.{JournalView, HoldsRecords}
 use Rattle.mot_repository.specs.Cost.{calls_for_room}
-use Rattle.mot_repository.proofs.Answering.{at_fault, calm_where_ok, either_way, no_less, of_three}
+use Rattle.mot_repository.proofs.Answering.{no_less, of_three}
 use Rattle.mot_repository.specs.Repository.{IsOf}
 use Rattle.mot_repository.proofs.Moved.{here, folds, moments, held}
 use Rattle.mot_repository.proofs.commit.make_room.Goals as goal
 
 not_both : false ≡ true → ⊥
 not_both e = cc
-
-below : (a b : ℕ) → (b ≤ a → ⊥) → a < b
-below a b not = elim (cases_lt a b) [ inl lt ↦ lt | inr le ↦ absurd (not le) ]
-
-no_more : {a b : ℕ} → a < b → a ≤ b
-no_more lt = omega arith
 
 none_more : (a n : ℕ) → n ≡ 0 → a ≡ a + n
 none_more a n none = omega arith
@@ -39,35 +33,12 @@ room_full j full =
     let slots = slot_count j.layout j.geometry in
     sym (ap (λ b. if b then slots + 3 else 0) (le-leb slots j.count full))
 
-pub returns-then-not-is_full-clause-keeps : goal.returns-then-not-is_full-clause-keeps
-returns-then-not-is_full-clause-keeps g c =
-    record { frame = keeps_none (g.D.Disk.state c.args.disk.now); honest = λ is. is }
-
-pub returns-then-not-is_full-clause-cause : goal.returns-then-not-is_full-clause-cause
-returns-then-not-is_full-clause-cause g c = tt
-
-pub returns-then-not-is_full-clause-calm : goal.returns-then-not-is_full-clause-calm
-returns-then-not-is_full-clause-calm g c = refl
-
 pub returns-then-not-is_full-clause-cost : goal.returns-then-not-is_full-clause-cost
 returns-then-not-is_full-clause-cost g c = record {
   at_most = no_less _ _;
   exact = none_more _ _
       (room_free c.args.journal.now (λ full. not_both (c.if-not-is_full.ensures.1 full)));
 }
-
-pub returns-then-not-is_full-clause-geometry : goal.returns-then-not-is_full-clause-geometry
-returns-then-not-is_full-clause-geometry g c = refl
-
-pub returns-then-not-is_full-clause-layout : goal.returns-then-not-is_full-clause-layout
-returns-then-not-is_full-clause-layout g c = refl
-
-pub returns-then-not-is_full-clause-going : goal.returns-then-not-is_full-clause-going
-returns-then-not-is_full-clause-going g c = c.requires.going
-
-pub returns-then-not-is_full-clause-not_full : goal.returns-then-not-is_full-clause-not_full
-returns-then-not-is_full-clause-not_full g c =
-    below _ _ (λ full. not_both (c.if-not-is_full.ensures.1 full))
 
 pub returns-then-not-is_full-clause-any_moment : goal.returns-then-not-is_full-clause-any_moment
 returns-then-not-is_full-clause-any_moment g c = λ view s k is holds fold fold'.
@@ -95,52 +66,11 @@ returns-then-not-is_full-clause-room g c = λ view s k is holds fold fold'.
       );
     }
 
-pub returns-then-not-is_full-clause-fault : goal.returns-then-not-is_full-clause-fault
-returns-then-not-is_full-clause-fault g c = tt
-
-pub rewrite-requires-clause-some : goal.rewrite-requires-clause-some
-rewrite-requires-clause-some g c = (c.requires.given (c.if-not-is_full.ensures.0 refl)).some
-
-pub rewrite-requires-clause-few : goal.rewrite-requires-clause-few
-rewrite-requires-clause-few g c =
-    no_more (c.requires.given (c.if-not-is_full.ensures.0 refl)).few
-
-pub rewrite-requires-clause-going : goal.rewrite-requires-clause-going
-rewrite-requires-clause-going g c = c.requires.going
-
-pub rewrite-requires-clause-long_enough : goal.rewrite-requires-clause-long_enough
-rewrite-requires-clause-long_enough g c = c.requires.long_enough
-
-pub rewrite-requires-clause-sound : goal.rewrite-requires-clause-sound
-rewrite-requires-clause-sound g c = (c.requires.given (c.if-not-is_full.ensures.0 refl)).sound
-
-pub returns-clause-keeps : goal.returns-clause-keeps
-returns-clause-keeps g c = c.rewrite.ensures.keeps
-
-pub returns-clause-cause : goal.returns-clause-cause
-returns-clause-cause g c = at_fault c.rewrite.result _ c.rewrite.ensures.cause
-
-pub returns-clause-calm : goal.returns-clause-calm
-returns-clause-calm g c = calm_where_ok c.rewrite.result c.rewrite.ensures.cause
-
 pub returns-clause-cost : goal.returns-clause-cost
 returns-clause-cost g c =
     let state = g.D.Disk.state in
     subst (λ n. Costs n (state c.args.disk.now) (state c.rewrite.new.disk) c.rewrite.result)
     (room_full c.args.journal.now (c.if-not-is_full.ensures.0 refl)) c.rewrite.ensures.cost
-
-pub returns-clause-fault : goal.returns-clause-fault
-returns-clause-fault g c = c.rewrite.ensures.fault
-
-pub returns-clause-geometry : goal.returns-clause-geometry
-returns-clause-geometry g c =
-    either_way c.rewrite.result c.rewrite.ensures.spent c.rewrite.ensures.rewrites.moves
-    (ap (λ (i : JournalView). i.geometry)) (ap (λ (i : JournalView). i.geometry))
-
-pub returns-clause-layout : goal.returns-clause-layout
-returns-clause-layout g c =
-    either_way c.rewrite.result c.rewrite.ensures.spent c.rewrite.ensures.rewrites.moves
-    (ap (λ (i : JournalView). i.layout)) (ap (λ (i : JournalView). i.layout))
 
 pub returns-clause-going : goal.returns-clause-going
 returns-clause-going g c =

@@ -30,41 +30,10 @@ returns-clause-in_order g c =
     c.in_ok-inventory.inventory.extents.items c.in_ok-loaded.loaded.records.items
     (g.D.Disk.state c.args.disk.now).len c.in_ok-loaded.ensures.valid
     c.in_ok-loaded.ensures.long_enough c.in_ok-loaded.ensures.sound
-    c.in_ok-inventory.ensures.short
+    c.in_ok-inventory.ensures.typed
     (ap (λ (x : Geometry). catalogue_of x.objects c.in_ok-loaded.loaded.records.items)
     (sym c.geometry-geometry.ensures) ∙ c.in_ok-inventory.ensures.folded)
     c.in_ok-inventory.inventory.paired c.in_ok-loaded.ensures.going
-
-pub returns-in_err-loaded-clause-only_reads : goal.returns-in_err-loaded-clause-only_reads
-returns-in_err-loaded-clause-only_reads g c = c.load_with_reason.ensures.only_reads
-
-pub returns-in_err-loaded-clause-going : goal.returns-in_err-loaded-clause-going
-returns-in_err-loaded-clause-going g c =
-    let p = err_from_is_err_and c.from_residual.result c.from_residual.ensures.1 in
-    rw p.1 tt
-
-pub returns-in_err-loaded-clause-in_order : goal.returns-in_err-loaded-clause-in_order
-returns-in_err-loaded-clause-in_order g c =
-    let p = err_from_is_err_and c.from_residual.result c.from_residual.ensures.1 in
-    rw p.1 tt
-
-pub returns-in_err-loaded-clause-loaded : goal.returns-in_err-loaded-clause-loaded
-returns-in_err-loaded-clause-loaded g c =
-    let p = err_from_is_err_and c.from_residual.result c.from_residual.ensures.1 in
-    rw p.1 (λ honest. tt)
-
-pub returns-in_err-loaded-clause-cost : goal.returns-in_err-loaded-clause-cost
-returns-in_err-loaded-clause-cost g c =
-    let p = err_from_is_err_and c.from_residual.result c.from_residual.ensures.1 in
-    rw p.1 (record { at_most = c.load_with_reason.ensures.cost.at_most; exact = tt })
-
-pub returns-in_err-loaded-clause-calm : goal.returns-in_err-loaded-clause-calm
-returns-in_err-loaded-clause-calm g c =
-    let p = err_from_is_err_and c.from_residual.result c.from_residual.ensures.1 in
-    rw (p.1, p.2) c.in_err-loaded.ensures.calm
-
-pub returns-in_err-inventory-clause-only_reads : goal.returns-in_err-inventory-clause-only_reads
-returns-in_err-inventory-clause-only_reads g c = c.load_with_reason.ensures.only_reads
 
 pub returns-in_err-inventory-clause-going : goal.returns-in_err-inventory-clause-going
 returns-in_err-inventory-clause-going g c =
@@ -95,30 +64,6 @@ returns-in_err-inventory-clause-calm g c =
     let p = err_from_is_err_and c.from_residual-in_err-inventory.result
     c.from_residual-in_err-inventory.ensures.1 in
     rw p.1 (inr c.in_ok-loaded.ensures.calm)
-
-pub returns-clause-only_reads : goal.returns-clause-only_reads
-returns-clause-only_reads g c = c.load_with_reason.ensures.only_reads
-
-pub returns-clause-going : goal.returns-clause-going
-returns-clause-going g c = c.in_ok-loaded.ensures.going
-
-pub returns-clause-calm : goal.returns-clause-calm
-returns-clause-calm g c = c.in_ok-loaded.ensures.calm
-
-pub returns-clause-cost : goal.returns-clause-cost
-returns-clause-cost g c =
-    let cost = c.in_ok-loaded.ensures.cost in
-    record { at_most = cost.at_most; exact = cost.exact }
-
-pub returns-in_err-loaded-clause-reason : goal.returns-in_err-loaded-clause-reason
-returns-in_err-loaded-clause-reason g c =
-    let p = err_from_is_err_and c.from_residual.result c.from_residual.ensures.1 in
-    rw (p.1, p.2) c.in_err-loaded.ensures.reason
-
-pub returns-in_err-loaded-clause-so : goal.returns-in_err-loaded-clause-so
-returns-in_err-loaded-clause-so g c =
-    let p = err_from_is_err_and c.from_residual.result c.from_residual.ensures.1 in
-    rw (p.1, p.2) c.in_err-loaded.ensures.so
 
 pub returns-in_err-inventory-clause-reason : goal.returns-in_err-inventory-clause-reason
 returns-in_err-inventory-clause-reason g c =

@@ -1,13 +1,15 @@
-use Rattle.std.proofs.Common.{◌≡◌, None, false, sym, ap, ◌∙◌}
+use Rattle.std.proofs.Common.{◌≡◌, None, true, false, sym, ap, subst, ◌∙◌, rules, Vec, Global}
 use Rattle.std.proofs.lemmas.Result.{err_from_is_err_and}
-use Rattle.mot_repository.specs.Answers.{IsRefusal}
+use Rattle.mot_carousel.specs.Gap.{AreReordered}
 use Rattle.mot_repository.specs.Outcome.{has_long_name, start_of}
 use Rattle.mot_repository.specs.Inner.InOrder.{view_with}
 use Rattle.mot_repository.specs.Repository.{RepositoryView}
 use Rattle.mot_repository.proofs.ByStart.{start-reordered}
 use Rattle.mot_repository.proofs.Planned.{name_refused, plan_refused, room_refused, IsWorkedOut}
 use Rattle.mot_repository.proofs.Planned.{prepared_is, kept_after}
+use Rattle.mot_journal.specs.declared.record.Record.{Record}
 use Rattle.mot_repository.proofs.prepared.prepare_change.Goals as goal
+use Rattle.mot_repository.proofs.prepared.prepare_change.Goals.{then-is_full+in_ok-given, else-is_full}
 
 pub returns-then-is_name_too_long-clause-refused : goal.returns-then-is_name_too_long-clause-refused
 returns-then-is_name_too_long-clause-refused c = λ view k going.
@@ -38,31 +40,13 @@ returns-in_default-clause-refused c = λ view k going.
     let nowhere : start_of view.extents view.journal.geometry.area c.args.command.now ≡ None =
     rw (geometry, extents)
     (start-reordered c.args.inventory.now.extents.items c.args.inventory.now.by_start.items
-    c.args.geometry.now.area c.args.command.now c.args.inventory.now.reordered
-    ∙ ap (λ l. start_of l c.args.geometry.now.area c.args.command.now)
-    (sym c.deref.ensures.value) ∙ sym c.body_start-start.ensures ∙ c.in_default.is) in
+    c.deref.result.now c.args.geometry.now.area c.args.command.now c.body_bytes-body.result.now
+    c.args.inventory.now.reordered c.deref.ensures.value c.body_bytes-body.ensures.value
+    ∙ sym c.first_fit-start.ensures ∙ c.in_default.is) in
     room_refused view c.args.command.now going c.is_name_too_long.ensures.fits
     c.in_ok-change.change.next c.in_ok-change.change.done
     short
     (rw (geometry, carousel) c.in_ok-change.ensures.planned) nowhere
-
-pub returns-in_err-extents-clause-refused : goal.returns-in_err-extents-clause-refused
-returns-in_err-extents-clause-refused c = λ view k going.
-    let short : has_long_name view.journal.layout c.args.command.now ≡ false =
-    ap (λ l. has_long_name l c.args.command.now) k.layout_is ∙ sym c.is_name_too_long.ensures.value
-    ∙ c.if-is_name_too_long.false in
-    let p = err_from_is_err_and c.from_residual-in_err-extents.result
-    c.from_residual-in_err-extents.ensures.1 in
-    rw p.1 (IsRefusal.no_memory going short p.2)
-
-pub returns-in_err-by_start-clause-refused : goal.returns-in_err-by_start-clause-refused
-returns-in_err-by_start-clause-refused c = λ view k going.
-    let short : has_long_name view.journal.layout c.args.command.now ≡ false =
-    ap (λ l. has_long_name l c.args.command.now) k.layout_is ∙ sym c.is_name_too_long.ensures.value
-    ∙ c.if-is_name_too_long.false in
-    let p = err_from_is_err_and c.from_residual-in_err-by_start.result
-    c.from_residual-in_err-by_start.ensures.1 in
-    rw p.1 (IsRefusal.no_memory going short p.2)
 
 pub invariant_of-result : goal.invariant_of-result
 invariant_of-result c =
@@ -82,10 +66,10 @@ invariant_of-result c =
       paired = old.paired;
       short = sym c.is_name_too_long.ensures.value ∙ c.if-is_name_too_long.false;
       changes = c.in_ok-change.ensures.planned;
-      lies = start-reordered old.extents.items old.by_start.items c.args.geometry.now.area
-          c.args.command.now old.reordered
-          ∙ ap (λ l. start_of l c.args.geometry.now.area c.args.command.now)
-          (sym c.deref.ensures.value) ∙ sym c.body_start-start.ensures ∙ c.in-Some.is;
+      lies = start-reordered old.extents.items old.by_start.items c.deref.result.now
+          c.args.geometry.now.area c.args.command.now c.body_bytes-body.result.now
+          old.reordered c.deref.ensures.value c.body_bytes-body.ensures.value
+          ∙ sym c.first_fit-start.ensures ∙ c.in-Some.is;
       record_is = c.in_ok-record.ensures.made;
       typed = c.in_ok-record.ensures.typed;
     } in
@@ -93,7 +77,8 @@ invariant_of-result c =
       paired = rw c.in_ok-extents.ensures
           (kept_after view c.args.command.now c.in_ok-change.change.next c.in_ok-change.change.done
           c.in-Some.start c.in_ok-record.record is).paired;
-      reordered = rw c.in_ok-extents.ensures c.in_ok-by_start.ensures;
+      reordered = subst (λ l. AreReordered l c.in_ok-by_start.by_start.items)
+          c.deref-2.ensures.value c.in_ok-by_start.ensures;
     }
 
 pub returns-clause-prepared : goal.returns-clause-prepared
@@ -113,46 +98,20 @@ returns-clause-prepared c = λ view k told.
       changes = rw (geometry, carousel) c.in_ok-change.ensures.planned;
       lies = rw (geometry, extents)
           (start-reordered c.args.inventory.now.extents.items c.args.inventory.now.by_start.items
-          c.args.geometry.now.area c.args.command.now c.args.inventory.now.reordered
-          ∙ ap (λ l. start_of l c.args.geometry.now.area c.args.command.now)
-          (sym c.deref.ensures.value) ∙ sym c.body_start-start.ensures ∙ c.in-Some.is);
+          c.deref.result.now c.args.geometry.now.area c.args.command.now
+          c.body_bytes-body.result.now c.args.inventory.now.reordered c.deref.ensures.value
+          c.body_bytes-body.ensures.value ∙ sym c.first_fit-start.ensures ∙ c.in-Some.is);
       record_is = rw carousel c.in_ok-record.ensures.made;
       typed = c.in_ok-record.ensures.typed;
     } in
     prepared_is view c.args.command.now _ c.in-Some.start is
-    (λ full. rw (carousel, extents) (c.in_ok-given.ensures (told full)))
-    (rw geometry c.place_in_area.ensures)
-    c.body_bytes.ensures (rw (carousel, extents) c.in_ok-extents.ensures)
-
-pub returns-in_err-given-clause-refused : goal.returns-in_err-given-clause-refused
-returns-in_err-given-clause-refused c = λ view k going.
-    let short : has_long_name view.journal.layout c.args.command.now ≡ false =
-    ap (λ l. has_long_name l c.args.command.now) k.layout_is ∙ sym c.is_name_too_long.ensures.value
-    ∙ c.if-is_name_too_long.false in
-    let p = err_from_is_err_and c.from_residual-in_err-given.result
-    c.from_residual-in_err-given.ensures.1 in
-    rw p.1 (IsRefusal.no_memory going short p.2)
-
-pub returns-in_err-record-clause-refused : goal.returns-in_err-record-clause-refused
-returns-in_err-record-clause-refused c = λ view k going.
-    let short : has_long_name view.journal.layout c.args.command.now ≡ false =
-    ap (λ l. has_long_name l c.args.command.now) k.layout_is ∙ sym c.is_name_too_long.ensures.value
-    ∙ c.if-is_name_too_long.false in
-    let p = err_from_is_err_and c.from_residual-in_err-record.result
-    c.from_residual-in_err-record.ensures.1 in
-    rw p.1 (IsRefusal.no_memory going short p.2)
-
-pub extents_after-requires-clause-place : goal.extents_after-requires-clause-place
-extents_after-requires-clause-place c = c.place_in-place.ensures.place
-
-pub extents_after-requires-clause-within : goal.extents_after-requires-clause-within
-extents_after-requires-clause-within c = c.place_in-place.ensures.within
-
-pub by_start_after-requires-clause-place : goal.by_start_after-requires-clause-place
-by_start_after-requires-clause-place c = c.place_in-place.ensures.place
-
-pub by_start_after-requires-clause-within : goal.by_start_after-requires-clause-within
-by_start_after-requires-clause-within c = c.place_in-place.ensures.within
-
-pub returns-clause-short : goal.returns-clause-short
-returns-clause-short c = sym c.is_name_too_long.ensures.value ∙ c.if-is_name_too_long.false
+    (λ full. rw (carousel, extents) (elim c.if-is_full.branch [
+      | then-is_full+in_ok-given w ↦
+          ap (λ (v : Vec Record Global). v.items) w.given-is ∙ w.in_ok-given.ensures
+      | else-is_full w ↦
+          let full : c.args.is_full ≡ true = told full in
+          let room : c.args.is_full ≡ false = w.if-is_full.false in
+          cc
+    ]))
+    (rw geometry (search rules))
+    c.body_bytes-body.ensures.value (rw (carousel, extents) c.in_ok-extents.ensures)

@@ -64,23 +64,8 @@ returns c =
           (λ e. isnt_zero c.is_empty.result n c.is_empty.ensures w.if-is_empty.false (size ∙ e))
     ]
 
-pub overflow_add-len : goal.overflow_add-len
-overflow_add-len c = omega arith
-
-pub offset_bounds-object-items-place : goal.offset_bounds-object-items-place
-offset_bounds-object-items-place c = omega arith
-
-pub bounds-object-items-place : goal.bounds-object-items-place
-bounds-object-items-place c = omega arith
-
 pub index-requires : goal.index-requires
 index-requires c =
     let old = c.args.inventory.now in
     let same = same_count old.carousel.objects.items old.extents.items old.paired in
     omega (arith, same)
-
-pub push_reserved-requires : goal.push_reserved-requires
-push_reserved-requires c = omega arith
-
-pub push_reserved-requires-then-is_empty : goal.push_reserved-requires-then-is_empty
-push_reserved-requires-then-is_empty c = omega arith

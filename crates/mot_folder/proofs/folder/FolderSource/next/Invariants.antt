@@ -3,14 +3,14 @@ use Rattle.mot_folder.specs.Inner.Knowing.{is_fine_look}
 use Rattle.mot_folder.specs.Inner.Reading.{LookStart, LookedSince}
 use Rattle.mot_shelf.specs.Reader.{view}
 use Rattle.mot_update.specs.Told.{Answer}
-use Rattle.mot_update.specs.declared.wanted.Wanted.{Wanted}
+use Rattle.mot_objects.specs.declared.command.Item.{Item}
 use Rattle.mot_folder.proofs.folder.FolderSource.next.Given as goal
 
 abbrev pub invariant-loop-self : goal.invariant-loop-self
 invariant-loop-self g l = record {
   names : l.self.names.names.items ≡ l.initial.self.names.names.items;
   goes : l.initial.self.place ≤ l.self.place;
-  looked : (since : LookStart) (told : List Answer) (gave : List Wanted)
+  looked : (since : LookStart) (told : List Answer) (gave : List Item)
       → LookedSince since (view g.S.System.calls l.initial.self.shelf)
       l.initial.self.types.now l.initial.self.files l.initial.self.names.names.items
       l.initial.self.place l.initial.self.report l.initial.self.sizes.waiting

@@ -1,8 +1,7 @@
 use Rattle.std.proofs.Common.{◌≡◌, ℕ, ◌+◌, List, ◌++◌, [], ◌∷◌, ◌∙◌, Ok, inl, sym, ap, subst}
-use Rattle.std.proofs.Common.{length, ◌≤◌, Result, refl, arith}
+use Rattle.std.proofs.Common.{length, ◌≤◌, arith}
 use Rattle.std.proofs.lemmas.Result.{err_from_is_err_and, on_ok_weaker}
 use Rattle.disk_model.specs.Disk.{WritesWithin}
-use Rattle.disk_model.specs.Failures.{HasCause}
 use Rattle.disk_model.proofs.Laws.{weakens, keeps_all_on}
 use Rattle.mot_journal.specs.declared.record.Record.{Record}
 use Rattle.mot_journal.specs.Image.{catalogue_of}
@@ -10,9 +9,9 @@ use Rattle.mot_journal.specs.Catalogue.{Catalogue}
 use Rattle.mot_journal.specs.Gaps.{AreBeside, standing_of}
 use Rattle.mot_journal.specs.Image.{Standing}
 use Rattle.mot_journal.specs.Journal.{JournalView, HoldsRecords, OnlyReadArea}
-use Rattle.mot_numbers.specs.Geometry.{area_start, length_of}
+use Rattle.mot_numbers.specs.Geometry.{area_start}
 use Rattle.mot_repository.specs.Repository.{RepositoryView, IsOf, IsBeforeOrAfter, Holds}
-use Rattle.mot_repository.proofs.Answering.{either_way, of_three}
+use Rattle.mot_repository.proofs.Answering.{of_three}
 use Rattle.mot_repository.proofs.Committing.{WroteBody, is_read, wrote_body, is_ready, any_moment}
 use Rattle.mot_repository.proofs.Committing.{holds_after}
 use Rattle.mot_repository.proofs.commit.entry.write_change.Given as given
@@ -27,11 +26,6 @@ at_most_four_behind a b mid n first then = omega arith
 
 four_behind : (a b mid n : ℕ) → mid ≡ a + b → n ≡ mid + 4 → n ≡ a + (b + 4)
 four_behind a b mid n first then = omega arith
-
--- a call behind calm ones has a cause in all of them
-behind_calm : {T E : Type 0} {r : Result T E} (before mid now : ℕ) → mid ≡ before
-    → HasCause mid now r → HasCause before now r
-behind_calm {T} {E} {r} before mid now calm is = subst (λ n. HasCause n now r) calm is
 
 -- what the write of the body left
 body_left : (g : given.Over) (c : After-write_body g) (view : RepositoryView) (s : Standing)
@@ -78,12 +72,6 @@ returns-clause-any_moment g c =
     (c.in_ok-write_body.ensures.bytes holds.journal.honest))
     (c.append.ensures.any_moment records ready.0 ready.1)
 
-pub write_body-requires : goal.write_body-requires
-write_body-requires g c = record { within = c.requires.within }
-
-pub returns-in_err-write_body-clause-keeps : goal.returns-in_err-write_body-clause-keeps
-returns-in_err-write_body-clause-keeps g c = c.write_body.ensures.keeps
-
 pub returns-in_err-write_body-clause-cause : goal.returns-in_err-write_body-clause-cause
 returns-in_err-write_body-clause-cause g c =
     let p = err_from_is_err_and c.from_residual.result c.from_residual.ensures.1 in
@@ -98,50 +86,17 @@ returns-in_err-write_body-clause-cost g c =
       exact = tt;
     })
 
-pub returns-in_err-write_body-clause-fault : goal.returns-in_err-write_body-clause-fault
-returns-in_err-write_body-clause-fault g c =
-    let p = err_from_is_err_and c.from_residual.result c.from_residual.ensures.1 in
-    rw (p.1, p.2) c.in_err-write_body.ensures.fault
-
-pub returns-in_err-write_body-clause-going : goal.returns-in_err-write_body-clause-going
-returns-in_err-write_body-clause-going g c =
-    let p = err_from_is_err_and c.from_residual.result c.from_residual.ensures.1 in
-    rw p.1 tt
-
 pub returns-in_err-write_body-clause-ok : goal.returns-in_err-write_body-clause-ok
 returns-in_err-write_body-clause-ok g c =
     let p = err_from_is_err_and c.from_residual.result c.from_residual.ensures.1 in
     rw p.1 (λ view s records before next from layout command done is at fold fold' beside holds
     same step. tt)
 
-pub returns-in_err-write_body-clause-geometry : goal.returns-in_err-write_body-clause-geometry
-returns-in_err-write_body-clause-geometry g c = refl
-
-pub returns-in_err-write_body-clause-layout : goal.returns-in_err-write_body-clause-layout
-returns-in_err-write_body-clause-layout g c = refl
-
-pub append-requires-clause-not_full : goal.append-requires-clause-not_full
-append-requires-clause-not_full g c = c.requires.not_full
-
-pub append-requires-clause-going : goal.append-requires-clause-going
-append-requires-clause-going g c = c.requires.going
-
-pub append-requires-clause-sound : goal.append-requires-clause-sound
-append-requires-clause-sound g c = c.requires.sound
-
-pub append-requires-clause-long_enough : goal.append-requires-clause-long_enough
-append-requires-clause-long_enough g c = subst (λ n. length_of c.args.journal.now.geometry ≤ n)
-    (sym c.write_body.ensures.keeps.frame.len) c.requires.long_enough
-
 pub returns-clause-keeps : goal.returns-clause-keeps
 returns-clause-keeps g c =
     let state = g.D.Disk.state in
     keeps_all_on (state c.args.disk.now) (state c.write_body.new.disk) (state c.append.new.disk)
     c.write_body.ensures.keeps c.append.ensures.keeps
-
-pub returns-clause-cause : goal.returns-clause-cause
-returns-clause-cause g c =
-    behind_calm _ _ _ c.in_ok-write_body.ensures.calm c.append.ensures.cause
 
 pub returns-clause-cost : goal.returns-clause-cost
 returns-clause-cost g c = record {
@@ -151,24 +106,6 @@ returns-clause-cost g c = record {
       (λ exact. four_behind _ _ _ _ c.in_ok-write_body.ensures.cost.exact exact)
       c.append.ensures.cost.exact;
 }
-
-pub returns-clause-fault : goal.returns-clause-fault
-returns-clause-fault g c = c.append.ensures.fault
-
-pub returns-clause-geometry : goal.returns-clause-geometry
-returns-clause-geometry g c =
-    either_way c.append.result c.append.ensures.spent c.append.ensures.added
-    (ap (λ (j : JournalView). j.geometry)) (ap (λ (j : JournalView). j.geometry))
-
-pub returns-clause-layout : goal.returns-clause-layout
-returns-clause-layout g c =
-    either_way c.append.result c.append.ensures.spent c.append.ensures.added
-    (ap (λ (j : JournalView). j.layout)) (ap (λ (j : JournalView). j.layout))
-
-pub returns-clause-going : goal.returns-clause-going
-returns-clause-going g c =
-    on_ok_weaker c.append.result
-    (λ added. ap (λ (j : JournalView). j.spent) added ∙ c.requires.going) c.append.ensures.added
 
 pub returns-clause-ok : goal.returns-clause-ok
 returns-clause-ok g c = λ view s records before next from layout command done is at fold fold'

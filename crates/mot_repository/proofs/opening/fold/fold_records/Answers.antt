@@ -6,7 +6,7 @@ use Rattle.std.proofs.lemmas.List.Elements.{All-push}
 use Rattle.mot_journal.specs.declared.record.Record.{Record}
 use Rattle.mot_journal.specs.Catalogue.{Catalogue}
 use Rattle.mot_repository.specs.Inner.Extents.{catalogue_with}
-use Rattle.mot_repository.specs.Inner.Fold.{HasShortIds}
+use Rattle.mot_repository.specs.Inner.Planned.{IsTyped}
 use Rattle.mot_repository.proofs.Folding.{is_step}
 use Rattle.mot_repository.proofs.FoldSteps.{IsNext, is_next, fold_goes_on, fold_breaks, fold_ends}
 use Rattle.mot_repository.proofs.FoldSteps.{breaks_there, folds_so_far, fold_none, folded}
@@ -79,8 +79,8 @@ loop-entry-preserved c =
       consistent = (is_step c.args.geometry.now.objects now c.in-Some.entry then
           c.in-Ok.ensures.after).consistent;
       bounded = c.in-Ok.ensures.bounded;
-      short = All-push HasShortIds c.loop-entry.yielded c.in-Some.entry c.loop-entry.invariant.short
-          c.know_ids.ensures;
+      typed = All-push IsTyped c.loop-entry.yielded c.in-Some.entry c.loop-entry.invariant.typed
+          c.know_fields.ensures;
       so_far = folds_so_far c.args.geometry.now.objects c.loop-entry.slot now records
           c.in-Some.entry next c.loop-entry.invariant.so_far then c.in-Ok.ensures.after;
       folds = c.loop-entry.invariant.folds
@@ -102,15 +102,15 @@ returns-clause-folded c =
     ∙ fold_ends c.args.geometry.now.objects c.loop-entry.slot now records
     (c.loop-entry.invariant.slot_is ∙ end.1)
 
-pub returns-clause-short : goal.returns-clause-short
-returns-clause-short c =
+pub returns-clause-typed : goal.returns-clause-typed
+returns-clause-typed c =
     let records : List Record = c.args.records.items in
     let end = YieldsList-end
     (YieldsList-from_vec {s = c.into_iter-entry-iterator.result} records (search rules)
     (search rules))
     c.loop-entry.yielded c.loop-entry.entry-iterator c.loop-entry.yielded_by c.next.result
     c.next.new.self c.in-None.is c.next.ensures.steps in
-    subst (All HasShortIds) (sym (map-id c.loop-entry.yielded) ∙ end.0) c.loop-entry.invariant.short
+    subst (All IsTyped) (sym (map-id c.loop-entry.yielded) ∙ end.0) c.loop-entry.invariant.typed
 
 pub loop-entry-init : goal.loop-entry-init
 loop-entry-init c = record {
@@ -119,33 +119,8 @@ loop-entry-init c = record {
   room_of_extents = c.in_ok-folded.ensures.room_of_extents;
   consistent = ap is_consistent c.in_ok-folded.ensures.new;
   bounded = search rules;
-  short = search rules;
+  typed = search rules;
   so_far = fold_none c.args.geometry.now.objects 0 new_catalogue
       ∙ ap folded (sym c.in_ok-folded.ensures.new);
   folds = search rules;
 }
-
-pub folded_after-requires-clause-bounded : goal.folded_after-requires-clause-bounded
-folded_after-requires-clause-bounded c = c.loop-entry.invariant.bounded
-
-pub folded_after-requires-clause-few : goal.folded_after-requires-clause-few
-folded_after-requires-clause-few c = c.requires.few
-
-pub folded_after-requires-clause-room : goal.folded_after-requires-clause-room
-folded_after-requires-clause-room c = c.loop-entry.invariant.room
-
-pub folded_after-requires-clause-room_of_extents : goal.folded_after-requires-clause-room_of_extents
-folded_after-requires-clause-room_of_extents c = c.loop-entry.invariant.room_of_extents
-
-pub folded_after-requires-clause-consistent : goal.folded_after-requires-clause-consistent
-folded_after-requires-clause-consistent c = c.loop-entry.invariant.consistent
-
-pub overflow_cast-slot : goal.overflow_cast-slot
-overflow_cast-slot c =
-    let next = turn_is (goal.at.overflow_cast-slot c).In-Some in
-    omega (arith, next.within, c.requires.numbered, c.args.records.ok.0)
-
-pub overflow_add-slot : goal.overflow_add-slot
-overflow_add-slot c =
-    let next = turn_is (goal.at.overflow_add-slot c).In-Some in
-    omega (arith, next.within, c.requires.numbered, c.args.records.ok.0)

@@ -3,7 +3,7 @@ use Rattle.mot_journal.specs.Image.{catalogue_of, fold_from}
 use Rattle.mot_journal.specs.Catalogue.{is_consistent}
 use Rattle.mot_repository.specs.Inner.Extents.{catalogue_with}
 use Rattle.mot_repository.specs.Inner.Bounds.{AreWithin}
-use Rattle.mot_repository.specs.Inner.Fold.{HasShortIds}
+use Rattle.mot_repository.specs.Inner.Planned.{IsTyped}
 use Rattle.mot_repository.proofs.opening.fold.fold_records.Given as goal
 
 -- the records that are left, folded over what it is by now, give what all of them give
@@ -14,7 +14,7 @@ invariant-loop-entry l = record {
   room_of_extents : l.limit ≤ vec_capacity l.folded.extents;
   consistent : is_consistent (catalogue_with l.folded.carousel l.folded.extents.items) ≡ true;
   bounded : AreWithin l.bounds l.folded.carousel.objects.items l.folded.extents.items;
-  short : All HasShortIds l.yielded;
+  typed : All IsTyped l.yielded;
   so_far : catalogue_of l.limit (take l.slot l.fn.records.items)
       ≡ Ok (catalogue_with l.folded.carousel l.folded.extents.items);
   folds : catalogue_of l.limit l.fn.records.items

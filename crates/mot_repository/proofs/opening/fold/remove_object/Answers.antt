@@ -55,24 +55,6 @@ returns-clause-bounded c b h =
     (remove es c.in-Some.place) c.remove.ensures.items c.remove-2.ensures.items
     (within_without b os es c.in-Some.place h)
 
-pub place_of_id-requires : goal.place_of_id-requires
-place_of_id-requires c = tt
-
-pub returns-in_default-clause-paired : goal.returns-in_default-clause-paired
-returns-in_default-clause-paired c = c.requires.paired
-
-pub returns-in_default-clause-listed : goal.returns-in_default-clause-listed
-returns-in_default-clause-listed c = c.requires.listed
-
-pub returns-in_default-clause-room : goal.returns-in_default-clause-room
-returns-in_default-clause-room c = refl
-
-pub returns-in_default-clause-room_of_extents : goal.returns-in_default-clause-room_of_extents
-returns-in_default-clause-room_of_extents c = refl
-
-pub returns-in_default-clause-bounded : goal.returns-in_default-clause-bounded
-returns-in_default-clause-bounded c = λ b h. h
-
 pub remove-requires : goal.remove-requires
 remove-requires c =
     let within : c.in-Some.place < length c.deref.result.now = c.in-Some.ensures.within in
@@ -93,9 +75,3 @@ returns-clause-listed c =
     let fewer = c.remove.ensures.len in
     let listed = c.requires.listed in
     omega (arith, fewer, listed)
-
-pub returns-clause-room : goal.returns-clause-room
-returns-clause-room c = c.remove.ensures.capacity
-
-pub returns-clause-room_of_extents : goal.returns-clause-room_of_extents
-returns-clause-room_of_extents c = c.remove-2.ensures.capacity

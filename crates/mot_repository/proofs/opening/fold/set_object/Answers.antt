@@ -1,5 +1,5 @@
 use Rattle.std.proofs.Common.{◌≡◌, ◌<◌, ℕ, List, [], ◌∷◌, ◌++◌, length, set, Some, true}
-use Rattle.std.proofs.Common.{refl, sym, subst, ap, ◌∙◌, arith, remove}
+use Rattle.std.proofs.Common.{refl, sym, ap, ◌∙◌, arith, remove}
 use Rattle.std.proofs.lemmas.Result.{IfErr-weaker, on_ok_weaker}
 use Rattle.std.specs.Prelude.{is_ok}
 use Rattle.mot_objects.specs.declared.object.Object.{Object}
@@ -7,7 +7,7 @@ use Rattle.mot_objects.specs.Stands.{index_of}
 use Rattle.mot_repository.specs.Inner.Extents.{objects_in}
 use Rattle.mot_repository.specs.Inner.Fold.{HaveLengths, are_consistent, if_consistent}
 use Rattle.mot_repository.specs.declared.opening.bounds.Bounds.{Bounds}
-use Rattle.mot_repository.specs.Inner.Bounds.{AreWithin, AreNamesFlagged}
+use Rattle.mot_repository.specs.Inner.Bounds.{AreWithin}
 use Rattle.mot_repository.proofs.Apart.{consistent_but_set, consistent_but_last, done_where}
 use Rattle.mot_repository.proofs.ListFaults.{clash_is_fault}
 use Rattle.mot_repository.proofs.Bounds.{within_but_set, within_but_last}
@@ -150,13 +150,6 @@ stands_apart-requires-2-clause-bounded c =
     (within_but_last c.args.bounds.now os es c.args.object e
     (same_count os es c.requires.paired) c.requires.bounded)
 
-pub get-requires : goal.get-requires
-get-requires c = tt
-
-pub place_of_name-requires : goal.place_of_name-requires
-place_of_name-requires c = subst (AreNamesFlagged c.args.bounds.now.names)
-    (sym c.deref.ensures.value) c.requires.bounded.names
-
 pub index_mut-requires : goal.index_mut-requires
 index_mut-requires c =
     let within : c.in-Some.place < length c.deref.result.now = c.in-Some.ensures.within in
@@ -178,15 +171,6 @@ stands_apart-requires-clause-within c =
     let len = c.deref.ensures.len in
     let set_len = c.deref-in-Some.ensures.len in
     omega (arith, within, len, set_len)
-
-pub returns-in-Some-clause-listed : goal.returns-in-Some-clause-listed
-returns-in-Some-clause-listed c = c.requires.listed
-
-pub returns-in-Some-clause-room : goal.returns-in-Some-clause-room
-returns-in-Some-clause-room c = refl
-
-pub returns-in-Some-clause-room_of_extents : goal.returns-in-Some-clause-room_of_extents
-returns-in-Some-clause-room_of_extents c = refl
 
 pub returns-in-Some-clause-bounded : goal.returns-in-Some-clause-bounded
 returns-in-Some-clause-bounded c =
@@ -260,25 +244,6 @@ returns-clause-fault c =
     (sym objects) (sym extents))) is)
     c.stands_apart-2.ensures.fault
 
-pub from-requires : goal.from-requires
-from-requires c = tt
-
-pub returns-then-place-from-clause-paired : goal.returns-then-place-from-clause-paired
-returns-then-place-from-clause-paired c = c.requires.paired
-
-pub returns-then-place-from-clause-listed : goal.returns-then-place-from-clause-listed
-returns-then-place-from-clause-listed c = c.requires.listed
-
-pub returns-then-place-from-clause-room : goal.returns-then-place-from-clause-room
-returns-then-place-from-clause-room c = refl
-
-pub returns-then-place-from-clause-room_of_extents :
-    goal.returns-then-place-from-clause-room_of_extents
-returns-then-place-from-clause-room_of_extents c = refl
-
-pub returns-then-place-from-clause-bounded : goal.returns-then-place-from-clause-bounded
-returns-then-place-from-clause-bounded c = tt
-
 pub push_reserved-requires : goal.push_reserved-requires
 push_reserved-requires c =
     let count = c.len-place.ensures in
@@ -348,12 +313,6 @@ returns-clause-listed c =
     let few = c.requires.few in
     let more = c.push_reserved.ensures.len in
     omega (arith, count, limit, below, few, more)
-
-pub returns-clause-room : goal.returns-clause-room
-returns-clause-room c = c.push_reserved.ensures.capacity
-
-pub returns-clause-room_of_extents : goal.returns-clause-room_of_extents
-returns-clause-room_of_extents c = c.push_reserved-2.ensures.capacity
 
 pub returns-clause-bounded : goal.returns-clause-bounded
 returns-clause-bounded c =

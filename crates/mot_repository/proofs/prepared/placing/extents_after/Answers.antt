@@ -3,21 +3,19 @@ use Rattle.std.proofs.Common.{sym, ap, ◌∙◌}
 use Rattle.std.specs.Option.{option_map_or}
 use Rattle.std.specs.Prelude.{remove}
 use Rattle.mot_objects.specs.declared.object.Object.{Object}
-use Rattle.mot_repository.specs.Inner.Placing.{place_in}
 use Rattle.mot_repository.proofs.Extents.{place-names}
 use Rattle.mot_repository.proofs.prepared.placing.extents_after.Goals as goal
 use Rattle.mot_repository.proofs.prepared.placing.extents_after.Goals.{in-Period}
 use Rattle.mot_repository.proofs.prepared.placing.extents_after.Goals.{in-Put+in_ok-push-in-Put}
 use Rattle.mot_repository.proofs.prepared.placing.extents_after.Goals.{in-Replace+in-Some}
 use Rattle.mot_repository.proofs.prepared.placing.extents_after.Goals.{in-Replace+in_default}
-use Rattle.mot_repository.proofs.prepared.placing.extents_after.Goals.{in-Withdraw+in-Some-place}
-use Rattle.mot_repository.proofs.prepared.placing.extents_after.Goals.{in-Withdraw+in_default-place}
+use Rattle.mot_repository.proofs.prepared.placing.extents_after.Goals.{in-Withdraw+in-Some-place_of}
+use Rattle.mot_repository.proofs.prepared.placing.extents_after.Goals.{in-Withdraw+in_default-place_of}
 
 pub returns : goal.returns
 returns c =
     let start = c.args.start in
-    let kept = c.args.inventory.now.carousel in
-    let os : List Object = kept.objects.items in
+    let os : List Object = c.args.inventory.now.carousel.objects.items in
     let es : List (ℕ × ℕ) = c.args.inventory.now.extents.items in
     let copy : c.in_ok-extents.extents.items ≡ es =
     c.in_ok-extents.ensures.items ∙ c.deref.ensures.value in
@@ -34,19 +32,16 @@ returns c =
           ∙ ap (λ n. set es w.in-Some.place (start, n))
           (w.get-in-Some.ensures.value ∙ w.length-in-Some.ensures)
           ∙ sym (ap (with_new (start, length w.in-Replace.body))
-          (place-names w.in-Replace.name os ∙ sym (ap (place_in kept) w.in-Replace.is)
-          ∙ sym c.requires.place ∙ w.in-Some.is)))
+          (place-names w.in-Replace.name os ∙ sym w.place_of.ensures.place ∙ w.in-Some.is)))
       | in-Replace+in_default w ↦ rw (w.extents-is, w.in-Replace.is)
           (copy ∙ sym (ap (with_new (start, length w.in-Replace.body))
-          (place-names w.in-Replace.name os ∙ sym (ap (place_in kept) w.in-Replace.is)
-          ∙ sym c.requires.place ∙ w.in_default.is)))
-      | in-Withdraw+in-Some-place w ↦ rw (w.extents-is, w.in-Withdraw.is) (w.remove.ensures.items
-          ∙ ap (λ l. remove l w.in-Some-place.place) copy
+          (place-names w.in-Replace.name os ∙ sym w.place_of.ensures.place ∙ w.in_default.is)))
+      | in-Withdraw+in-Some-place_of w ↦ rw (w.extents-is, w.in-Withdraw.is) (w.remove.ensures.items
+          ∙ ap (λ l. remove l w.in-Some-place_of.place) copy
           ∙ sym (ap without (place-names w.in-Withdraw.name os
-          ∙ sym (ap (place_in kept) w.in-Withdraw.is) ∙ sym c.requires.place ∙ w.in-Some-place.is)))
-      | in-Withdraw+in_default-place w ↦ rw (w.extents-is, w.in-Withdraw.is) (copy
+          ∙ sym w.place_of-in-Withdraw.ensures.place ∙ w.in-Some-place_of.is)))
+      | in-Withdraw+in_default-place_of w ↦ rw (w.extents-is, w.in-Withdraw.is) (copy
           ∙ sym (ap without (place-names w.in-Withdraw.name os
-          ∙ sym (ap (place_in kept) w.in-Withdraw.is) ∙ sym c.requires.place
-          ∙ w.in_default-place.is)))
+          ∙ sym w.place_of-in-Withdraw.ensures.place ∙ w.in_default-place_of.is)))
       | in-Period w ↦ rw (w.extents-is, w.in-Period.is) copy
     ]

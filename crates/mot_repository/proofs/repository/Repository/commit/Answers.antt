@@ -1,11 +1,9 @@
 use Rattle.std.proofs.Common.{◌≡◌, ℕ, Bool, Result, Ok, Err, true, false, refl, sym, subst}
-use Rattle.std.specs.Prelude.{IfOk, IfErr, OnOk, OnErr, if◌then◌else◌, is_err, is_ok}
+use Rattle.std.specs.Prelude.{IfOk, OnOk, OnErr, if◌then◌else◌, is_err, is_ok}
 use Rattle.std.specs.Result.{result_and}
 use Rattle.disk_model.proofs.Laws.{at_end}
 use Rattle.disk_model.specs.Disk.{State, Costs}
-use Rattle.disk_model.specs.Failures.{HasCause}
 use Rattle.mot_journal.specs.Image.{Standing}
-use Rattle.mot_numbers.specs.declared.refusal.Refusal.TheVariants.{DeviceFault}
 use Rattle.mot_objects.specs.declared.command.Done.{Done}
 use Rattle.mot_repository.specs.Answers.{IsChanged, IsHalted}
 use Rattle.mot_repository.specs.Inner.InOrder.{view_with}
@@ -32,10 +30,10 @@ returns-clause-any_moment g c = rw (← c.self.view_is) (λ command is s holds.
     let view : RepositoryView =
     view_with r.journal r.inventory.carousel r.inventory.extents.items r.halted in
     c.commit_change-written.ensures.any_moment view s command p.done p.inventory.carousel
-    is.change.from refl is.change.at_is
-    is.change.body_is
-    (subst (λ l. IsPreparedFor view command p.done p.inventory.carousel is.change.from p.record l)
-    (sym c.deref.ensures.value) is.change.prepared) holds)
+    is.from refl is.at_is
+    is.body_is
+    (subst (λ l. IsPreparedFor view command p.done p.inventory.carousel is.from p.record l)
+    (sym c.deref.ensures.value) is.prepared) holds)
 
 pub returns-clause-now : goal.returns-clause-now
 returns-clause-now g c =
@@ -70,9 +68,9 @@ returns-clause-changed g c =
       layout = w.ensures.layout;
       halted = sym going;
       becomes = prepared_is_accepted view new command p.done p.inventory.carousel
-          is.change.from p.record
-          p.given.items is.change.prepared
-          w.ensures.geometry refl is.change.extents_are;
+          is.from p.record
+          p.given.items is.prepared
+          w.ensures.geometry refl is.extents_are;
     }))
 
 pub returns-clause-ok : goal.returns-clause-ok
@@ -91,20 +89,12 @@ returns-clause-ok g c = rw (← c.self.view_is) (λ command is s holds.
     × Holds (view_with w.new.journal k.carousel k.extents.items b) next
     (g.D.Disk.state w.new.disk))
     c.take_up.ensures.answer c.take_up.ensures.kept c.is_err-self-inside.ensures.value
-    (w.ensures.ok view s command p.done p.inventory.carousel is.change.from
-    refl is.change.at_is
-    is.change.body_is
-    (subst (λ l. IsPreparedFor view command p.done p.inventory.carousel is.change.from p.record l)
-    (sym c.deref.ensures.value) is.change.prepared) holds)
-    (λ found. (found.0, found.1, found.2 new refl refl refl is.change.extents_are)))
-
--- a failure's cause is also that of what was answered then
-same_cause : {T E A : Type 0} {before now : ℕ} (w : Result T E) (d : A) → HasCause before now w
-    → HasCause before now (result_and w (Ok d))
-same_cause (Ok v) d is =
-    record { later = is.later; fits = is.fits; cause = is.cause; shown = is.shown }
-same_cause (Err e) d is =
-    record { later = is.later; fits = is.fits; cause = is.cause; shown = is.shown }
+    (w.ensures.ok view s command p.done p.inventory.carousel is.from
+    refl is.at_is
+    is.body_is
+    (subst (λ l. IsPreparedFor view command p.done p.inventory.carousel is.from p.record l)
+    (sym c.deref.ensures.value) is.prepared) holds)
+    (λ found. (found.0, found.1, found.2 new refl refl refl is.extents_are)))
 
 -- and the cost is the same
 same_cost : {T E A : Type 0} {n : ℕ} {old new : State} (w : Result T E) (d : A)
@@ -112,35 +102,16 @@ same_cost : {T E A : Type 0} {n : ℕ} {old new : State} (w : Result T E) (d : A
 same_cost (Ok v) d is = record { at_most = is.at_most; exact = is.exact }
 same_cost (Err e) d is = record { at_most = is.at_most; exact = tt }
 
-pub returns-clause-cause : goal.returns-clause-cause
-returns-clause-cause g c = rw (← c.self.view_is) (rw c.take_up.ensures.answer
-    (same_cause c.commit_change-written.result c.args.prepared.done
-    c.commit_change-written.ensures.cause))
-
 pub returns-clause-cost : goal.returns-clause-cost
 returns-clause-cost g c = rw (← c.self.view_is) (λ command is. rw c.take_up.ensures.answer
     (same_cost c.commit_change-written.result c.args.prepared.done
-    (rw (← is.change.body_is) c.commit_change-written.ensures.cost)))
-
--- so is the refusal
-same_refusal : {T E A : Type 0} (w : Result T E) (d : A) (P : E → Type 0) → IfErr w P
-    → IfErr (result_and w (Ok d)) P
-same_refusal (Ok v) d P is = tt
-same_refusal (Err e) d P is = is
+    (rw (← is.body_is) c.commit_change-written.ensures.cost)))
 
 -- a fault leaves what was kept, and halts
 where_refused : {T E A B : Type 0} (w : Result T E) (d : A) (old next : B) (P : B → Bool → Type 0)
     → P old true → OnErr (result_and w (Ok d)) (P (if is_ok w then next else old) (is_err w))
 where_refused (Ok v) d old next P is = tt
 where_refused (Err e) d old next P is = is
-
-pub returns-clause-keeps : goal.returns-clause-keeps
-returns-clause-keeps g c = rw (← c.self.view_is) c.commit_change-written.ensures.keeps
-
-pub returns-clause-fault : goal.returns-clause-fault
-returns-clause-fault g c = rw c.take_up.ensures.answer
-    (same_refusal c.commit_change-written.result c.args.prepared.done
-    (λ refusal. refusal ≡ DeviceFault) c.commit_change-written.ensures.fault)
 
 pub returns-clause-halted : goal.returns-clause-halted
 returns-clause-halted g c =

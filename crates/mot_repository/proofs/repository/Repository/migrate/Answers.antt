@@ -1,25 +1,18 @@
-use Rattle.std.proofs.Common.{◌≡◌, ◌∙◌, refl, sym, ap, subst, arith, inl, inr}
-use Rattle.std.proofs.Common.{true, false, ℕ, ◌+◌, ◌≤◌}
-use Rattle.disk_model.proofs.Laws.{at_end, begins, keeps_none, unchanged_none}
+use Rattle.std.proofs.Common.{◌≡◌, ◌∙◌, refl, sym, ap, subst, arith}
+use Rattle.std.proofs.Common.{true, false, ℕ, ◌≤◌}
+use Rattle.disk_model.proofs.Laws.{at_end}
 use Rattle.mot_journal.specs.declared.layout.Layout.{Layout}
 use Rattle.mot_journal.specs.declared.layout.Layout.TheVariants.{One, Two}
 use Rattle.mot_journal.specs.Journal.{JournalView}
-use Rattle.mot_numbers.proofs.Laws.{same_error}
-use Rattle.mot_numbers.specs.declared.refusal.Refusal.TheVariants.{OutOfMemory}
-use Rattle.mot_repository.specs.Answers.{halted, no_memory, failed}
+use Rattle.mot_repository.specs.Answers.{failed}
 use Rattle.mot_repository.specs.Inner.Extents.{catalogue_with}
 use Rattle.mot_repository.specs.Inner.InOrder.{IsInOrder}
 use Rattle.mot_repository.specs.Inner.Whole.{IsWhole}
 use Rattle.mot_repository.specs.Inner.InOrder.{view_with}
 use Rattle.mot_repository.specs.Repository.{RepositoryView, IsOf}
-use Rattle.mot_repository.proofs.Answering.{calm_where_ok}
 use Rattle.mot_repository.proofs.Layouts.{migrates, whole_in_two}
 use Rattle.mot_repository.proofs.Moved.{here, folds, moments, held, rewrites}
 use Rattle.mot_repository.proofs.repository.Repository.migrate.Goals as goal
-
--- a journal is of one layout
-not_both : Two ≡ One → ⊥
-not_both e = cc
 
 -- a journal of another layout than the first is of the second
 no_third : (layout : Layout) → (layout ≡ One → ⊥) → layout ≡ Two
@@ -33,10 +26,6 @@ halted_goes e = cc
 -- a disk that kept its length is long enough
 no_shorter : (n len len' : ℕ) → n ≤ len → len' ≡ len → n ≤ len'
 no_shorter n len len' le same = omega arith
-
--- a sum is no less than its first part
-no_less : (n more : ℕ) → n ≤ n + more
-no_less n more = omega arith
 
 pub migrate-requires-clause-few : goal.migrate-requires-clause-few
 migrate-requires-clause-few g c =
@@ -164,108 +153,12 @@ returns-clause-layouts g c = λ s holds image left.
     let layout = ap (λ (j : JournalView). j.layout) c.in_default-migrate.ensures.rewrites.moves in
     (_, (now.journal.each image left).read, layout)
 
-pub returns-then-self-clause-keeps : goal.returns-then-self-clause-keeps
-returns-then-self-clause-keeps g c =
-    record { frame = keeps_none (g.D.Disk.state c.args.self.now.disk); honest = λ is. is }
-
-pub returns-then-self-clause-refused : goal.returns-then-self-clause-refused
-returns-then-self-clause-refused g c = rw (← c.self.view_is)
-    (halted c.if-self.true refl refl (unchanged_none (g.D.Disk.state c.self.inside.disk)))
-
-pub returns-then-self-clause-untouched : goal.returns-then-self-clause-untouched
-returns-then-self-clause-untouched g c = inr refl
-
-pub returns-then-self-clause-still : goal.returns-then-self-clause-still
-returns-then-self-clause-still g c = rw (← c.self.view_is)
-    (λ two. (refl, λ going. absurd (halted_goes (sym c.if-self.true ∙ going))))
-
-pub returns-then-self-clause-any_moment : goal.returns-then-self-clause-any_moment
-returns-then-self-clause-any_moment g c = λ s holds.
-    let disk = c.args.self.now.disk in
-    begins (g.D.Disk.state disk) (IsOf s) (g.met.D.Disk.sound disk holds.journal.honest) holds.each
-
-pub returns-then-self-clause-now : goal.returns-then-self-clause-now
-returns-then-self-clause-now g c = λ s holds image left. holds.each image left
-
-pub returns-in_default-clause-keeps : goal.returns-in_default-clause-keeps
-returns-in_default-clause-keeps g c =
-    record { frame = keeps_none (g.D.Disk.state c.args.self.now.disk); honest = λ is. is }
-
-pub returns-in_default-clause-going : goal.returns-in_default-clause-going
-returns-in_default-clause-going g c = rw (← c.self.view_is) c.if-self.false
-
 pub returns-in_default-clause-rewritten : goal.returns-in_default-clause-rewritten
 returns-in_default-clause-rewritten g c = rw (← c.self.view_is) (
   λ is. absurd (halted_goes (sym is)),
   λ one. absurd
       (c.in_default.not-One (c.layout.ensures ∙ one)),
 )
-
-pub returns-in_default-clause-still : goal.returns-in_default-clause-still
-returns-in_default-clause-still g c = λ two. (refl, λ going. refl)
-
-pub returns-in_default-clause-cost : goal.returns-in_default-clause-cost
-returns-in_default-clause-cost g c = rw (← c.self.view_is)
-    (λ one. absurd (c.in_default.not-One (c.layout.ensures ∙ one)))
-
-pub returns-in_default-clause-any_moment : goal.returns-in_default-clause-any_moment
-returns-in_default-clause-any_moment g c = λ s holds.
-    let disk = c.args.self.now.disk in
-    begins (g.D.Disk.state disk) (IsOf s) (g.met.D.Disk.sound disk holds.journal.honest) holds.each
-
-pub returns-in_default-clause-now : goal.returns-in_default-clause-now
-returns-in_default-clause-now g c = λ s holds image left. holds.each image left
-
-pub returns-in_default-clause-ok : goal.returns-in_default-clause-ok
-returns-in_default-clause-ok g c = λ s holds. holds
-
-pub returns-in_err-given-clause-keeps : goal.returns-in_err-given-clause-keeps
-returns-in_err-given-clause-keeps g c =
-    record { frame = keeps_none (g.D.Disk.state c.args.self.now.disk); honest = λ is. is }
-
-pub returns-in_err-given-clause-refused : goal.returns-in_err-given-clause-refused
-returns-in_err-given-clause-refused g c = rw
-    (← c.self.view_is, same_error c.from_residual.result OutOfMemory c.from_residual.ensures.1)
-    (no_memory c.if-self.false refl refl (unchanged_none (g.D.Disk.state c.self.inside.disk)))
-
-pub returns-in_err-given-clause-untouched : goal.returns-in_err-given-clause-untouched
-returns-in_err-given-clause-untouched g c =
-    rw (same_error c.from_residual.result OutOfMemory c.from_residual.ensures.1) (inr refl)
-
-pub returns-in_err-given-clause-rewritten : goal.returns-in_err-given-clause-rewritten
-returns-in_err-given-clause-rewritten g c =
-    rw (same_error c.from_residual.result OutOfMemory c.from_residual.ensures.1) tt
-
-pub returns-in_err-given-clause-still : goal.returns-in_err-given-clause-still
-returns-in_err-given-clause-still g c = rw (← c.self.view_is) (λ two.
-    (refl, λ going. absurd (not_both (sym two ∙ sym c.layout.ensures ∙ c.in-One.is))))
-
-pub returns-in_err-given-clause-cost : goal.returns-in_err-given-clause-cost
-returns-in_err-given-clause-cost g c =
-    rw (same_error c.from_residual.result OutOfMemory c.from_residual.ensures.1)
-    (λ one. record { at_most = no_less _ _; exact = tt })
-
-pub returns-in_err-given-clause-any_moment : goal.returns-in_err-given-clause-any_moment
-returns-in_err-given-clause-any_moment g c = λ s holds.
-    let disk = c.args.self.now.disk in
-    begins (g.D.Disk.state disk) (IsOf s) (g.met.D.Disk.sound disk holds.journal.honest) holds.each
-
-pub returns-in_err-given-clause-now : goal.returns-in_err-given-clause-now
-returns-in_err-given-clause-now g c = λ s holds image left. holds.each image left
-
-pub returns-in_err-given-clause-layouts : goal.returns-in_err-given-clause-layouts
-returns-in_err-given-clause-layouts g c =
-    rw (same_error c.from_residual.result OutOfMemory c.from_residual.ensures.1) (λ s holds. tt)
-
-pub returns-in_err-given-clause-ok : goal.returns-in_err-given-clause-ok
-returns-in_err-given-clause-ok g c =
-    rw (same_error c.from_residual.result OutOfMemory c.from_residual.ensures.1) (λ s holds. tt)
-
-pub migrate-requires-clause-first_layout : goal.migrate-requires-clause-first_layout
-migrate-requires-clause-first_layout g c = sym c.layout.ensures ∙ c.in-One.is
-
-pub migrate-requires-clause-long_enough : goal.migrate-requires-clause-long_enough
-migrate-requires-clause-long_enough g c = c.self.invariant.long_enough
 
 pub invariant_of-self : goal.invariant_of-self
 invariant_of-self g c =
@@ -285,17 +178,6 @@ invariant_of-self g c =
       going = λ going. absurd (halted_goes going);
     })
 
-pub returns-in-Err-clause-keeps : goal.returns-in-Err-clause-keeps
-returns-in-Err-clause-keeps g c = rw (← c.self.view_is) c.migrate.ensures.keeps
-
-pub returns-in-Err-clause-geometry : goal.returns-in-Err-clause-geometry
-returns-in-Err-clause-geometry g c = rw (← c.self.view_is)
-    (ap (λ (j : JournalView). j.geometry) c.in-Err.ensures.spent)
-
-pub returns-in-Err-clause-still : goal.returns-in-Err-clause-still
-returns-in-Err-clause-still g c = rw (← c.self.view_is) (λ two.
-    absurd (not_both (sym two ∙ sym c.layout.ensures ∙ c.in-One.is)))
-
 pub returns-in-Err-clause-refused : goal.returns-in-Err-clause-refused
 returns-in-Err-clause-refused g c = rw (← c.self.view_is)
     (failed c.if-self.false c.in-Err.ensures.fault (c.in-Err.ensures.cause.cause refl) (record {
@@ -306,177 +188,12 @@ returns-in-Err-clause-refused g c = rw (← c.self.view_is)
       halted = refl;
     }))
 
-pub returns-in-Err-clause-untouched : goal.returns-in-Err-clause-untouched
-returns-in-Err-clause-untouched g c = inl c.in-Err.ensures.fault
-
-pub returns-in-Err-clause-cost : goal.returns-in-Err-clause-cost
-returns-in-Err-clause-cost g c = rw (← c.self.view_is) (λ one.
-    record { at_most = c.in-Err.ensures.cost.at_most; exact = tt })
-
-pub returns-clause-keeps : goal.returns-clause-keeps
-returns-clause-keeps g c = rw (← c.self.view_is) c.migrate.ensures.keeps
-
-pub returns-clause-geometry : goal.returns-clause-geometry
-returns-clause-geometry g c = rw (← c.self.view_is)
-    (ap (λ (j : JournalView). j.geometry) c.in_default-migrate.ensures.rewrites.moves)
-
-pub returns-clause-going : goal.returns-clause-going
-returns-clause-going g c = rw (← c.self.view_is) c.if-self.false
-
-pub returns-clause-rewritten : goal.returns-clause-rewritten
-returns-clause-rewritten g c = rw (← c.self.view_is)
-    (λ is. sym c.layout.ensures ∙ c.in-One.is, λ one. refl)
-
-pub returns-clause-layout : goal.returns-clause-layout
-returns-clause-layout g c = ap (λ (j : JournalView). j.layout) c.in_default-migrate.ensures.rewrites.moves
-
-pub returns-clause-still : goal.returns-clause-still
-returns-clause-still g c = rw (← c.self.view_is) (λ two.
-    absurd (not_both (sym two ∙ sym c.layout.ensures ∙ c.in-One.is)))
-
 pub returns-clause-cost : goal.returns-clause-cost
 returns-clause-cost g c = rw (← c.self.view_is) (λ one. record {
   at_most = c.in_default-migrate.ensures.cost.at_most;
   exact = c.in_default-migrate.ensures.cost.exact;
 })
 
-pub returns-then-self-clause-going : goal.returns-then-self-clause-going
-returns-then-self-clause-going g c = tt
-
-pub returns-then-self-clause-halted : goal.returns-then-self-clause-halted
-returns-then-self-clause-halted g c = tt
-
-pub returns-then-self-clause-calm : goal.returns-then-self-clause-calm
-returns-then-self-clause-calm g c = tt
-
-pub returns-then-self-clause-rewritten : goal.returns-then-self-clause-rewritten
-returns-then-self-clause-rewritten g c = tt
-
-pub returns-then-self-clause-layout : goal.returns-then-self-clause-layout
-returns-then-self-clause-layout g c = tt
-
-pub returns-then-self-clause-geometry : goal.returns-then-self-clause-geometry
-returns-then-self-clause-geometry g c = refl
-
-pub returns-then-self-clause-carousel : goal.returns-then-self-clause-carousel
-returns-then-self-clause-carousel g c = refl
-
-pub returns-then-self-clause-extents : goal.returns-then-self-clause-extents
-returns-then-self-clause-extents g c = refl
-
-pub returns-then-self-clause-cost : goal.returns-then-self-clause-cost
-returns-then-self-clause-cost g c = λ one. record { at_most = no_less _ _; exact = tt }
-
-pub returns-then-self-clause-layouts : goal.returns-then-self-clause-layouts
-returns-then-self-clause-layouts g c = λ s holds. tt
-
-pub returns-then-self-clause-ok : goal.returns-then-self-clause-ok
-returns-then-self-clause-ok g c = λ s holds. tt
-
-pub layout-requires : goal.layout-requires
-layout-requires g c = tt
-
-pub returns-in_default-clause-geometry : goal.returns-in_default-clause-geometry
-returns-in_default-clause-geometry g c = refl
-
-pub returns-in_default-clause-carousel : goal.returns-in_default-clause-carousel
-returns-in_default-clause-carousel g c = refl
-
-pub returns-in_default-clause-extents : goal.returns-in_default-clause-extents
-returns-in_default-clause-extents g c = refl
-
-pub returns-in_default-clause-halted : goal.returns-in_default-clause-halted
-returns-in_default-clause-halted g c = refl
-
-pub returns-in_default-clause-calm : goal.returns-in_default-clause-calm
-returns-in_default-clause-calm g c = refl
-
 pub returns-in_default-clause-layout : goal.returns-in_default-clause-layout
 returns-in_default-clause-layout g c = rw (← c.self.view_is)
     (no_third c.self.inside.journal.layout (λ one. c.in_default.not-One (c.layout.ensures ∙ one)))
-
-pub returns-in_default-clause-refused : goal.returns-in_default-clause-refused
-returns-in_default-clause-refused g c = tt
-
-pub returns-in_default-clause-untouched : goal.returns-in_default-clause-untouched
-returns-in_default-clause-untouched g c = tt
-
-pub returns-in_default-clause-layouts : goal.returns-in_default-clause-layouts
-returns-in_default-clause-layouts g c = λ s holds image left.
-    (_, (holds.journal.each image left).read, returns-in_default-clause-layout g c)
-
-pub records_of-requires : goal.records_of-requires
-records_of-requires g c = tt
-
-pub returns-in_err-given-clause-geometry : goal.returns-in_err-given-clause-geometry
-returns-in_err-given-clause-geometry g c = refl
-
-pub returns-in_err-given-clause-carousel : goal.returns-in_err-given-clause-carousel
-returns-in_err-given-clause-carousel g c = refl
-
-pub returns-in_err-given-clause-extents : goal.returns-in_err-given-clause-extents
-returns-in_err-given-clause-extents g c = refl
-
-pub returns-in_err-given-clause-going : goal.returns-in_err-given-clause-going
-returns-in_err-given-clause-going g c =
-    rw (same_error c.from_residual.result OutOfMemory c.from_residual.ensures.1) tt
-
-pub returns-in_err-given-clause-halted : goal.returns-in_err-given-clause-halted
-returns-in_err-given-clause-halted g c =
-    rw (same_error c.from_residual.result OutOfMemory c.from_residual.ensures.1) tt
-
-pub returns-in_err-given-clause-calm : goal.returns-in_err-given-clause-calm
-returns-in_err-given-clause-calm g c =
-    rw (same_error c.from_residual.result OutOfMemory c.from_residual.ensures.1) tt
-
-pub returns-in_err-given-clause-layout : goal.returns-in_err-given-clause-layout
-returns-in_err-given-clause-layout g c =
-    rw (same_error c.from_residual.result OutOfMemory c.from_residual.ensures.1) tt
-
-pub migrate-requires-clause-going : goal.migrate-requires-clause-going
-migrate-requires-clause-going g c = c.self.invariant.going c.if-self.false
-
-pub returns-in-Err-clause-carousel : goal.returns-in-Err-clause-carousel
-returns-in-Err-clause-carousel g c = rw (← c.self.view_is) refl
-
-pub returns-in-Err-clause-extents : goal.returns-in-Err-clause-extents
-returns-in-Err-clause-extents g c = rw (← c.self.view_is) refl
-
-pub returns-in-Err-clause-going : goal.returns-in-Err-clause-going
-returns-in-Err-clause-going g c = tt
-
-pub returns-in-Err-clause-halted : goal.returns-in-Err-clause-halted
-returns-in-Err-clause-halted g c = tt
-
-pub returns-in-Err-clause-calm : goal.returns-in-Err-clause-calm
-returns-in-Err-clause-calm g c = tt
-
-pub returns-in-Err-clause-rewritten : goal.returns-in-Err-clause-rewritten
-returns-in-Err-clause-rewritten g c = tt
-
-pub returns-in-Err-clause-layout : goal.returns-in-Err-clause-layout
-returns-in-Err-clause-layout g c = tt
-
-pub returns-in-Err-clause-layouts : goal.returns-in-Err-clause-layouts
-returns-in-Err-clause-layouts g c = λ s holds. tt
-
-pub returns-in-Err-clause-ok : goal.returns-in-Err-clause-ok
-returns-in-Err-clause-ok g c = λ s holds. tt
-
-pub returns-clause-carousel : goal.returns-clause-carousel
-returns-clause-carousel g c = rw (← c.self.view_is) refl
-
-pub returns-clause-extents : goal.returns-clause-extents
-returns-clause-extents g c = rw (← c.self.view_is) refl
-
-pub returns-clause-halted : goal.returns-clause-halted
-returns-clause-halted g c = rw (← c.self.view_is) refl
-
-pub returns-clause-calm : goal.returns-clause-calm
-returns-clause-calm g c = rw (← c.self.view_is) (calm_where_ok _ c.in_default-migrate.ensures.cause)
-
-pub returns-clause-refused : goal.returns-clause-refused
-returns-clause-refused g c = tt
-
-pub returns-clause-untouched : goal.returns-clause-untouched
-returns-clause-untouched g c = tt

@@ -1,15 +1,11 @@
-use Rattle.std.proofs.Common.{◌≡◌, ⊎_elim, inl, inr, false, refl, sym, ap, subst, ◌∙◌}
+use Rattle.std.proofs.Common.{◌≡◌, ⊎_elim, inl, inr, false, sym, ap, subst, ◌∙◌}
 use Rattle.std.specs.Prelude.{is_err}
 use Rattle.disk_model.specs.Disk.{OnlySyncs}
-use Rattle.mot_repository.specs.Inner.InOrder.{IsInOrder}
 use Rattle.mot_repository.specs.Opening.{IsOpened}
-use Rattle.mot_journal.specs.Journal.IsReadingRefusal.{device}
-use Rattle.mot_repository.specs.Inner.InOrder.{view_with}
-use Rattle.mot_repository.specs.Repository.{RepositoryView}
 use Rattle.mot_repository.proofs.Answering.{calm_where_ok}
 use Rattle.mot_repository.proofs.OpenDisk.{is_opened, refused_later, where_ok, syncs_on}
 use Rattle.mot_repository.proofs.OpenDisk.{reason_later}
-use Rattle.mot_repository.proofs.OpenDisk.{three_calls, at_most_three, one_of_three}
+use Rattle.mot_repository.proofs.OpenDisk.{three_calls}
 use Rattle.mot_repository.proofs.repository.Repository.open.Goals as goal
 
 pub returns-in-Ok-clause-opened : goal.returns-in-Ok-clause-opened
@@ -46,39 +42,12 @@ returns-then-is_err-clause-only_syncs g c = record {
   still = λ honest. c.sync.ensures.still (c.sync.ensures.keeps.frame.was_honest honest);
 }
 
-pub returns-then-is_err-clause-going : goal.returns-then-is_err-clause-going
-returns-then-is_err-clause-going g c = tt
-
-pub returns-then-is_err-clause-opened : goal.returns-then-is_err-clause-opened
-returns-then-is_err-clause-opened g c = tt
-
-pub returns-then-is_err-clause-refused : goal.returns-then-is_err-clause-refused
-returns-then-is_err-clause-refused g c =
-    device refl (c.sync.ensures.cause.cause (sym c.is_err.ensures.value ∙ c.if-is_err.true))
-
-pub returns-then-is_err-clause-calm : goal.returns-then-is_err-clause-calm
-returns-then-is_err-clause-calm g c = inl refl
-
-pub returns-then-is_err-clause-cost : goal.returns-then-is_err-clause-cost
-returns-then-is_err-clause-cost g c = one_of_three _ _ c.sync.ensures.called
-
-pub of-requires : goal.of-requires
-of-requires g c = subst (λ n. IsInOrder (view_with c.in-Ok.journal c.in-Ok.inventory.carousel
-    c.in-Ok.inventory.extents.items false) n)
-    (sym c.load_inventory.ensures.only_reads.keeps.len) c.in-Ok.ensures.in_order
-
 pub returns-in-Ok-clause-only_syncs : goal.returns-in-Ok-clause-only_syncs
 returns-in-Ok-clause-only_syncs g c =
     let state = g.D.Disk.state in
     subst (λ d. OnlySyncs (state c.args.disk) (state d)) (sym c.of.ensures.disk)
     (syncs_on (state c.args.disk) (state c.sync.new.self) (state c.load_inventory.new.disk)
     c.sync.ensures.keeps.frame c.sync.ensures.still c.load_inventory.ensures.only_reads)
-
-pub returns-in-Ok-clause-going : goal.returns-in-Ok-clause-going
-returns-in-Ok-clause-going g c = ap (λ (v : RepositoryView). v.halted) c.of.ensures.view
-
-pub returns-in-Ok-clause-refused : goal.returns-in-Ok-clause-refused
-returns-in-Ok-clause-refused g c = tt
 
 pub returns-in-Ok-clause-calm : goal.returns-in-Ok-clause-calm
 returns-in-Ok-clause-calm g c =
@@ -99,21 +68,11 @@ returns-in-Err-clause-only_syncs g c =
     syncs_on (state c.args.disk) (state c.sync.new.self) (state c.load_inventory.new.disk)
     c.sync.ensures.keeps.frame c.sync.ensures.still c.load_inventory.ensures.only_reads
 
-pub returns-in-Err-clause-going : goal.returns-in-Err-clause-going
-returns-in-Err-clause-going g c = tt
-
-pub returns-in-Err-clause-opened : goal.returns-in-Err-clause-opened
-returns-in-Err-clause-opened g c = tt
-
 pub returns-in-Err-clause-calm : goal.returns-in-Err-clause-calm
 returns-in-Err-clause-calm g c =
     let ok : is_err c.sync.result ≡ false = sym c.is_err.ensures.value ∙ c.if-is_err.false in
     let synced = where_ok c.sync.result ok (calm_where_ok c.sync.result c.sync.ensures.cause) in
     ⊎_elim (λ is. inl is) (λ same. inr (same ∙ synced)) c.in-Err.ensures.calm
-
-pub returns-in-Err-clause-cost : goal.returns-in-Err-clause-cost
-returns-in-Err-clause-cost g c =
-    at_most_three _ _ _ c.sync.ensures.called c.in-Err.ensures.cost.at_most
 
 pub returns-in-Err-clause-so : goal.returns-in-Err-clause-so
 returns-in-Err-clause-so g c = λ honest.

@@ -1,12 +1,9 @@
-use Rattle.std.proofs.Common.{◌≡◌, ◌∙◌, ◌+◌, ◌≤◌, ℕ, length, refl, sym, ap, arith}
+use Rattle.std.proofs.Common.{◌≡◌, ◌∙◌, ◌+◌, length, sym, ap, arith}
 use Rattle.std.proofs.Common.{slice_range}
 use Rattle.mot_numbers.specs.Geometry.{area_start}
 use Rattle.mot_repository.specs.OnDisk.{extent_at, body_on}
 use Rattle.mot_repository.proofs.Bodies.{part_of_part, body_held}
 use Rattle.mot_repository.proofs.repository.Repository.read_body.Goals as goal
-
-at_most : (n m : ℕ) → n ≡ m → n ≤ m
-at_most n m is = omega arith
 
 pub read-requires : goal.read-requires
 read-requires g c =
@@ -59,48 +56,3 @@ returns-clause-bytes g c = λ s has honest.
     returns-clause-read g c honest
     ∙ sym (ap (λ body. slice_range body c.args.from (c.args.from + n))
     (body_held old.view s (g.D.Disk.state old.disk) sound has c.args.place c.requires.place))
-
-pub returns-in_default-clause-keeps : goal.returns-in_default-clause-keeps
-returns-in_default-clause-keeps g c = rw (← c.self.view_is) c.read.ensures.keeps
-
-pub returns-in_default-clause-cause : goal.returns-in_default-clause-cause
-returns-in_default-clause-cause g c = rw (← c.self.view_is) (
-    let k = c.in_default.ensures.cause in
-    record { later = k.later; fits = k.fits; cause = k.cause; shown = k.shown })
-
-pub returns-in_default-clause-cost : goal.returns-in_default-clause-cost
-returns-in_default-clause-cost g c = rw (← c.self.view_is)
-    (record { at_most = at_most _ _ c.read.ensures.called; exact = tt })
-
-pub returns-in_default-clause-view : goal.returns-in_default-clause-view
-returns-in_default-clause-view g c = rw (← c.self.view_is) refl
-
-pub returns-in_default-clause-unchanged : goal.returns-in_default-clause-unchanged
-returns-in_default-clause-unchanged g c = rw (← c.self.view_is) c.read.ensures.unchanged
-
-pub returns-in_default-clause-lies : goal.returns-in_default-clause-lies
-returns-in_default-clause-lies g c = c.place_on_disk-at.ensures.room
-
-pub returns-clause-cause : goal.returns-clause-cause
-returns-clause-cause g c = rw (← c.self.view_is) (
-    let k = c.in-Ok.ensures.cause in
-    record { later = k.later; fits = k.fits; cause = k.cause; shown = k.shown })
-
-pub returns-clause-cost : goal.returns-clause-cost
-returns-clause-cost g c = rw (← c.self.view_is)
-    (record { at_most = at_most _ _ c.read.ensures.called; exact = c.read.ensures.called })
-
-pub returns-clause-view : goal.returns-clause-view
-returns-clause-view g c = rw (← c.self.view_is) refl
-
-pub returns-clause-unchanged : goal.returns-clause-unchanged
-returns-clause-unchanged g c = rw (← c.self.view_is) c.read.ensures.unchanged
-
-pub returns-clause-lies : goal.returns-clause-lies
-returns-clause-lies g c = c.place_on_disk-at.ensures.room
-
-pub returns-in_default-clause-fault : goal.returns-in_default-clause-fault
-returns-in_default-clause-fault g c = refl
-
-pub returns-in_default-clause-honest : goal.returns-in_default-clause-honest
-returns-in_default-clause-honest g c = rw (← c.self.view_is) c.in_default.ensures.honest
