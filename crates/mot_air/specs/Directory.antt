@@ -1,5 +1,5 @@
 -- How often the directory is sent, and when a look may come.
-use Rattle.std.specs.Prelude.{◌≡◌, ℕ, ◌*◌, ◌-◌, ◌/◌, ◌^◌, ◌⊎◌, max, min, Option, Some, None, IsSomeAnd}
+use Rattle.std.specs.Prelude.{◌≡◌, ℕ, ◌*◌, ◌-◌, ◌^◌, ◌⊎◌, min, Option, Some, None, IsSomeAnd}
 use Rattle.disk_model.specs.Disk.{State}
 use Rattle.mot_listening.specs.Lengths.{frame_packets}
 use Rattle.mot_update.specs.Opening.{IsUnopened, OfStanding}
