@@ -1,5 +1,5 @@
 //! The records of a copy: the same carousel for other sizes, its bodies one after the other.
-ghost use Rattle.std.specs.Prelude.{◌≡◌, ◌<◌, ◌≤◌, ◌^◌, ℕ, IfErr, IfOk, Some, false, length, map};
+ghost use Rattle.std.specs.Prelude.{◌≡◌, ◌<◌, ◌≤◌, ◌^◌, IfErr, IfOk, length, map};
 ghost use Rattle.std.specs.Prelude.{unwrap_or};
 ghost use Rattle.mot_copy_command.specs.Inner.Records.{bytes_of_bodies, ids_of};
 ghost use Rattle.mot_journal.specs.declared.record.Action.TheVariants.{Set};
