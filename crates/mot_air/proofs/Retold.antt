@@ -310,6 +310,13 @@ pub handed_out : {D : Type 0} (state : D → State) (tale : Tale) (how : Manner)
 handed_out state tale how before after start ended out same plays = subst (λ (e : Ended _ Unit).
     Plays tale how (fault_of e.result) before after start (state e.disk)) (sym same) plays
 
+-- what holds of a disk that was fed holds of it as it is handed out
+pub fed_as : {D : Type 0} (P : Option Refusal → D → Type 0) (fed : Fed D) (ended : Ended D Unit)
+    → IsEndOf fed ended → P (ending_of fed) (disk_of fed) → P (fault_of ended.result) ended.disk
+fed_as P fed ended is so =
+    subst (P (fault_of ended.result)) (sym is.disk)
+    (subst (λ e. P e (disk_of fed)) (sym is.ending) so)
+
 -- the end of what was fed is handed out
 pub fed_out : {D : Type 0} (state : D → State) (tale : Tale) (how : Manner)
     (before after : Option (List (List ℕ))) (start : State) (fed : Fed D) (ended : Ended D Unit)
@@ -317,5 +324,4 @@ pub fed_out : {D : Type 0} (state : D → State) (tale : Tale) (how : Manner)
     → Plays tale how (ending_of fed) before after start (state (disk_of fed))
     → Plays tale how (fault_of ended.result) before after start (state ended.disk)
 fed_out state tale how before after start fed ended is plays =
-    subst (λ d. Plays tale how (fault_of ended.result) before after start (state d)) (sym is.disk)
-    (subst (λ f. Plays tale how f before after start (state (disk_of fed))) (sym is.ending) plays)
+    fed_as (λ ending d. Plays tale how ending before after start (state d)) fed ended is plays

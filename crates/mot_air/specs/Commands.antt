@@ -5,7 +5,7 @@ use Rattle.std.specs.Io.KnownBytes.{Keeps}
 use Rattle.disk_model.specs.Disk.{State}
 use Rattle.disk_store.specs.Beginning.{SinceOpened}
 use Rattle.disk_store.specs.declared.file.start.Start.{Ghosts}
-use Rattle.mot_air.specs.Directory.{IsFrame, directory_of, early_of, look_of}
+use Rattle.mot_air.specs.Directory.{IsFrame, often}
 use Rattle.mot_air.specs.Playing.{Plays, Tale}
 use Rattle.mot_feed.specs.declared.manner.Manner.{Manner}
 use Rattle.mot_air.specs.Telling.{EndsReading, Hands, lines_at, tale_with, watch_in, watched}
@@ -48,13 +48,14 @@ LinesOf None others lines = lines ≡ lines_at [] []
 LinesOf (Some path) others lines = (calls : List Call) × ChecksLines path.now others (Ok tt) [] calls
     × (lines ≡ lines_at path.now calls)
 
--- how it is played with the numbers that are asked for: as good as without end, where no number of
--- turns is
+-- How it is played with the numbers that are asked for: as good as without end, where no number of
+-- turns is. So many changed bodies that are not begun come before the turn goes on, at most: 3, where
+-- no number is asked for.
 abbrev pub played_as : PlayTask → (frame : ℕ) → Manner
 played_as p frame = record {
-  directory = directory_of p.turns p.directory frame;
-  look = look_of p.turns p.look frame;
-  early = early_of p.early;
+  directory = often 340 p.turns p.directory frame;
+  look = often 100 p.turns p.look frame;
+  early = unwrap_or p.early 3;
   turns = unwrap_or p.turns 18446744073709551615;
 }
 

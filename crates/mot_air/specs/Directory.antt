@@ -1,5 +1,5 @@
 -- How often the directory is sent, and when a look may come.
-use Rattle.std.specs.Prelude.{◌≡◌, ℕ, ◌*◌, ◌-◌, ◌/◌, ◌^◌, ◌⊎◌, max, min, Option, Some, None, IsSomeAnd}
+use Rattle.std.specs.Prelude.{◌≡◌, ℕ, ◌*◌, ◌-◌, ◌^◌, ◌⊎◌, min, Option, Some, None, IsSomeAnd}
 use Rattle.disk_model.specs.Disk.{State}
 use Rattle.mot_listening.specs.Lengths.{frame_packets}
 use Rattle.mot_update.specs.Opening.{IsUnopened, OfStanding}
@@ -14,25 +14,10 @@ IsFrame (Some rate) frame ending start now =
     IsSomeAnd ending (λ r. IsUnopened r start now)
     ⊎ OfStanding (λ s. frame ≡ frame_packets rate s.geometry.packet) start now
 
--- so many for each packet that a frame holds, as far as a word of 32 bits goes
-abbrev pub in_frames : (frame count : ℕ) → ℕ
-in_frames frame count = min (frame * count) (2 ^ 32 - 1)
-
--- after how many packets the directory is sent again, with 0 for at each turn's beginning alone:
--- where no number is asked for, 340 for each of a frame without end, and 0 where there is an end
-abbrev pub directory_of : (turns packets : Option ℕ) → (frame : ℕ) → ℕ
-directory_of turns (Some packets) frame = packets
-directory_of (Some turns) None frame = 0
-directory_of None None frame = in_frames frame 340
-
--- after how many packets of a turn the folder is looked at, with 0 for between turns alone: where no
--- number is asked for, 100 for each of a frame without end, and 0 where there is an end
-abbrev pub look_of : (turns packets : Option ℕ) → (frame : ℕ) → ℕ
-look_of turns (Some packets) frame = packets
-look_of (Some turns) None frame = 0
-look_of None None frame = in_frames frame 100
-
--- how many changed bodies that are not begun come before the turn goes on, at most
-abbrev pub early_of : Option ℕ → ℕ
-early_of None = 3
-early_of (Some bodies) = bodies
+-- After how many packets the directory is sent again, or the folder looked at, within turns, with 0
+-- for between turns alone. Where no number is asked for, it is 0 where there is an end, and else so
+-- many for each packet that a frame holds, as far as a word of 32 bits goes.
+abbrev pub often : (count : ℕ) → (turns packets : Option ℕ) → (frame : ℕ) → ℕ
+often count turns (Some packets) frame = packets
+often count (Some turns) None frame = 0
+often count None None frame = min (frame * count) (2 ^ 32 - 1)

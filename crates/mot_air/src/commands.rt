@@ -79,14 +79,11 @@ fn followed<'a: 't, 't, M: Machine + Drop>(
     ensures opens { AreMet (if_given Need.folder folder.entry) (M.System.calls host.old.system)
         (M.System.calls host.new.system) }
 {
-    match folder {
-        Some(path) => Some(FollowedFolder {
-            shelf: host.folder(path, rules.at_once),
-            types,
-            guard: Guard::of(rules.allow_empty, rules.keep_most),
-        }),
-        None => None,
-    }
+    Some(FollowedFolder {
+        shelf: host.folder(folder?, rules.at_once),
+        types,
+        guard: Guard::of(rules.allow_empty, rules.keep_most),
+    })
 }
 
 /// The file that the status is written to, if one is given.
@@ -100,8 +97,5 @@ fn status_file<'a, M: Machine + Drop>(
     ensures opens { AreMet (if_given Need.status path.entry) (M.System.calls host.old.system)
         (M.System.calls host.new.system) }
 {
-    match path {
-        Some(path) => Some(host.status(path, disk)),
-        None => None,
-    }
+    Some(host.status(path?, disk))
 }

@@ -28,11 +28,10 @@ pub(crate) fn frame_on<D: Disk>(
     let Some(rate) = rate else {
         return Ok((1, disk));
     };
-    match Server::open(alloc, disk) {
-        Ok(server) => {
-            let frame = frame_packets(rate, server.geometry().packet);
-            Ok((frame, server.into_disk()))
-        }
-        Err(refused) => Err(refused),
-    }
+    let server = match Server::open(alloc, disk) {
+        Ok(server) => server,
+        Err(refused) => return Err(refused),
+    };
+    let frame = frame_packets(rate, server.geometry().packet);
+    Ok((frame, server.into_disk()))
 }

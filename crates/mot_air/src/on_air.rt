@@ -5,7 +5,7 @@ ghost use Rattle.std.specs.Io.KnownBytes.{Keeps};
 ghost use Rattle.clap.specs.Words.{Text};
 ghost use Rattle.disk_store.specs.Beginning.{IsFirst};
 ghost use Rattle.mot_air.specs.Inner.Beside.{lines_in, tale_aired};
-ghost use Rattle.mot_air.specs.Directory.{IsFrame, directory_of, early_of, look_of};
+ghost use Rattle.mot_air.specs.Directory.{IsFrame, often};
 ghost use Rattle.mot_air.specs.Inner.StartError.{IsUnbegun};
 ghost use Rattle.mot_air.specs.Playing.{Plays};
 ghost use Rattle.mot_air.specs.Commands.{EndsSending, PlaysAsked, PlaysTo, Sends, is_all_done};
@@ -34,7 +34,6 @@ use mot_line_folder::LineFolder;
 use mot_numbers::Refusal;
 use mot_outcome::{TaskCalls, TaskEnd, clear_after};
 use mot_packets::Outlet;
-use mot_playout::Refused;
 use mot_status::Telling;
 use std::alloc::Global;
 use std::io::Write;
@@ -223,23 +222,13 @@ fn air<D: Disk, F: System + Drop, Y: System + Drop, O: Outlet, L: Write + Drop>(
             let how = manner_of(airing.task, frame);
             air_so(alloc, disk, outlet, airing, log, how)
         }
-        Err(refused) => unbegun(refused, airing),
+        // Neither the folder of objects nor that of lines was read.
+        Err(refused) => {
+            let Airing { folder, lines, .. } = airing;
+            let ended = Ended::unopened(refused);
+            PlayEnd::unwatched(ended, folder_calls(folder), lines_calls(lines))
+        }
     }
-}
-
-/// The disk was not opened: neither the folder of objects nor that of lines was read.
-fn unbegun<D: Disk, F: System + Drop, Y: System + Drop>(
-    refused: Refused<D>,
-    airing: Airing<'_, '_, F, Y>,
-) -> PlayEnd<D>
-    ensures ended { (fault_of result.ended.result ≡ Some refused.refusal)
-        × (result.ended.disk ≡ refused.disk) }
-    ensures folder { (folder_in F.calls airing.entry.folder).calls ≡ result.beside.folder.all }
-    ensures lines { (lines_in Y.calls airing.entry.lines).calls ≡ result.beside.lines.all }
-    ensures refused { result.any_refused ≡ false }
-{
-    let Airing { folder, lines, .. } = airing;
-    PlayEnd::unopened(refused, folder_calls(folder), lines_calls(lines))
 }
 
 /// The calls on the folder of objects, if there is one.
@@ -372,9 +361,9 @@ fn manner_of(task: PlayTask<'_>, frame: u32) -> Manner
     ensures { result ≡ played_as task.entry frame }
 {
     Manner {
-        directory: directory_of(task.turns, task.directory, frame),
-        look: look_of(task.turns, task.look, frame),
-        early: early_of(task.early),
+        directory: often(DIRECTORY_PACKETS, task.turns, task.directory, frame),
+        look: often(LOOK_PACKETS, task.turns, task.look, frame),
+        early: task.early.unwrap_or(EARLY_BODIES),
         turns: turns_of(task.turns),
     }
 }
@@ -389,37 +378,14 @@ fn turns_of(turns: Option<u32>) -> u64
     }
 }
 
-/// After how many packets the directory is sent again, 0 for at each turn's beginning alone; if no
-/// number is given, 340 for each packet of a frame without end, and else 0.
-fn directory_of(turns: Option<u32>, directory: Option<u32>, frame: u32) -> u32
-    ensures { result ≡ directory_of turns directory frame }
+/// After how many packets the directory is sent, or a look comes, within turns, 0 for between turns
+/// alone: if no number is given, so many for each packet of a frame without end, and else 0.
+fn often(count: u32, turns: Option<u32>, packets: Option<u32>, frame: u32) -> u32
+    ensures { result ≡ often count turns packets frame }
 {
-    match (directory, turns) {
+    match (packets, turns) {
         (Some(packets), _) => packets,
         (None, Some(_)) => 0,
-        (None, None) => frame.saturating_mul(DIRECTORY_PACKETS),
-    }
-}
-
-/// How many changed bodies that are not begun come before the turn goes on, at most: 3, if no number
-/// is given.
-fn early_of(early: Option<u32>) -> u32
-    ensures { result ≡ early_of early }
-{
-    match early {
-        Some(bodies) => bodies,
-        None => EARLY_BODIES,
-    }
-}
-
-/// After how many packets of a turn a look comes, 0 for between turns alone; if no number is given,
-/// 100 for each packet of a frame without end, and else 0.
-fn look_of(turns: Option<u32>, look: Option<u32>, frame: u32) -> u32
-    ensures { result ≡ look_of turns look frame }
-{
-    match (look, turns) {
-        (Some(packets), _) => packets,
-        (None, Some(_)) => 0,
-        (None, None) => frame.saturating_mul(LOOK_PACKETS),
+        (None, None) => frame.saturating_mul(count),
     }
 }

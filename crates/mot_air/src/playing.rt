@@ -1,6 +1,6 @@
 //! Playing a disk, and making its carousel equal to a folder.
-ghost use Rattle.std.specs.Prelude.{◌≡◌, ◌↔◌, ◌⊎◌, ◌-◌, ℕ, [], IsSomeAnd, IsTrue, List};
-ghost use Rattle.std.specs.Prelude.{IfErr, None, OnOk, Some, false, true};
+ghost use Rattle.std.specs.Prelude.{◌≡◌, ◌↔◌, ◌⊎◌, ◌-◌, ℕ, [], IfErr, IsSomeAnd, IsTrue, List, None};
+ghost use Rattle.std.specs.Prelude.{OnOk, Some, false};
 ghost use Rattle.mot_air.specs.Lives.{AirsOn, KeepsDone};
 ghost use Rattle.mot_air.specs.Playing.{Plays, each_packet, place_at_start, tale_of};
 ghost use Rattle.mot_air.specs.Telling.{EndsReading, HandsOut, folder_in, lines_at, no_looks};
@@ -84,31 +84,15 @@ impl<D: Disk> PlayEnd<D> {
         }
     }
 
-    /// Playing ended so, without a folder, with these calls on the folder of lines.
-    fn unwatched(ended: Ended<D, ()>, lines: CallLog) -> Self
+    /// Playing ended so, without a look, with these calls on the folder of objects and that of lines.
+    pub(crate) fn unwatched(ended: Ended<D, ()>, folder: CallLog, lines: CallLog) -> Self
         ensures ended { result.ended ≡ ended }
-        ensures folder { result.beside.folder.all ≡ [] }
-        ensures lines { result.beside.lines ≡ lines }
-        ensures refused { result.any_refused ≡ false }
-    {
-        PlayEnd {
-            ended,
-            any_refused: false,
-            cause: None,
-            beside: beside_of(CallLog::new(), lines),
-        }
-    }
-
-    /// The disk was not opened, and no more calls were made than these.
-    pub(crate) fn unopened(refused: Refused<D>, folder: CallLog, lines: CallLog) -> Self
-        ensures ended { (fault_of result.ended.result ≡ Some refused.refusal)
-            × (result.ended.disk ≡ refused.disk) }
         ensures folder { result.beside.folder ≡ folder }
         ensures lines { result.beside.lines ≡ lines }
         ensures refused { result.any_refused ≡ false }
     {
         PlayEnd {
-            ended: Ended::unopened(refused),
+            ended,
             any_refused: false,
             cause: None,
             beside: beside_of(folder, lines),
@@ -155,7 +139,7 @@ pub fn play_disk<S: System + Drop, F: System + Drop, D: Disk, O: Outlet, L: Writ
         }
         None => {
             let (ended, _) = play_telling(alloc, disk, NoUpdate, outlet, telling, log, how);
-            PlayEnd::unwatched(ended, CallLog::new())
+            PlayEnd::unwatched(ended, CallLog::new(), CallLog::new())
         }
     }
 }
@@ -195,7 +179,7 @@ pub fn play_and_answer<S: System + Drop, F: System + Drop, D: Disk, O: Outlet, L
             let (ended, _, lines) = play_answering(
                 alloc, disk, NoUpdate, outlet, lines, telling, log, how,
             );
-            PlayEnd::unwatched(ended, lines)
+            PlayEnd::unwatched(ended, CallLog::new(), lines)
         }
     }
 }
@@ -224,9 +208,9 @@ fn play_telling<
     let watch = Reporter::new(alloc, log, telling);
     let mut reported = WatchedUpdate { update, watch };
     let fed = feed_reported(alloc, disk, &mut reported, outlet, how);
-    let ended = end_telling(alloc, fed, how.turns, &mut reported);
+    tell_end(alloc, &fed, how.turns, &mut reported);
     let (update, _) = reported.into_parts();
-    (ended, update)
+    (end_of(fed), update)
 }
 
 /// Opens the disk and feeds it into the outlet with updates that are watched.
@@ -272,9 +256,10 @@ fn play_answering<
     let watch = Reporter::new(alloc, log, telling);
     let mut lines = lines_between(alloc, lines, WatchedUpdate { update, watch });
     let fed = feed_lines(alloc, disk, &mut lines, outlet, how);
-    let ended = end_lines(alloc, fed, how.turns, &mut lines);
+    finish(&mut lines, &fed);
+    tell_end(alloc, &fed, how.turns, &mut lines.reported);
     let (spool, update, _) = lines.into_parts();
-    (ended, update, spool.into_system().into_calls())
+    (end_of(fed), update, spool.into_system().into_calls())
 }
 
 /// Opens the disk and feeds it into the outlet with lines after updates that are watched.
@@ -339,60 +324,33 @@ fn lines_between<'a, F: System + Drop, U: Update + LookHistory + Drop, T: Watch 
 /// What feeding a disk came to, with the server, or why the disk was not opened.
 type Fed<D> = Result<(Server<D>, Result<(), Refusal>), Refused<D>>;
 
-/// Tells the end, if feeding has come to one, with the last status.
-fn end_telling<D: Disk, U: Update + LookHistory + Drop, F: System + Drop, L: Write + Drop>(
-    alloc: Global,
-    fed: Fed<D>,
-    turns: u64,
-    reported: &mut WatchedUpdate<U, Reporter<'_, F, L>>,
-) -> Ended<D, ()>
-    ensures update { reported.new.update ≡ reported.old.update }
-    ensures ended { IsEndOf fed result }
+/// How a disk that was fed, or was not opened, is handed out.
+fn end_of<D: Disk>(fed: Fed<D>) -> Ended<D, ()>
+    ensures { IsEndOf fed result }
 {
     match fed {
         Err(refused) => Ended::unopened(refused),
-        Ok((server, result)) => {
-            tell_end(alloc, &server, result, turns, reported);
-            Ended {
-                disk: server.into_disk(),
-                result,
-                reason: None,
-            }
-        }
+        Ok((server, result)) => Ended {
+            disk: server.into_disk(),
+            result,
+            reason: None,
+        },
     }
 }
 
 /// Tells the end, with the last status, if playing has come to it.
 fn tell_end<D: Disk, U: Update + LookHistory + Drop, F: System + Drop, L: Write + Drop>(
     alloc: Global,
-    server: &Server<D>,
-    ended: Result<(), Refusal>,
+    fed: &Fed<D>,
     turns: u64,
     reported: &mut WatchedUpdate<U, Reporter<'_, F, L>>,
 )
     ensures { reported.new.update ≡ reported.old.update }
 {
-    if ended.is_ok() {
+    if let Ok((server, Ok(()))) = fed {
         let events = reported.update.events();
         reported.watch.tell_end(server, alloc, turns, events);
     }
-}
-
-/// The same with lines. If feeding has come to its end, the file of lines that was answered to its
-/// end is taken away before: else the next run would answer it again.
-fn end_lines<'a, D: Disk, U: Update + LookHistory + Drop, F: System + Drop, L: Write + Drop>(
-    alloc: Global,
-    fed: Fed<D>,
-    turns: u64,
-    lines: &mut Lines<Spool<'a, F>, U, Reporter<'_, F, L>>,
-) -> Ended<D, ()>
-    ensures lines { EndsReading (ending_of fed) (spool_view F.calls lines.old.reader)
-        (F.calls (spool_system lines.new.reader)) }
-    ensures update { lines.new.reported.update ≡ lines.old.reported.update }
-    ensures ended { IsEndOf fed result }
-{
-    finish(lines, has_ended(&fed));
-    end_telling(alloc, fed, turns, &mut lines.reported)
 }
 
 /// Whether feeding has come to its end.
@@ -405,22 +363,20 @@ fn has_ended<D: Disk>(fed: &Fed<D>) -> bool
     }
 }
 
-/// Takes away the file of lines that was answered to its end, if playing has come to its end.
-fn finish<'a, F: System + Drop, U: Update + LookHistory + Drop, T: Watch + Drop>(
+/// Takes away the file of lines that was answered to its end, if playing has come to its end: else
+/// the next run would answer it again.
+fn finish<'a, D: Disk, F: System + Drop, U: Update + LookHistory + Drop, T: Watch + Drop>(
     lines: &mut Lines<Spool<'a, F>, U, T>,
-    is_ended: bool,
+    fed: &Fed<D>,
 )
-    ensures lines { (F.calls (spool_system lines.new.reader)
-        ≡ F.calls (spool_system lines.old.reader)) ⊎ ((is_ended ≡ true)
-        × Finishes (open_file lines.old.reader) (F.calls (spool_system lines.old.reader))
-        (F.calls (spool_system lines.new.reader))) }
+    ensures lines { EndsReading (ending_of fed.now) (spool_view F.calls lines.old.reader)
+        (F.calls (spool_system lines.new.reader)) }
     ensures update { lines.new.reported.update ≡ lines.old.reported.update }
-    ensures stays { is_ended ≡ false → lines.new ≡ lines.old }
-    ensures finishes { is_ended ≡ true → lines.old.intake.hand ≡ bytes_in_hand []
+    ensures finishes { ending_of fed.now ≡ None → lines.old.intake.hand ≡ bytes_in_hand []
         → Finishes (open_file lines.old.reader)
         (F.calls (spool_system lines.old.reader)) (F.calls (spool_system lines.new.reader)) }
 {
-    if !is_ended {
+    if !has_ended(fed) {
         return;
     }
     if lines.is_answered() {
@@ -448,14 +404,7 @@ pub fn play_with<D: Disk, U: Update, O: Outlet>(
         (fault_of result.result) (O.writes outlet.old) (O.writes outlet.new) (D.state disk)
         (D.state result.disk) }
 {
-    match feed_disk(alloc, disk, update, outlet, how) {
-        Err(refused) => Ended::unopened(refused),
-        Ok((server, result)) => Ended {
-            disk: server.into_disk(),
-            result,
-            reason: None,
-        },
-    }
+    end_of(feed_disk(alloc, disk, update, outlet, how))
 }
 
 /// Opens the disk and plays it into the outlet, as `play_with` does.

@@ -15,7 +15,7 @@ ghost use Rattle.mot_outcome.specs.Outcome.{Concludes, Opens, OpensAnd, Prints};
 ghost use Rattle.mot_playout.specs.Attempts.{fault_of};
 
 use crate::asking::{Words, base_name, request_of};
-use crate::working::finish;
+use crate::working::{ended_with, finish};
 use disk_model::Disk;
 use disk_store::Start;
 use mot_endpoints::{Host, Machine, file_types};
@@ -134,11 +134,7 @@ fn change_disk<Y: System, D: Disk, W: Write, E: Write>(
         Err(refused) => return Ended::unopened(refused),
     };
     let result = take_each(system, alloc, list, words, writer, errors, &mut server);
-    Ended {
-        disk: server.into_disk(),
-        result,
-        reason: None,
-    }
+    ended_with(server.into_disk(), result)
 }
 
 /// Takes the words in turn.

@@ -7,6 +7,7 @@ ghost use Rattle.mot_objects.specs.declared.carousel.Carousel.{Carousel};
 ghost use Rattle.mot_playout.specs.Attempts.{fault_of};
 
 use crate::shown::text_in;
+use crate::working::ended_with;
 use disk_model::Disk;
 use mot_cli::Form;
 use mot_export::{JsonValue, add_json_line};
@@ -36,17 +37,9 @@ pub(crate) fn check_disk<D: Disk, W: Write>(
         Ok(is_clean) => {
             let text = text_in(alloc, repository.carousel(), form);
             let report = report_in(text, is_clean, repository.layout(), form);
-            Ended {
-                result: print_text(writer, report),
-                disk: repository.into_disk(),
-                reason: None,
-            }
+            ended_with(repository.into_disk(), print_text(writer, report))
         }
-        Err(refusal) => Ended {
-            result: Err(refusal),
-            disk: repository.into_disk(),
-            reason: None,
-        },
+        Err(refusal) => ended_with(repository.into_disk(), Err(refusal)),
     }
 }
 

@@ -8,7 +8,7 @@ ghost use Rattle.mot_outcome.specs.Outcome.{Finishes};
 ghost use Rattle.mot_commands.specs.Commands.{MakesFile};
 ghost use Rattle.mot_commands.specs.Report.{Formats};
 
-use crate::working::finish;
+use crate::working::{ended_with, finish};
 use disk_model::Disk;
 use disk_store::{FailedOpening, Start};
 use mot_devices::use_of;
@@ -82,12 +82,7 @@ fn format_new_file<S: Start, W: Write, M: Machine<File = S::File> + Drop>(
     if is_unformatted(&result) {
         host.take_away(path);
     }
-    let ended = Ended {
-        disk,
-        result,
-        reason: None,
-    };
-    TaskEnd::of_file(ended, TaskCalls::nothing(), None)
+    TaskEnd::of_file(ended_with(disk, result), TaskCalls::nothing(), None)
 }
 
 /// Why a disk that was there was not formatted.

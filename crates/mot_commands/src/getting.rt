@@ -11,6 +11,7 @@ ghost use Rattle.mot_commands.specs.Shown.{Gets};
 ghost use Rattle.mot_commands.specs.Inner.Got.{MissesBody, ReadsBody};
 ghost use Rattle.mot_repository.specs.Repository.{HasStanding, object_body};
 
+use crate::working::ended_with;
 use disk_model::Disk;
 use mot_numbers::Refusal;
 use mot_objects::Name;
@@ -35,16 +36,8 @@ pub(crate) fn get_body<D: Disk, W: Write>(
         Err(refused) => return Ended::unopened(refused),
     };
     match read_named(alloc, &mut repository, name) {
-        Ok(body) => Ended {
-            result: write_last(writer, &body),
-            disk: repository.into_disk(),
-            reason: None,
-        },
-        Err(refusal) => Ended {
-            result: Err(refusal),
-            disk: repository.into_disk(),
-            reason: None,
-        },
+        Ok(body) => ended_with(repository.into_disk(), write_last(writer, &body)),
+        Err(refusal) => ended_with(repository.into_disk(), Err(refusal)),
     }
 }
 
@@ -72,10 +65,7 @@ pub(crate) fn name_of(alloc: Global, bytes: &[u8]) -> Result<Name, Refusal>
     ensures named { IfOk result (λ name. (name ≡ bytes.now) × IsName bytes.now) }
     ensures why { IfErr result (IsUnnamed bytes.now) }
 {
-    let Ok(bytes) = Vec::from_slice(alloc, bytes) else {
-        return Err(Refusal::OutOfMemory);
-    };
-    Name::new(bytes)
+    Name::new(Vec::from_slice(alloc, bytes)?)
 }
 
 /// The body of the object at this place.
@@ -97,9 +87,7 @@ fn read_whole<D: Disk>(
     let bodies = repository.body_count();
     prove!(place < bodies);
     let length = repository.body_length(place) as usize;
-    let Ok(mut body) = Vec::from_elem(alloc, 0u8, length) else {
-        return Err(Refusal::OutOfMemory);
-    };
+    let mut body = Vec::from_elem(alloc, 0u8, length)?;
     repository.read_body(place, 0, &mut body)?;
     Ok(body)
 }

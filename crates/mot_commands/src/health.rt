@@ -42,12 +42,9 @@ pub fn tell_health<S: Start, W: Write, M: Machine + Drop>(
     let seen = host.system.follow(asked.status);
     let now = host.system.now();
     let well = is_well(asked.max_age.unwrap_or(MAX_AGE), age_of(seen, now));
-    let result = match print_text(writer, text_of(alloc, asked, seen, now, well)) {
-        Ok(()) => Ok(well),
-        Err(refusal) => Err(refusal),
-    };
+    let printed = print_text(writer, text_of(alloc, asked, seen, now, well));
     TaskEnd {
-        result,
+        result: printed.map(|()| well),
         disk: UsedDisk::Untouched(start),
         cause: None,
         reason: None,
@@ -58,10 +55,7 @@ pub fn tell_health<S: Start, W: Write, M: Machine + Drop>(
 fn is_well(most: u32, age: Option<u128>) -> bool
     ensures { result ≡ is_young most age }
 {
-    match age {
-        Some(age) => age <= u128::from(most),
-        None => false,
-    }
+    age.is_some_and(|age| age <= u128::from(most))
 }
 
 /// How many whole seconds ago a regular file was written, if that is known; none, if it is yet to

@@ -3,6 +3,7 @@ ghost use Rattle.mot_playout.specs.Attempts.{fault_of};
 ghost use Rattle.mot_commands.specs.Shown.{Lists};
 
 use crate::shown::text_in;
+use crate::working::ended_with;
 use disk_model::Disk;
 use mot_cli::Form;
 use mot_outcome::print_text;
@@ -26,9 +27,5 @@ pub(crate) fn list_disk<D: Disk, W: Write>(
         Err(refused) => return Ended::unopened(refused),
     };
     let result = print_text(writer, text_in(alloc, repository.carousel(), form));
-    Ended {
-        disk: repository.into_disk(),
-        result,
-        reason: None,
-    }
+    ended_with(repository.into_disk(), result)
 }

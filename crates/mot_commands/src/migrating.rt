@@ -3,6 +3,7 @@ ghost use Rattle.mot_playout.specs.Attempts.{fault_of};
 ghost use Rattle.std.specs.Prelude.{◌≡◌};
 ghost use Rattle.mot_commands.specs.Report.{Migrates, migrated_line};
 
+use crate::working::ended_with;
 use disk_model::Disk;
 use mot_outcome::write_last;
 use mot_repository::Repository;
@@ -25,16 +26,11 @@ pub(crate) fn migrate_disk<D: Disk, W: Write>(
         Err(refused) => return Ended::unopened(refused),
     };
     match repository.migrate(alloc) {
-        Ok(is_rewritten) => Ended {
-            result: write_last(writer, migrated_text(is_rewritten)),
-            disk: repository.into_disk(),
-            reason: None,
-        },
-        Err(refusal) => Ended {
-            result: Err(refusal),
-            disk: repository.into_disk(),
-            reason: None,
-        },
+        Ok(is_rewritten) => {
+            let result = write_last(writer, migrated_text(is_rewritten));
+            ended_with(repository.into_disk(), result)
+        }
+        Err(refusal) => ended_with(repository.into_disk(), Err(refusal)),
     }
 }
 

@@ -7,6 +7,7 @@ ghost use Rattle.mot_commands.specs.Commands.{IsUnmade, ServesMemory};
 ghost use Rattle.mot_outcome.specs.Outcome.{Finishes};
 ghost use Rattle.mot_commands.specs.Serving.{Serves};
 
+use crate::working::ended_with;
 use disk_model::Disk;
 use disk_store::{RamDisk, Start};
 use mot_journal::format;
@@ -64,11 +65,7 @@ pub(crate) fn serve_disk<R: Read, W: Write, D: Disk>(
         Err(refused) => return Ended::unopened(refused),
     };
     let fault = serve(alloc, reader, writer, &mut server, MAX_READS).fault;
-    Ended {
-        disk: server.into_disk(),
-        result: result_of(fault),
-        reason: None,
-    }
+    ended_with(server.into_disk(), result_of(fault))
 }
 
 /// What serving came to, that this fault ended, or the input's end.

@@ -3,7 +3,6 @@ ghost use Rattle.std.specs.Prelude.{◌≡◌, ◌++◌, IfOk, flat_map};
 ghost use Rattle.mot_commands.specs.Inner.Shown.{carousel_json_beside, object_json_beside};
 ghost use Rattle.mot_commands.specs.Inner.Shown.{shown_beside};
 ghost use Rattle.mot_commands.specs.Json.{mime_token};
-ghost use Rattle.mot_lines.specs.Listing.{listing_text_beside};
 ghost use Rattle.mot_export.specs.Json.{value_token};
 
 use mot_cli::Form;
@@ -17,19 +16,14 @@ pub(crate) fn text_in(alloc: Global, carousel: &Carousel, form: Form) -> Result<
     ensures { IfOk result (λ text. text.items ≡ shown_beside form carousel.now) }
 {
     match form {
-        Form::Words => listing(alloc, carousel),
+        Form::Words => {
+            let mut text = Vec::new(alloc);
+            match write_listing(&mut text, carousel) {
+                Ok(()) => Ok(text),
+                Err(_) => Err(AllocError),
+            }
+        }
         Form::Json => carousel_json(alloc, carousel),
-    }
-}
-
-/// In words.
-fn listing(alloc: Global, carousel: &Carousel) -> Result<Vec<u8>, AllocError>
-    ensures { IfOk result (λ text. text.items ≡ listing_text_beside carousel.now) }
-{
-    let mut text = Vec::new(alloc);
-    match write_listing(&mut text, carousel) {
-        Ok(()) => Ok(text),
-        Err(_) => Err(AllocError),
     }
 }
 

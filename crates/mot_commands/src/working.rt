@@ -19,6 +19,7 @@ use disk_store::{BegunFile, Start, WasThere};
 use mot_cli::DiskTask;
 use mot_endpoints::{Host, Machine, copy_unopened};
 use mot_export::{export_disk, inspect_disk};
+use mot_numbers::Refusal;
 use mot_outcome::{TaskCalls, TaskEnd, clear_after};
 use mot_update::Ended;
 use std::alloc::Global;
@@ -52,13 +53,8 @@ pub fn work_on_file<S: Start, R: Read, W: Write, M: Machine<File = S::File> + Dr
         }
         Err(unopened) => unopened,
     };
-    match copy_unopened(
-        &mut host.system,
-        alloc,
-        path,
-        unopened.fault,
-        only_looks(work),
-    ) {
+    let (system, looks) = (&mut host.system, only_looks(work));
+    match copy_unopened(system, alloc, path, unopened.fault, looks) {
         Some(copy) => {
             let ended = work_on(alloc, copy, work, reader, writer);
             TaskEnd::in_memory(ended, None, unopened.start)
@@ -71,10 +67,7 @@ pub fn work_on_file<S: Start, R: Read, W: Write, M: Machine<File = S::File> + Dr
 fn only_looks(work: &DiskTask<'_>) -> bool
     ensures { result ≡ only_looks work.now }
 {
-    match work {
-        DiskTask::Serve | DiskTask::Migrate => false,
-        _ => true,
-    }
+    !matches!(work, DiskTask::Serve | DiskTask::Migrate)
 }
 
 /// Does what is asked with a disk that it opens.
@@ -98,6 +91,17 @@ fn work_on<D: Disk, R: Read, W: Write>(
         DiskTask::GetBody(name) => get_body(alloc, disk, name, writer),
         DiskTask::Export => export_disk(alloc, disk, writer),
         DiskTask::Inspect(rate, form) => inspect_disk(alloc, disk, *rate, *form, writer),
+    }
+}
+
+/// A command ended so on this disk, and no more is known of it.
+pub(crate) fn ended_with<D: Disk, T>(disk: D, came: Result<T, Refusal>) -> Ended<D, T>
+    ensures { result ≡ record { disk = disk; result = came; reason = None } }
+{
+    Ended {
+        disk,
+        result: came,
+        reason: None,
     }
 }
 

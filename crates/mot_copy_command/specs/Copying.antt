@@ -14,9 +14,6 @@ use Rattle.mot_numbers.specs.declared.refusal.Refusal.TheVariants.{DeviceFault}
 use Rattle.mot_outcome.specs.Outcome.{Prints, number_line}
 use Rattle.mot_repository.specs.Repository.{Agrees, RepositoryView}
 
-abbrev pub copied_line : Geometry → List ℕ
-copied_line g = number_line (codes "copied ") (length_of g)
-
 -- the refusal of a copy that was not made
 abbrev pub refusal_of : NotCopied → Refusal
 refusal_of (Refused refusal) = refusal
@@ -36,7 +33,7 @@ pub data TellsCopy (Of : (Standing → Type 0) → Type 0) (before after : ℕ) 
       → Of (Agrees view) → IsNotCopied view g before after start now why → Keeps old new
       → TellsCopy Of before after g ids ending old new start now
   made : (now.IsHonest → Of (λ s. (image : List ℕ) → now.MayLeave image → IsCopyOf g ids s image))
-      → Prints ending (copied_line g) old new
+      → Prints ending (number_line (codes "copied ") (length_of g)) old new
       → TellsCopy Of before after g ids ending old new start now
 
 pub record Copies (Of : (Standing → Type 0) → Type 0) (before after : ℕ) (g : Geometry)

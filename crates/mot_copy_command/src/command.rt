@@ -14,6 +14,7 @@ ghost use Rattle.mot_numbers.specs.declared.geometry.Geometry.{Geometry as Geome
 ghost use Rattle.mot_numbers.specs.declared.refusal.Refusal.TheVariants.{DeviceFault};
 ghost use Rattle.mot_outcome.specs.Outcome.{Finishes};
 
+use crate::records::length_of_bodies;
 use crate::{NotCopied, copy};
 use disk_model::Disk;
 use disk_store::{
@@ -108,11 +109,7 @@ fn valid_sizes(task: &CopyTask<'_>, base: Geometry) -> Option<Geometry>
         → geometry_over base task.now.sizes ≡ Some g → IsValid g → ⊥) }
 {
     let geometry = task.sizes.over(&base)?;
-    if geometry.is_valid() {
-        Some(geometry)
-    } else {
-        None
-    }
+    geometry.is_valid().then_some(geometry)
 }
 
 /// The end of a copying for which no other file was opened or made.
@@ -202,10 +199,7 @@ fn is_refused(made: &Result<(), Refusal>) -> bool
     ensures refused { result ≡ true → IsRefused (fault_of made.now) }
     ensures copied { result ≡ false → IsRefused (fault_of made.now) → ⊥ }
 {
-    match made {
-        Err(refusal) => *refusal != Refusal::WriteFault,
-        Ok(()) => false,
-    }
+    matches!(made, Err(refusal) if *refusal != Refusal::WriteFault)
 }
 
 /// The end of a copying to this disk.
@@ -221,10 +215,8 @@ fn end_of<S: Start>(
     ensures made { result.0.result ≡ made }
 {
     let cause = cause_of(&made, &repository, geometry);
-    let reason = match made {
-        Ok(()) => None,
-        Err(refusal) => Reason::of_formatting(refusal, to.len(), geometry),
-    };
+    let unmade = made.err();
+    let reason = unmade.and_then(|refusal| Reason::of_formatting(refusal, to.len(), geometry));
     let ended = Ended {
         disk: repository.into_disk(),
         result: made,
@@ -245,22 +237,12 @@ fn cause_of<D: Disk>(
             most: geometry.objects,
         },
         Err(Refusal::NoRoom) => NewDiskFault::Bodies {
-            length: length_of_bodies(repository),
+            length: length_of_bodies(&repository.carousel().objects),
             room: geometry.area,
         },
         _ => return None,
     };
     Some(Cause::NewDisk(fault))
-}
-
-/// How many bytes all bodies have.
-fn length_of_bodies<D: Disk>(repository: &Repository<D>) -> u64 {
-    let mut length: u64 = 0;
-    let count = repository.body_count();
-    for place in 0..count {
-        length = length.saturating_add(u64::from(repository.body_length(place)));
-    }
-    length
 }
 
 /// Makes the copy, and prints how many bytes it has.

@@ -1,5 +1,5 @@
 //! The records of a copy: the same carousel for other sizes, its bodies one after the other.
-ghost use Rattle.std.specs.Prelude.{◌≡◌, ◌<◌, ◌≤◌, ◌^◌, ℕ, IfErr, IfOk, Some, false, length, map};
+ghost use Rattle.std.specs.Prelude.{◌≡◌, ◌<◌, ◌≤◌, ◌^◌, IfErr, IfOk, length, map};
 ghost use Rattle.std.specs.Prelude.{unwrap_or};
 ghost use Rattle.mot_copy_command.specs.Inner.Records.{bytes_of_bodies, ids_of};
 ghost use Rattle.mot_journal.specs.declared.record.Action.TheVariants.{Set};
@@ -52,7 +52,8 @@ pub fn records_of_copy<D: Disk>(
 }
 
 /// The ids of the objects of a copy, and of its directory. New ones go on after `after`, or else after
-/// the carousel's cursor. With another segment size all are new.
+/// the carousel's cursor. With another segment size all are new; else only the directory's, unless ids
+/// go on after its own.
 fn ids_of_copy(
     alloc: Global,
     carousel: &Carousel,
@@ -64,12 +65,16 @@ fn ids_of_copy(
     ensures last { IsId (unwrap_or after carousel.now.cursor) }
 {
     let last = after.unwrap_or(carousel.cursor);
-    know_id(last);
+    // The type keeps the range of an id. (The line is there for the proof.)
+    last.get();
     if resized {
         return new_ids(alloc, carousel, carousel.objects.len(), last);
     }
     let ids = ids_of_objects(alloc, carousel)?;
-    let directory = directory_after(alloc, carousel, last)?;
+    if last == carousel.directory {
+        return Ok((ids, last));
+    }
+    let (_, directory) = new_ids(alloc, carousel, 0, last)?;
     Ok((ids, directory))
 }
 
@@ -84,30 +89,8 @@ fn ids_of_objects(alloc: Global, carousel: &Carousel) -> Result<Vec<TransportId>
         .collect(alloc)
 }
 
-/// The directory's id if ids go on after this one: its own, or else a new one.
-fn directory_after(
-    alloc: Global,
-    carousel: &Carousel,
-    last: TransportId,
-) -> Result<TransportId, AllocError>
-    ensures { IfOk result (λ id. id ≡ (ids_of carousel.now (Some last) false).1) }
-{
-    if last == carousel.directory {
-        return Ok(last);
-    }
-    let (_, directory) = new_ids(alloc, carousel, 0, last)?;
-    Ok(directory)
-}
-
-/// What the type keeps of an id. It is there for the proof, and does nothing when it runs.
-fn know_id(id: TransportId)
-    ensures { IsId id }
-{
-    id.get();
-}
-
 /// How many bytes the bodies of these objects have.
-fn length_of_bodies(objects: &[Object]) -> u64
+pub(crate) fn length_of_bodies(objects: &[Object]) -> u64
     requires { length objects.now ≤ MAX_OBJECTS }
     ensures { result ≡ bytes_of_bodies objects.now }
 {

@@ -1,10 +1,10 @@
 -- The lines of a carousel, written one after the other.
 use Rattle.std.proofs.Common.{◌≡◌, ℕ, zero, suc, ◌+◌, ◌-◌, ◌/◌, ◌%◌, ◌<◌, ◌≤◌, List, [], ◌∷◌, ◌++◌}
 use Rattle.std.proofs.Common.{length, take, drop, get_or}
-use Rattle.std.proofs.Common.{Result, take-append-drop}
+use Rattle.std.proofs.Common.{Result, Ok, Err, inl, take-append-drop}
 use Rattle.std.proofs.Common.{Option, Some, map, refl, sym, ap, ◌∙◌, subst, arith, add-one}
 use Rattle.std.proofs.Common.{append-nil}
-use Rattle.std.specs.Prelude.{slice_get, slice_index, slice_range}
+use Rattle.std.specs.Prelude.{IfErr, slice_get, slice_index, slice_range}
 use Rattle.std.specs.List.{flat_map}
 use Rattle.std.specs.Io.KnownBytes.{Appends}
 use Rattle.std.proofs.KnownBytes.{Appends-trans}
@@ -21,6 +21,9 @@ use Rattle.mot_objects.specs.Carousel as whole
 use Rattle.mot_objects.specs.declared.carousel.Carousel.{Carousel}
 use Rattle.mot_objects.specs.Stands.{object_of, objects_of}
 use Rattle.mot_repository.specs.Repository.{Agrees, RepositoryView, object_body}
+use Rattle.mot_export.specs.Inner.Printing.{IsPrintingFault}
+use Rattle.mot_outcome.specs.Outcome.{Prints}
+use Rattle.mot_playout.specs.Attempts.{fault_of}
 use Rattle.mot_session.proofs.Laws.{Writes-after, WritesFront-after, WritesFront-all}
 use Rattle.mot_session.proofs.Laws.{WritesFront-before}
 use Rattle.mot_session.specs.Output.{Writes}
@@ -220,6 +223,19 @@ module _ (x o : Object) (same : x ≡ o) where
   ends-line result a b c d text items of is before body end =
       subst (λ p. Writes result (put_line p) a d) same
       (line-end x result a b c d (subst (Appends a b) (of ∙ is) before) body end)
+
+-- what was printed was written
+pub prints-writes : (result : Result Unit Refusal) (text : List ℕ) (a b : Option (List ℕ))
+    → Prints (fault_of result) text a b → Writes result text a b
+prints-writes (Ok done) text a b prints = prints
+prints-writes (Err refusal) text a b prints = prints.1
+
+-- and if it was not, the disk did not fail
+pub prints-faults : (result : Result Unit Refusal) (text : List ℕ) (a b : Option (List ℕ))
+    (before now : ℕ) → now ≡ before → Prints (fault_of result) text a b
+    → IfErr result (λ r. IsPrintingFault r before now)
+prints-faults (Ok done) text a b before now calm prints = tt
+prints-faults (Err refusal) text a b before now calm prints = inl (prints.0, calm)
 
 -- the lines up to a place, and some first bytes of the next one
 pub front-lines : (objects : List Object) (at : ℕ) (o : Object) (rest : List ℕ)

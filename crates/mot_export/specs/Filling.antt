@@ -8,10 +8,6 @@ use Rattle.mot_export.specs.declared.filling.Frames.{Frames}
 use Rattle.mot_playout.specs.Playing.{HasPlayedTurn}
 use Rattle.mot_listening.specs.Lengths.{lengths_of_turn}
 
--- no frame was begun
-abbrev pub no_frames : Frames
-no_frames = record { begun = 0; left = 0; fits = true }
-
 -- A packet goes whole into the frame, or into the next if too few bytes are left; there it fits or
 -- not. In these `size` is how many bytes a frame has.
 abbrev pub with_packet : (size : ℕ) → Frames → (packet : ℕ) → Frames
@@ -25,7 +21,8 @@ with_packet size f packet =
 
 -- the frames that packets of these lengths fill, in order
 abbrev pub frames_of : (size : ℕ) → List ℕ → Frames
-frames_of size packets = fold (with_packet size) no_frames packets
+frames_of size packets =
+    fold (with_packet size) (record { begun = 0; left = 0; fits = true }) packets
 
 -- The packets of a turn that is played from its beginning have these lengths.
 abbrev pub TurnsHaveTheirLengths : Type 0

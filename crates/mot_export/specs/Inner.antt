@@ -1,4 +1,3 @@
 pub mod Filled
 pub mod Inspected
 pub mod Printing
-pub mod Tokens

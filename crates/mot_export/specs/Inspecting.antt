@@ -45,11 +45,8 @@ abbrev pub filled_above : (size room : ℕ) → Option ℕ
 filled_above size room = segment_size ((size + 11) / room * room + room - 11)
 
 -- the rates that are printed, in kbit/s
-abbrev pub usual_rates : List ℕ
-usual_rates = 8 ∷ 16 ∷ 24 ∷ 32 ∷ 40 ∷ 48 ∷ 56 ∷ 64 ∷ 80 ∷ 96 ∷ 112 ∷ 128 ∷ []
-
 abbrev pub rates_of : Option ℕ → List ℕ
-rates_of None = usual_rates
+rates_of None = 8 ∷ 16 ∷ 24 ∷ 32 ∷ 40 ∷ 48 ∷ 56 ∷ 64 ∷ 80 ∷ 96 ∷ 112 ∷ 128 ∷ []
 rates_of (Some rate) = rate ∷ []
 
 -- how many milliseconds packets of these lengths take at so many kbit/s; none, if one fits in no
@@ -58,18 +55,19 @@ abbrev pub time_in : (rate : ℕ) → List ℕ → Option ℕ
 time_in rate lengths =
     let f = frames_of (frame_size rate) lengths in if f.fits then Some (24 * f.begun) else None
 
--- a turn at these rates, in packets of each length
-abbrev pub time_of : (size : ℕ) → Turn → (rate : ℕ) → TurnTime
-time_of size turn rate = record {
+-- a turn at a rate, whose packets have these lengths, by the data bytes of the longest
+abbrev pub time_of : (lengths : (room : ℕ) → List ℕ) → (rate : ℕ) → TurnTime
+time_of lengths rate = record {
   rate = rate;
-  in_24 = time_in rate (lengths_of_turn 19 size turn);
-  in_48 = time_in rate (lengths_of_turn 43 size turn);
-  in_72 = time_in rate (lengths_of_turn 67 size turn);
-  in_96 = time_in rate (lengths_of_turn 91 size turn);
+  in_24 = time_in rate (lengths 19);
+  in_48 = time_in rate (lengths 43);
+  in_72 = time_in rate (lengths 67);
+  in_96 = time_in rate (lengths 91);
 }
 
+-- a turn at these rates, in packets of each length
 abbrev pub times_of : (rates : List ℕ) → (size : ℕ) → Turn → List TurnTime
-times_of rates size turn = map (time_of size turn) rates
+times_of rates size turn = map (time_of (λ room. lengths_of_turn room size turn)) rates
 
 -- the bytes of all bodies
 abbrev pub bytes_of_bodies : List Object → ℕ
@@ -81,19 +79,14 @@ abbrev pub usual_pause : (rate : Option ℕ) → (packet : ℕ) → ℕ
 usual_pause None packet = 340
 usual_pause (Some rate) packet = 340 * frame_packets rate packet
 
--- the directory is heard after so many packets, as it is sent again, or with the carousel
-abbrev pub usually_heard : (pause group directory turn : ℕ) → ℕ
-usually_heard pause group directory turn =
-    min (soon_for (max pause (10 * directory)) group directory)
-    (round_for group 0 turn directory)
-
 -- After how many packets at most a receiver that begins to listen at any packet has the directory,
--- and the carousel, if no command is accepted.
+-- as it is sent again, or with the carousel; and the carousel, if no command is accepted.
 abbrev pub waits_of : (pause group directory turn : ℕ) → Waits
 waits_of pause group directory turn = record {
   group = group;
   directory = directory;
-  heard_directory = min (usually_heard pause group directory turn) 18446744073709551615;
+  heard_directory = min (min (soon_for (max pause (10 * directory)) group directory)
+      (round_for group 0 turn directory)) 18446744073709551615;
   heard_carousel = min (round_for group 0 turn directory) 18446744073709551615;
 }
 

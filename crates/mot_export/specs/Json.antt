@@ -28,8 +28,10 @@ abbrev pub members_of : List (Bor (List ℕ) × JsonValue) → List (List ℕ ×
 members_of members =
     map (λ (m : Bor (List ℕ) × JsonValue). (m.0.now, value_token m.1)) members
 
+abbrev pub member_tokens : List ℕ × Token → List Token
+member_tokens m = key m.0 ∷ m.1 ∷ []
+
 -- an object with these members, on a line of its own
 abbrev pub json_line : List (List ℕ × Token) → List ℕ
 json_line members =
-    print (begin_object ∷ flat_map (λ (m : List ℕ × Token). key m.0 ∷ m.1 ∷ []) members
-    ++ end_object ∷ []) ++ 10 ∷ []
+    print (begin_object ∷ flat_map member_tokens members ++ end_object ∷ []) ++ 10 ∷ []

@@ -5,19 +5,19 @@ ghost use Rattle.disk_model.specs.Disk.{OnlyReads};
 ghost use Rattle.hex.specs.Hex.{encode_lower};
 ghost use Rattle.mot_journal.specs.Image.{Standing};
 ghost use Rattle.mot_lines.specs.Export.{export_text, put_line};
-ghost use Rattle.mot_numbers.specs.declared.refusal.Refusal.TheVariants.{WriteFault};
 ghost use Rattle.mot_objects.specs.Carousel as whole;
 ghost use Rattle.mot_export.specs.Exporting.{Exports};
 ghost use Rattle.mot_export.specs.Inner.Printing.{IsPrintingFault};
 ghost use Rattle.mot_repository.specs.Repository.{HasStanding, object_body};
+ghost use Rattle.mot_outcome.specs.Outcome.{Prints};
 ghost use Rattle.mot_playout.specs.Attempts.{fault_of};
 ghost use Rattle.mot_session.specs.Output.{Writes};
 
 use disk_model::Disk;
 use mot_lines::{period_text, put_text};
 use mot_numbers::Refusal;
+use mot_outcome::{write_bytes, write_last};
 use mot_repository::Repository;
-use mot_session::write_whole;
 use mot_update::Ended;
 use std::alloc::Global;
 use std::io::Write;
@@ -62,11 +62,8 @@ fn write_export<D: Disk, W: Write>(
     for place in 0..repository.carousel().objects.len() {
         write_object(repository, place, writer)?;
     }
-    write_bytes(writer, period_text(repository.carousel().period).as_slice())?;
-    match writer.flush() {
-        Ok(()) => Ok(()),
-        Err(_) => Err(Refusal::WriteFault),
-    }
+    let period = period_text(repository.carousel().period);
+    write_last(writer, period.as_slice())
 }
 
 /// Writes the line of the object at this place.
@@ -88,10 +85,8 @@ fn write_object<D: Disk, W: Write>(
     ensures fault { IfErr result (λ r. IsPrintingFault r (D.state repository.old.disk).failures
         (D.state repository.new.disk).failures) }
 {
-    write_bytes(
-        writer,
-        put_text(&repository.carousel().objects[place]).as_slice(),
-    )?;
+    let words = put_text(&repository.carousel().objects[place]);
+    write_bytes(writer, words.as_slice())?;
     write_body(repository, place, writer)?;
     write_bytes(writer, b"\n")
 }
@@ -133,9 +128,8 @@ fn write_body<D: Disk, W: Write>(
 /// Writes bytes in small hexadecimal digits.
 fn write_digits<W: Write>(writer: &mut W, bytes: &[u8]) -> Result<(), Refusal>
     requires { length bytes.now ≤ PIECE }
-    ensures written { Writes result (encode_lower bytes.now)
+    ensures { Prints (fault_of result) (encode_lower bytes.now)
         (W.contents writer.old) (W.contents writer.new) }
-    ensures fault { IfErr result (λ r. r ≡ WriteFault) }
 {
     let mut digits = [0u8; 2 * PIECE];
     let count = 2 * bytes.len();
@@ -144,15 +138,4 @@ fn write_digits<W: Write>(writer: &mut W, bytes: &[u8]) -> Result<(), Refusal>
         return Err(Refusal::WriteFault);
     };
     write_bytes(writer, &digits[..count])
-}
-
-/// Writes all of the bytes; after a fault some first of them were written.
-fn write_bytes<W: Write>(writer: &mut W, bytes: &[u8]) -> Result<(), Refusal>
-    ensures written { Writes result bytes.now (W.contents writer.old) (W.contents writer.new) }
-    ensures fault { IfErr result (λ r. r ≡ WriteFault) }
-{
-    let Ok(()) = write_whole(writer, bytes) else {
-        return Err(Refusal::WriteFault);
-    };
-    Ok(())
 }

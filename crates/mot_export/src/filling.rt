@@ -1,11 +1,11 @@
 //! Frames of a sub-channel, filled as a multiplexer fills them.
-ghost use Rattle.std.specs.Prelude.{◌≡◌, ◌+◌, ◌^◌, ◌<◌, ◌≤◌, ◌∷◌, length, map};
+ghost use Rattle.std.specs.Prelude.{◌≡◌, ◌+◌, ◌^◌, ◌<◌, ◌≤◌, ◌∷◌, map};
 ghost use Rattle.std.specs.List.{fold};
 ghost use Rattle.mot_numbers.specs.PacketLength.{room_of};
-ghost use Rattle.mot_numbers.specs.declared.geometry.TheConstants.{MAX_OBJECTS};
 ghost use Rattle.mot_objects.specs.declared.body.TheConstants.{MAX_BODY};
 ghost use Rattle.mot_objects.specs.declared.object.Object.{Object};
-ghost use Rattle.mot_export.specs.Filling.{frames_of, no_frames, with_packet};
+ghost use Rattle.mot_export.specs.Filling.{with_packet};
+ghost use Rattle.mot_export.specs.Inspecting.{time_in};
 ghost use Rattle.mot_export.specs.Inner.Filled.{AreRight, followed_by, frame_with};
 ghost use Rattle.mot_listening.specs.Entities.{entity_lengths, group_lengths, packet_length};
 ghost use Rattle.mot_listening.specs.Entities.{turn_lengths};
@@ -13,7 +13,7 @@ ghost use Rattle.mot_listening.specs.Entities.{turn_lengths};
 use mot_groups::segment_count;
 use mot_listening::{GROUP_FRAME, packet_for};
 use mot_numbers::{PacketLength, SegmentSize};
-use mot_objects::Object;
+use mot_objects::Carousel;
 use mot_packets::packet_count;
 
 /// Frames that packets fill, each packet whole in one.
@@ -28,13 +28,13 @@ pub(crate) struct Frames {
 }
 
 impl Frames {
-    /// No frame was begun.
-    fn none() -> Self
-        ensures { result ≡ no_frames }
+    /// A frame with so many bytes left, and none begun behind it.
+    fn with_left(left: usize) -> Self
+        ensures { result ≡ frame_with left }
     {
         Frames {
             begun: 0,
-            left: 0,
+            left,
             fits: true,
         }
     }
@@ -88,18 +88,6 @@ struct Steps {
 }
 
 impl Steps {
-    /// None is kept.
-    fn new(size: usize, full_length: PacketLength) -> Self
-        ensures same { (result.size ≡ size) × (result.full_length ≡ full_length) }
-        ensures right { AreRight result }
-    {
-        Steps {
-            size,
-            full_length,
-            kept: [None; STEPS],
-        }
-    }
-
     /// What a group of so many bytes makes of a frame with so many left.
     fn behind(&mut self, len: usize, left: usize) -> Frames
         requires short { len < 2 ^ 20 }
@@ -118,40 +106,38 @@ impl Steps {
         {
             return kept.frames;
         }
-        let mut frames = Frames {
-            begun: 0,
-            left,
-            fits: true,
-        };
+        let mut frames = Frames::with_left(left);
         fill_group(&mut frames, self.size, self.full_length, len);
         self.kept[place] = Some(Step { len, left, frames });
         frames
     }
 }
 
-/// The frames of so many bytes that a turn fills, of a directory of this length and these objects,
-/// from the beginning of a frame on.
-pub(crate) fn turn_frames(
-    size: usize,
+/// How many milliseconds the turn of such a directory and this carousel's objects takes at this rate
+/// in packets of this length; `None`, if one fits in no frame.
+pub(crate) fn time_in(
+    rate: u32,
     full_length: PacketLength,
     segment_size: SegmentSize,
     directory: usize,
-    objects: &[Object],
-) -> Frames
-    requires short { directory ≤ MAX_BODY }
-    requires few { length objects.now ≤ MAX_OBJECTS }
-    ensures filled { result ≡ frames_of size (turn_lengths (room_of full_length) segment_size
-        (directory ∷ map (λ (o : Object). o.length) objects.now)) }
-    ensures few { result.begun < 2 ^ 50 }
+    carousel: &Carousel,
+) -> Option<u64>
+    requires { directory ≤ MAX_BODY }
+    ensures { result ≡ time_in rate (turn_lengths (room_of full_length) segment_size
+        (directory ∷ map (λ (o : Object). o.length) carousel.now.objects.items)) }
 {
-    let mut frames = Frames::none();
-    let mut steps = Steps::new(size, full_length);
+    let mut frames = Frames::with_left(0);
+    let mut steps = Steps {
+        size: 3 * rate as usize,
+        full_length,
+        kept: [None; STEPS],
+    };
     fill_entity(&mut frames, &mut steps, segment_size, directory);
-    for object in objects {
+    for object in &carousel.objects {
         let len = object.length.get() as usize;
         fill_entity(&mut frames, &mut steps, segment_size, len);
     }
-    frames
+    frames.fits.then_some(24 * frames.begun)
 }
 
 /// Fills frames with the packets of a directory or body of so many bytes.

@@ -3,14 +3,14 @@ ghost use Rattle.std.specs.Prelude.{◌≡◌, ◌+◌, ◌<◌, ◌≤◌, ◌^
 ghost use Rattle.std.specs.Int.{div_ceil};
 ghost use Rattle.std.specs.List.{sum_by};
 ghost use Rattle.mot_journal.specs.Image.{Standing};
-ghost use Rattle.mot_listening.specs.Waits.{round_for, with_directories};
+ghost use Rattle.mot_listening.specs.Waits.{with_directories};
 ghost use Rattle.mot_numbers.specs.Geometry.{is_valid, packet_room};
 ghost use Rattle.mot_numbers.specs.declared.refusal.Refusal.TheVariants.{OutOfMemory};
 ghost use Rattle.mot_objects.specs.declared.object.Object.{Object};
 ghost use Rattle.mot_player.specs.Place.{directory_packets};
 ghost use Rattle.mot_playout.specs.Server.{place_in};
 ghost use Rattle.mot_repository.specs.Repository.{Agrees};
-ghost use Rattle.mot_export.specs.Inspecting.{AreFigures, usual_pause, usually_heard, waits_of};
+ghost use Rattle.mot_export.specs.Inspecting.{AreFigures, usual_pause, waits_of};
 
 use crate::times::turn_times;
 use disk_model::Disk;
@@ -124,35 +124,17 @@ fn waits_of(geometry: &Geometry, rate: Option<u32>, directory: u64, packets: u64
     ensures { result ≡ waits_of (usual_pause rate geometry.now.packet)
         (div_ceil (geometry.now.segment + 11) (packet_room geometry.now)) directory packets }
 {
-    let group = longest_group(geometry);
-    let pause = usual_pause(rate, geometry.packet);
-    let (few, turn) = (u128::from(directory), u128::from(packets));
-    Waits {
-        group: saturated(group),
-        directory,
-        heard_directory: saturated(usually_heard(pause, group, few, turn)),
-        heard_carousel: saturated(round_for(group, few, turn)),
-    }
-}
-
-/// The number, or the greatest of 64 bits.
-fn saturated(number: u128) -> u64
-    ensures { result ≡ min number 18446744073709551615 }
-{
-    match u64::try_from(number) {
-        Ok(number) => number,
-        Err(_) => u64::MAX,
-    }
-}
-
-/// How many packets the longest group takes.
-fn longest_group(geometry: &Geometry) -> u128
-    requires { is_valid geometry.now ≡ true }
-    ensures value { result ≡ div_ceil (geometry.now.segment + 11) (packet_room geometry.now) }
-    ensures few { result < 2 ^ 17 }
-{
     let bytes = usize::from(geometry.segment) + GROUP_FRAME;
-    packet_count(bytes, geometry.length_of_packets()) as u128
+    let group = packet_count(bytes, geometry.length_of_packets()) as u64;
+    let (first, few) = (u128::from(group), u128::from(directory));
+    let pause = usual_pause(rate, geometry.packet).max(10 * few);
+    let heard_carousel = with_directories(first + u128::from(packets) + 3 * few);
+    Waits {
+        group,
+        directory,
+        heard_directory: with_directories(pause + first + 2 * few).min(heard_carousel),
+        heard_carousel,
+    }
 }
 
 /// After how many packets of this length the directory is sent again.
@@ -167,28 +149,11 @@ fn usual_pause(rate: Option<u32>, packet: u16) -> u128
     }
 }
 
-/// After how many packets a receiver has the directory, as it is sent again, or with the carousel.
-fn usually_heard(pause: u128, group: u128, directory: u128, turn: u128) -> u128
-    requires few { (group < 2 ^ 32) × (directory < 2 ^ 32) × (turn < 2 ^ 64) × (pause < 2 ^ 50) }
-    ensures { result ≡ usually_heard pause group directory turn }
-{
-    let pause = pause.max(10 * directory);
-    let soon = with_directories(pause + group + 2 * directory);
-    soon.min(round_for(group, directory, turn))
-}
-
-/// After how many packets a receiver has the carousel.
-fn round_for(group: u128, directory: u128, turn: u128) -> u128
-    requires few { (group < 2 ^ 32) × (directory < 2 ^ 32) × (turn < 2 ^ 64) }
-    ensures { result ≡ round_for group 0 turn directory }
-{
-    with_directories(group + turn + 3 * directory)
-}
-
-/// So many packets, and those of the directories that are sent again between them.
-fn with_directories(packets: u128) -> u128
+/// So many packets, and those of the directories that are sent again between them; or the greatest
+/// number of 64 bits, if they are more.
+fn with_directories(packets: u128) -> u64
     requires { packets < 2 ^ 100 }
-    ensures { result ≡ with_directories packets }
+    ensures { result ≡ min (with_directories packets) 18446744073709551615 }
 {
-    (10 * packets + 1).div_ceil(9)
+    (10 * packets + 1).div_ceil(9).min(u64::MAX.into()) as u64
 }

@@ -1,8 +1,8 @@
 //! Lines of JSON, each an object.
 ghost use Rattle.std.specs.Prelude.{◌≡◌, ◌∷◌, ◌++◌, IfOk, IsUtf8, OnOk, [], flat_map};
 ghost use Rattle.json.specs.Token.{string};
-ghost use Rattle.mot_export.specs.Json.{json_line, maybe_count, members_of, value_token};
-ghost use Rattle.mot_export.specs.Inner.Tokens.{member_tokens};
+ghost use Rattle.mot_export.specs.Json.{json_line, maybe_count, member_tokens, members_of};
+ghost use Rattle.mot_export.specs.Json.{value_token};
 
 use json::Writer;
 use std::alloc::AllocError;
@@ -69,21 +69,12 @@ fn add_members(writer: &mut Writer, members: &[(&str, JsonValue<'_>)]) -> Result
 {
     for (name, value) in members {
         writer.key(name)?;
-        add_value(writer, *value)?;
+        match *value {
+            JsonValue::Count(number) => writer.u64(number)?,
+            JsonValue::Text(text) => writer.string(text)?,
+            JsonValue::Flag(flag) => writer.boolean(flag)?,
+            JsonValue::Absent => writer.null()?,
+        }
     }
     Ok(())
-}
-
-/// Writes the value of a member.
-fn add_value(writer: &mut Writer, value: JsonValue<'_>) -> Result<(), AllocError>
-    ensures before { writer.new.before ≡ writer.old.before }
-    ensures tokens { OnOk result (writer.new.tokens
-        ≡ writer.old.tokens ++ value_token value.entry ∷ []) }
-{
-    match value {
-        JsonValue::Count(number) => writer.u64(number),
-        JsonValue::Text(text) => writer.string(text),
-        JsonValue::Flag(flag) => writer.boolean(flag),
-        JsonValue::Absent => writer.null(),
-    }
 }

@@ -1,8 +1,8 @@
 //! The figures of a disk, as JSON and for people.
-ghost use Rattle.std.specs.Prelude.{◌≡◌, ◌∷◌, ◌++◌, ◌≤◌, ◌<◌, IfOk, [], flat_map};
-ghost use Rattle.mot_export.specs.Inspecting.{IsShown, disk_members, filled_above, filled_below};
-ghost use Rattle.mot_export.specs.Inspecting.{filled_json, inspection_json, segment_size, time_json};
-ghost use Rattle.mot_export.specs.Json.{members_of};
+ghost use Rattle.std.specs.Prelude.{◌≡◌, ◌∷◌, ◌++◌, ◌≤◌, ◌<◌, IfOk, flat_map};
+ghost use Rattle.mot_export.specs.Inspecting.{IsShown, disk_members, filled_json};
+ghost use Rattle.mot_export.specs.Inspecting.{inspection_json, segment_size, time_json};
+ghost use Rattle.mot_export.specs.Json.{maybe_count, members_of, value_token};
 
 use crate::inspection::{Inspection, TurnTime};
 use crate::json_line::{JsonValue, add_json_line};
@@ -32,7 +32,11 @@ fn add_json(text: Vec<u8>, told: &Inspection) -> Result<Vec<u8>, AllocError>
         (λ added. added.items ≡ text.items ++ inspection_json told.now) }
 {
     let text = add_json_line(text, &disk_members(told))?;
-    let text = add_filled(text, usize::from(told.geometry.segment))?;
+    let size = usize::from(told.geometry.segment);
+    let text = add_filled(text, size, 19)?;
+    let text = add_filled(text, size, 43)?;
+    let text = add_filled(text, size, 67)?;
+    let text = add_filled(text, size, 91)?;
     add_times(text, &told.times)
 }
 
@@ -64,60 +68,31 @@ pub(crate) fn disk_members(told: &Inspection) -> [(&'static str, JsonValue<'stat
     ]
 }
 
-/// Adds a line for each length of packets: which segments fill them.
-fn add_filled(text: Vec<u8>, size: usize) -> Result<Vec<u8>, AllocError>
-    requires { size ≤ 65535 }
-    ensures { IfOk result (λ added. added.items
-        ≡ text.items ++ flat_map (filled_json size) (19 ∷ 43 ∷ 67 ∷ 91 ∷ [])) }
-{
-    let text = add_filled_by(text, size, 19)?;
-    let text = add_filled_by(text, size, 43)?;
-    let text = add_filled_by(text, size, 67)?;
-    add_filled_by(text, size, 91)
-}
-
-/// Adds the line of packets with so many data bytes.
-fn add_filled_by(text: Vec<u8>, size: usize, room: usize) -> Result<Vec<u8>, AllocError>
+/// Adds the line of packets with so many data bytes: the longest segment no longer than this one
+/// whose group fills them, and the shortest that is longer, if a disk may have these.
+fn add_filled(text: Vec<u8>, size: usize, room: usize) -> Result<Vec<u8>, AllocError>
     requires short { size ≤ 65535 }
     requires some { (0 < room) × (room ≤ 91) }
     ensures { IfOk result (λ added. added.items ≡ text.items ++ filled_json size room) }
 {
+    let full = (size + 11) / room * room;
     let members = [
         ("packets", JsonValue::Count(room as u64 + 5)),
-        ("shorter", JsonValue::maybe(filled_below(size, room))),
-        ("longer", JsonValue::maybe(filled_above(size, room))),
+        ("shorter", segment_size(full.saturating_sub(11))),
+        ("longer", segment_size((full + room).saturating_sub(11))),
     ];
     add_json_line(text, &members)
 }
 
-/// The longest segment no longer than this one whose group fills packets with so many bytes each, if
-/// a disk may have it.
-fn filled_below(size: usize, room: usize) -> Option<u64>
-    requires short { size ≤ 65535 }
-    requires some { 0 < room }
-    ensures { result ≡ filled_below size room }
-{
-    segment_size(((size + 11) / room * room).saturating_sub(11))
-}
-
-/// The shortest segment longer than this one whose group fills packets with so many bytes each, if a
-/// disk may have it.
-fn filled_above(size: usize, room: usize) -> Option<u64>
-    requires short { size ≤ 65535 }
-    requires some { (0 < room) × (room ≤ 91) }
-    ensures { result ≡ filled_above size room }
-{
-    segment_size(((size + 11) / room * room + room).saturating_sub(11))
-}
-
 /// A size of segments, if a disk may have it.
-fn segment_size(size: usize) -> Option<u64>
-    ensures { result ≡ segment_size size }
+fn segment_size(size: usize) -> JsonValue<'static>
+    ensures { value_token result ≡ maybe_count (segment_size size) }
 {
     if size < usize::from(MIN_SEGMENT) || size > usize::from(MAX_SEGMENT) {
-        return None;
+        JsonValue::Absent
+    } else {
+        JsonValue::Count(size as u64)
     }
-    Some(size as u64)
 }
 
 /// Adds a line for each rate.

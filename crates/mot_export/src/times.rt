@@ -1,16 +1,14 @@
 //! How long a turn takes in packets of each length.
 ghost use Rattle.std.specs.Prelude.{◌≡◌, ◌∷◌, ◌≤◌, ℕ, List, IfErr, IfOk, map};
-ghost use Rattle.mot_numbers.specs.PacketLength.{room_of};
 ghost use Rattle.mot_numbers.specs.declared.refusal.Refusal.TheVariants.{OutOfMemory};
 ghost use Rattle.mot_objects.specs.declared.body.TheConstants.{MAX_BODY};
 ghost use Rattle.mot_objects.specs.declared.object.Object.{Object};
 ghost use Rattle.mot_objects.specs.Stands.{AreBodiesOf, carousel_of};
 ghost use Rattle.mot_player.specs.Turn.{turn_of_carousel};
+ghost use Rattle.mot_export.specs.Inspecting.{rates_of, time_of, times_of};
 ghost use Rattle.mot_listening.specs.Entities.{turn_lengths};
-ghost use Rattle.mot_export.specs.Inspecting.{rates_of, time_in, times_of};
-ghost use Rattle.mot_export.specs.Inner.Inspected.{entities_time};
 
-use crate::filling::turn_frames;
+use crate::filling::time_in;
 use crate::inspection::TurnTime;
 use mot_directory::directory_bytes;
 use mot_numbers::{PacketLength, Refusal, SegmentSize};
@@ -49,59 +47,20 @@ fn times_at(
     carousel: &Carousel,
 ) -> Result<Vec<TurnTime>, Refusal>
     requires { directory ≤ MAX_BODY }
-    ensures times { IfOk result (λ times. times.items ≡ map (entities_time segment_size
-        (directory ∷ map (λ (o : Object). o.length) carousel.now.objects.items)) rates.now) }
+    ensures times { IfOk result (λ times. times.items
+        ≡ map (time_of (λ room. turn_lengths room segment_size
+        (directory ∷ map (λ (o : Object). o.length) carousel.now.objects.items))) rates.now) }
     ensures refused { IfErr result (λ r. r ≡ OutOfMemory) }
 {
     let mut times = Vec::new(alloc);
-    for rate in rates {
-        let time = time_at(*rate, segment_size, directory, carousel);
-        if times.push(time).is_err() {
-            return Err(Refusal::OutOfMemory);
-        }
+    for &rate in rates {
+        times.push(TurnTime {
+            rate,
+            in_24: time_in(rate, PacketLength::P24, segment_size, directory, carousel),
+            in_48: time_in(rate, PacketLength::P48, segment_size, directory, carousel),
+            in_72: time_in(rate, PacketLength::P72, segment_size, directory, carousel),
+            in_96: time_in(rate, PacketLength::P96, segment_size, directory, carousel),
+        })?;
     }
     Ok(times)
-}
-
-/// How long the turn is at this rate.
-fn time_at(rate: u32, segment_size: SegmentSize, directory: usize, carousel: &Carousel) -> TurnTime
-    requires { directory ≤ MAX_BODY }
-    ensures { result ≡ entities_time segment_size
-        (directory ∷ map (λ (o : Object). o.length) carousel.now.objects.items) rate }
-{
-    TurnTime {
-        rate,
-        in_24: time_in(rate, PacketLength::P24, segment_size, directory, carousel),
-        in_48: time_in(rate, PacketLength::P48, segment_size, directory, carousel),
-        in_72: time_in(rate, PacketLength::P72, segment_size, directory, carousel),
-        in_96: time_in(rate, PacketLength::P96, segment_size, directory, carousel),
-    }
-}
-
-/// How many milliseconds the turn takes at this rate in packets of this length; `None`, if one fits
-/// in no frame.
-fn time_in(
-    rate: u32,
-    full_length: PacketLength,
-    segment_size: SegmentSize,
-    directory: usize,
-    carousel: &Carousel,
-) -> Option<u64>
-    requires { directory ≤ MAX_BODY }
-    ensures { result ≡ time_in rate (turn_lengths (room_of full_length) segment_size
-        (directory ∷ map (λ (o : Object). o.length) carousel.now.objects.items)) }
-{
-    let frame = 3 * rate as usize;
-    let frames = turn_frames(
-        frame,
-        full_length,
-        segment_size,
-        directory,
-        &carousel.objects,
-    );
-    if frames.fits {
-        Some(24 * frames.begun)
-    } else {
-        None
-    }
 }

@@ -101,13 +101,11 @@ fn write_best<W: Write>(writer: &mut W, times: &[TurnTime]) -> Result<(), Error>
 
 /// Whether a turn in packets of this length is not longer than in others.
 fn is_shortest(time: &TurnTime, length: u64) -> bool {
-    let own = in_packets(time, length);
-    for other in LENGTHS {
-        if let (Some(own), Some(other)) = (own, in_packets(time, other))
-            && other < own
-        {
-            return false;
-        }
+    match in_packets(time, length) {
+        Some(own) => LENGTHS
+            .iter()
+            .filter_map(|other| in_packets(time, *other))
+            .all(|other| own <= other),
+        None => false,
     }
-    own.is_some()
 }

@@ -16,11 +16,9 @@ frame_with left = record { begun = 0; left = left; fits = true }
 abbrev pub followed_by : Frames → Frames → Frames
 followed_by f g = record { begun = f.begun + g.begun; left = g.left; fits = f.fits && g.fits }
 
--- a step that is kept is right for frames of this size and packets with so many data bytes
-abbrev pub IsStep : (size room : ℕ) → Option Step → Type 0
-IsStep size room step = IfSome step (λ s.
-    (s.frames ≡ fold (with_packet size) (frame_with s.left) (group_lengths room s.len))
-    × (s.frames.begun < 1048576))
-
+-- the steps that are kept are right
 abbrev pub AreRight : Steps → Type 0
-AreRight steps = AllByRecursion (IsStep steps.size (room_of steps.full_length)) steps.kept
+AreRight steps = AllByRecursion (λ (step : Option Step). IfSome step (λ s.
+    (s.frames ≡ fold (with_packet steps.size) (frame_with s.left)
+    (group_lengths (room_of steps.full_length) s.len))
+    × (s.frames.begun < 1048576))) steps.kept

@@ -1,4 +1,4 @@
-use Rattle.std.proofs.Common.{List, [], ℕ, Option, Some, None, inl, refl, subst, sym}
+use Rattle.std.proofs.Common.{◌∙◌, List, [], ℕ, Option, Some, None, ap, inl, refl, subst, sym}
 use Rattle.std.specs.Prelude.{IsSomeAnd}
 use Rattle.disk_model.specs.Disk.{KeepsLength, State}
 use Rattle.mot_air.proofs.Behind.{frame_behind, none_told, plays_behind}
@@ -9,7 +9,9 @@ use Rattle.mot_air.specs.Directory.{IsFrame}
 use Rattle.mot_air.specs.Playing.{Plays, Tale}
 use Rattle.mot_feed.specs.declared.manner.Manner.{Manner}
 use Rattle.mot_air.specs.Telling.{HandsOut, folder_in}
+use Rattle.mot_files.specs.declared.call_log.CallLog.{CallLog}
 use Rattle.mot_update.specs.Opening.{IsUnopened}
+use Rattle.mot_update.specs.declared.ended.Ended.{Ended}
 use Rattle.mot_feed.proofs.Laws.{grows_nil}
 use Rattle.mot_feed.specs.Feeding.Stage.{Ready}
 use Rattle.mot_line_folder.specs.Spool.{SpoolView}
@@ -78,28 +80,29 @@ pub returns-in-Err : goal.returns-in-Err
 returns-in-Err g c =
     let state = g.D.Disk.state in
     let refused = c.in-Err.refused in
-    let out = c.unbegun.result in
-    let is = c.unbegun.ensures in
+    let out = c.unwatched.result in
+    let is = c.unwatched.ensures in
+    let ended = is.ended ∙ c.unopened-ended.ensures in
     let start = state c.args.disk in
     let now = state out.ended.disk in
     let ending = fault_of out.ended.result in
     let how = played_as c.args.airing.task 1 in
     let folder = folder_in g.F.System.calls c.args.airing.folder in
     let lines = lines_in g.Y.System.calls c.args.airing.lines in
-    let none = subst (λ e. IsSomeAnd e (λ r. IsUnopened r start now)) (sym is.ended.0)
-    (subst (λ d. IsUnopened refused.refusal start (state d)) (sym is.ended.1)
+    let none = subst (λ e. IsSomeAnd e (λ r. IsUnopened r start now)) (sym (ap (λ (e : Ended _ Unit). fault_of e.result) ended))
+    (subst (λ d. IsUnopened refused.refusal start (state d)) (sym (ap (λ (e : Ended _ Unit). e.disk) ended))
     c.in-Err.ensures.refused) in
-    let keeps = subst (λ d. KeepsLength start (state d)) (sym is.ended.1)
+    let keeps = subst (λ d. KeepsLength start (state d)) (sym (ap (λ (e : Ended _ Unit). e.disk) ended))
     c.in-Err.ensures.syncs.keeps in (
       1,
       any_frame c.args.airing.task.rate ending start now none,
       (
         folder,
-        is.folder,
+        c.folder_calls.ensures ∙ sym (ap (λ (l : CallLog). l.all) is.folder),
         (
           lines,
           (
-            inl (sym is.lines),
+            inl (ap (λ (l : CallLog). l.all) is.lines ∙ sym c.lines_calls.ensures),
             unplayed _ how ending (g.O.Outlet.writes c.args.outlet.now) start now keeps none
                 (none_told _ _ how out.any_refused folder lines is.refused),
           ),

@@ -1,4 +1,4 @@
-use Rattle.std.proofs.Common.{false, ℕ, ◌⊎◌, ◌≡◌, ◌∙◌, ◌-◌, Bool, [], Option, ap, refl, subst, sym}
+use Rattle.std.proofs.Common.{false, ℕ, ◌⊎◌, ◌≡◌, ◌∙◌, Bool, [], Option, ap, refl, subst, sym}
 use Rattle.disk_store.specs.Beginning.{IsFirst, SinceOpened}
 use Rattle.disk_store.specs.Begun.{begun_state}
 use Rattle.disk_store.proofs.Laws.{since_opened}

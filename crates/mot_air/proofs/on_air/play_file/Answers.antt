@@ -1,4 +1,4 @@
-use Rattle.std.proofs.Common.{ℕ, ◌∙◌, ◌-◌, Bool, ap, List, Option, Result, inl, subst, sym}
+use Rattle.std.proofs.Common.{ℕ, ◌∙◌, Bool, ap, List, Option, Result, inl, subst, sym}
 use Rattle.std.proofs.KnownBytes.{Keeps-refl}
 use Rattle.disk_store.specs.declared.file.start.Start.{Ghosts}
 use Rattle.mot_air.specs.Inner.Beside.{tale_aired}

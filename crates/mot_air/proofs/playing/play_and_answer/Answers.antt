@@ -66,7 +66,7 @@ returns-in-None g c =
     let place = c.args.lines.place in
     rw (c.in-None.is) (
       folder_at [] false [],
-      sym c.unwatched.ensures.folder,
+      sym (ap (λ (l : CallLog). l.all) c.unwatched.ensures.folder ∙ c.new.ensures),
       (
         told.0.lines,
         (

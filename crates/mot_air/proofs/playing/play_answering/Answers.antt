@@ -10,7 +10,7 @@ pub returns : goal.returns
 returns g c =
     let how = c.args.how in
     let fed = c.feed_lines-fed.result in
-    let ended = c.end_lines-ended.result in
+    let ended = c.end_of.result in
     let before = g.O.Outlet.writes c.args.outlet.now in
     let after = g.O.Outlet.writes c.feed_lines-fed.new.outlet in
     let start = g.D.Disk.state c.args.disk in
@@ -19,15 +19,15 @@ returns g c =
     let made = c.lines_between-lines.ensures in
     let place = c.args.lines.place in (
       seen last see,
-      sym (c.into_parts-spool.ensures.update ∙ c.end_lines-ended.ensures.update),
+      sym (c.into_parts-spool.ensures.update ∙ c.tell_end.ensures ∙ c.finish.ensures.update),
       subst (λ e. EndsReading e (see last.reader) c.into_calls.result.all)
-          (sym c.end_lines-ended.ensures.ended.ending)
+          (sym c.end_of.ensures.ending)
           (subst (EndsReading (ending_of fed) (see last.reader))
           (sym (c.into_calls.ensures ∙ ap g.F.System.calls c.into_system.ensures
           ∙ ap (λ (r : _). g.F.System.calls (spool_system r))
           c.into_parts-spool.ensures.reader))
-          c.end_lines-ended.ensures.lines),
-      fed_out g.D.Disk.state _ how before after start fed ended c.end_lines-ended.ensures.ended
+          c.finish.ensures.lines),
+      fed_out g.D.Disk.state _ how before after start fed ended c.end_of.ensures
           (plays_as _ _ (answered_retold c.lines_between-lines.result last GaveLines see
           g.U.Update.tells how (c.args.lines.every - 1) c.args.update
           (lines_at place.path.now (g.F.System.calls place.system)) c.args.lines.hand made.every made.due made.unread made.hand

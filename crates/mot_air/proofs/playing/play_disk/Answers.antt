@@ -50,11 +50,11 @@ returns-in-None g c =
     let out = c.unwatched.result in
     rw (c.in-None.is) (
       folder_at [] false [],
-      sym c.unwatched.ensures.folder,
+      sym (ap (λ (l : _). l.all) c.unwatched.ensures.folder ∙ c.new-in-None.ensures),
       (
         lines_at [] [],
         (
-          inl (ap (λ (l : _). l.all) c.unwatched.ensures.lines ∙ c.new-in-None.ensures),
+          inl (ap (λ (l : _). l.all) c.unwatched.ensures.lines ∙ c.new-in-None-2.ensures),
           handed_out g.D.Disk.state _ how before after start ended out.ended c.unwatched.ensures.ended
               (plays_as _ _ (none_retold how _ (folder_at [] false []) (lines_at [] [])
               (sym c.unwatched.ensures.refused) _)

@@ -10,8 +10,8 @@ returns g c =
     let before = g.O.Outlet.writes c.args.outlet.now in
     let after = g.O.Outlet.writes c.feed_reported-fed.new.outlet in
     let start = g.D.Disk.state c.args.disk in
-    fed_out g.D.Disk.state _ how before after start fed c.end_telling-ended.result
-    c.end_telling-ended.ensures.ended
+    fed_out g.D.Disk.state _ how before after start fed c.end_of.result
+    c.end_of.ensures
     (plays_as _ _ (reported_retold g.U.Update.tells how _ c.feed_reported-fed.new.reported
-    c.into_parts-update.result.0 (c.into_parts-update.ensures.update ∙ c.end_telling-ended.ensures.update))
+    c.into_parts-update.result.0 (c.into_parts-update.ensures.update ∙ c.tell_end.ensures))
     how (ending_of fed) before after start (g.D.Disk.state (disk_of fed)) c.feed_reported-fed.ensures)

@@ -28,10 +28,10 @@ returns-clause-ended g c =
     let last = c.take_each-result.new.server in
     let old = g.W.Write.contents c.args.writer.now in
     let new = g.W.Write.contents c.take_each-result.new.writer in
-    opened (opens_to state c.args.disk c.into_disk.result c.in-Ok.server last
+    rw c.ended_with.ensures (opened (opens_to state c.args.disk c.into_disk.result c.in-Ok.server last
     (λ first last. TakesEach state c.args.words.now (texts c.args.list.now)
     (result_unwrap_or result false) (fault_of result)
     (first, old, g.Y.System.calls c.args.system.now)
     (last, new, g.Y.System.calls c.take_each-result.new.system))
     g.met.D.Disk.sound opens.only_syncs opens.opened opens.going opens.at_start
-    (sym c.into_disk.ensures) c.take_each-result.ensures.taken)
+    (sym c.into_disk.ensures) c.take_each-result.ensures.taken))

@@ -11,7 +11,7 @@ use Rattle.mot_commands.proofs.Listed.{report-beside, told}
 use Rattle.mot_playout.proofs.Laws.{rises_on, syncs_read}
 use Rattle.mot_commands.proofs.checking.check_disk.Given as given
 use Rattle.mot_commands.proofs.checking.check_disk.Goals as goal
-use Rattle.mot_commands.proofs.checking.check_disk.Goals.{After-into_disk}
+use Rattle.mot_commands.proofs.checking.check_disk.Goals.{After-ended_with}
 use Rattle.mot_repository.specs.OnDisk.IsCheckRefusal.{failed, halted}
 use Rattle.mot_journal.specs.Journal.IsReadingRefusal.{device}
 use Rattle.mot_objects.specs.declared.carousel.Carousel.{Carousel}
@@ -35,13 +35,13 @@ returns-in-Err g c =
     )
 
 -- what is told of the disk's bytes
-text_of : (g : given.Over) → After-into_disk g → List ℕ
+text_of : (g : given.Over) → After-ended_with g → List ℕ
 text_of g c =
     let view = c.in-Ok.repository.view in
     report_beside c.args.form view.carousel c.in-Ok-is_clean.is_clean view.journal.layout
 
 -- which is what was handed to be printed
-same_text : (g : given.Over) (c : After-into_disk g)
+same_text : (g : given.Over) (c : After-ended_with g)
     → IfOk c.report_in-report.result (λ report. report.items ≡ text_of g c)
 unfolding text_of
 same_text g c =
@@ -58,7 +58,7 @@ same_text g c =
     carousel c.text_in-text.ensures))
 
 -- and a report of these bytes
-reported : (g : given.Over) (c : After-into_disk g)
+reported : (g : given.Over) (c : After-ended_with g)
     → (g.D.Disk.state c.into_disk.result).IsHonest
     → IsReport c.args.form (g.D.Disk.state c.args.disk).bytes (text_of g c)
 unfolding text_of
@@ -98,7 +98,7 @@ returns-in-Ok-is_clean g c =
     let syncs = subst (λ d. OnlySyncs start (state d)) (sym c.into_disk.ensures)
     (syncs_read _ _ _ c.in-Ok.ensures.only_syncs c.in-Ok-is_clean.ensures.only_reads) in
     let calm = subst (λ d. (state d).failures ≡ start.failures) (sym c.into_disk.ensures)
-    (c.in-Ok-is_clean.ensures.calm ∙ c.in-Ok.ensures.calm) in (
+    (c.in-Ok-is_clean.ensures.calm ∙ c.in-Ok.ensures.calm) in rw c.ended_with.ensures (
       syncs,
       told start (state c.into_disk.result) _ ending (text_of g c) c.report_in-report.result old new syncs
           calm (reported g c) (same_text g c) c.print_text.ensures,
@@ -112,7 +112,7 @@ returns-in-Err-is_clean g c =
     let old = g.W.Write.contents c.args.writer.now in
     let refusal = c.in-Err-is_clean.refusal in
     let syncs = syncs_read _ _ _ opens.only_syncs calls.only_reads in
-    subst (λ d. Checks c.args.form (Some refusal) old old (state c.args.disk) (state d))
+    rw c.ended_with-in-Err-is_clean.ensures (subst (λ d. Checks c.args.form (Some refusal) old old (state c.args.disk) (state d))
     (sym c.into_disk-in-Err-is_clean.ensures) (elim calls.refused [
       | halted on is same ↦ absurd (cc (on, opens.going))
       | failed off is rises ↦ (
@@ -129,4 +129,4 @@ returns-in-Err-is_clean g c =
           Keeps-refl _,
         ),
       )
-    ])
+    ]))

@@ -23,12 +23,12 @@ returns-clause-ended g c =
     let formats = c.format_disk-result.ensures in
     subst (λ (f : _). Finishes (IsUnformatted c.args.geometry) (λ ending used. FormatsFile c.args.geometry c.args.directory ending used old new)
     f old new)
-    (sym c.of_file.ensures) (inr (
+    (sym c.of_file.ensures) (rw c.ended_with.ensures (inr (
       c.requires,
       inr (since_made c.in-Ok.disk.disk last.disk (Formats geometry directory ending old new)
           (length_of geometry) c.in-Ok.ensures.first (c.in-Ok.ensures.len ∙ c.length.ensures)
           last.begins (Formats-keeps geometry directory ending old new _ _ formats) formats),
-    ))
+    )))
 
 pub returns-in-Err-clause-ended : goal.returns-in-Err-clause-ended
 returns-in-Err-clause-ended g c =
@@ -52,7 +52,7 @@ returns-clause-files g c =
     let calls = g.M.System.System.calls in
     subst (λ (f : _). MakesFile (fault_of f.result) c.args.path.now f.disk
     (calls c.args.host.now.system) (calls c.if-is_unformatted.host.system)) (sym c.of_file.ensures)
-    (elim c.if-is_unformatted.branch [
+    (rw c.ended_with.ensures (elim c.if-is_unformatted.branch [
       | then-is_unformatted w ↦
           let gone : List Call = removed c.args.path.now w.take_away.ensures.0 ∷ [] in
           taken_away w.take_away.ensures.0 since.begun
@@ -63,7 +63,7 @@ returns-clause-files g c =
       | else-is_unformatted w ↦
           made since.begun (c.is_unformatted.ensures.done w.if-is_unformatted.false)
           (ap (λ h. calls h.system) w.host-is ∙ c.in-Ok.ensures.calls)
-    ])
+    ]))
 
 pub returns-in-Err-clause-files : goal.returns-in-Err-clause-files
 returns-in-Err-clause-files g c =

@@ -37,7 +37,7 @@ returns-in-Ok-read_named g c =
     let old = g.W.Write.contents c.args.writer.now in
     let new = g.W.Write.contents c.write_last.new.writer in
     let ending = fault_of c.write_last.result in
-    subst (λ d. Gets c.args.name.now ending old new start (state d)) (sym c.into_disk.ensures) (
+    rw c.ended_with.ensures (subst (λ d. Gets c.args.name.now ending old new start (state d)) (sym c.into_disk.ensures) (
       syncs_read _ _ _ opens.only_syncs calls.only_reads,
       inr (
         body,
@@ -55,7 +55,7 @@ returns-in-Ok-read_named g c =
             }),
         subst (λ t. Prints ending t old new) c.deref.ensures.value c.write_last.ensures,
       ),
-    )
+    ))
 
 pub returns-in-Err-read_named : goal.returns-in-Err-read_named
 returns-in-Err-read_named g c =
@@ -87,6 +87,6 @@ returns-in-Err-read_named g c =
         rises_on _ _ _ opens.only_syncs.keeps.later calls.only_reads.keeps.later failed.1,
       ))))
     ] in
-    subst (λ d. Gets name (Some refusal) old old start (state d))
+    rw c.ended_with-in-Err-read_named.ensures (subst (λ d. Gets name (Some refusal) old old start (state d))
     (sym c.into_disk-in-Err-read_named.ensures)
-    (syncs_read _ _ _ opens.only_syncs calls.only_reads, inl (refusal, refl, why, Keeps-refl _))
+    (syncs_read _ _ _ opens.only_syncs calls.only_reads, inl (refusal, refl, why, Keeps-refl _)))

@@ -33,7 +33,7 @@ returns g c =
     let old = g.W.Write.contents c.args.writer.now in
     let new = g.W.Write.contents c.print_text-result.new.writer in
     let ending = fault_of c.print_text-result.result in
-    subst (λ d. Lists form ending old new (state c.args.disk) (state d)) (sym c.into_disk.ensures) (
+    rw c.ended_with.ensures (subst (λ d. Lists form ending old new (state c.args.disk) (state d)) (sym c.into_disk.ensures) (
       opens.only_syncs,
       told (state c.args.disk) (state c.in-Ok.repository.disk) _ ending (shown_beside form view.carousel)
           c.text_in.result old new opens.only_syncs opens.calm
@@ -46,4 +46,4 @@ returns g c =
           (subst (λ (k : Carousel). IfOk c.text_in.result (λ text. text.items ≡ shown_beside form k))
           c.carousel.ensures.value c.text_in.ensures)
           c.print_text-result.ensures,
-    )
+    ))

@@ -50,7 +50,7 @@ not_done true not is = cc
 not_done false not is = cc
 
 -- what was migrated, whether that was printed or not
-migrated : (g : given.Over) (c : goal.After-into_disk g)
+migrated : (g : given.Over) (c : goal.After-ended_with g)
     → IsMigrated (migrated_line c.in-Ok-migrate.is_rewritten) (g.D.Disk.state c.args.disk)
     (g.D.Disk.state c.migrate.new.self.disk)
 migrated g c =
@@ -88,18 +88,18 @@ returns-in-Ok-migrate g c =
     let opens = c.in-Ok.ensures in
     let calls = c.in-Ok-migrate.ensures in
     let old = g.W.Write.contents c.args.writer.now in
-    let new = g.W.Write.contents c.write_last.new.writer in
-    let ending = fault_of c.write_last.result in
-    subst (λ d. Migrates ending old new start (state d)) (sym c.into_disk.ensures) (record {
+    let new = g.W.Write.contents c.write_last-result.new.writer in
+    let ending = fault_of c.write_last-result.result in
+    rw c.ended_with.ensures (subst (λ d. Migrates ending old new start (state d)) (sym c.into_disk.ensures) (record {
       keeps = keeps_on _ _ _ opens.only_syncs.keeps calls.keeps.frame;
       under = migrates_under state c.args.disk repository after g.met.D.Disk.sound opens.only_syncs
           opens.opened opens.going calls.keeps calls.any_moment;
       told = inr (
         migrated_line c.in-Ok-migrate.is_rewritten,
         migrated g c,
-        subst (λ text. Prints ending text old new) c.migrated_text.ensures c.write_last.ensures,
+        subst (λ text. Prints ending text old new) c.migrated_text.ensures c.write_last-result.ensures,
       );
-    })
+    }))
 
 pub returns-in-Err-migrate : goal.returns-in-Err-migrate
 returns-in-Err-migrate g c =
@@ -116,7 +116,7 @@ returns-in-Err-migrate g c =
       | inl is ↦ inl is
       | inr same ↦ inr (ap (λ s. (state s.disk).failures) same ∙ opens.calm)
     ] in
-    subst (λ d. Migrates (Some refusal) old old start (state d))
+    rw c.ended_with-in-Err-migrate.ensures (subst (λ d. Migrates (Some refusal) old old start (state d))
     (sym c.into_disk-in-Err-migrate.ensures) (record {
       keeps = keeps_on _ _ _ opens.only_syncs.keeps calls.keeps.frame;
       under = migrates_under state c.args.disk repository after g.met.D.Disk.sound opens.only_syncs
@@ -146,4 +146,4 @@ returns-in-Err-migrate g c =
           Keeps-refl _,
         )
       ];
-    })
+    }))

@@ -45,7 +45,7 @@ returns-clause-ended g c =
     let served : (ending : Option Refusal) → Input ending server last → ends ending = λ ending is.
     opened (opens_to state c.args.disk disk server last (Input ending) g.met.D.Disk.sound
     opens.only_syncs opens.opened opens.going opens.at_start (sym c.into_disk.ensures) is) in
-    subst ends (sym c.result_of.ensures) (elim calls.faults [
+    rw c.ended_with.ensures (subst ends (sym c.result_of.ensures) (elim calls.faults [
       | inl is ↦ let r = calls.ended is in subst ends (sym is) (served None (r.0, r.1, (r.2, r.4)))
       | inr (inl is) ↦ let r = calls.none is in
           let same = c.into_disk.ensures ∙ ap (λ s. s.disk) r.1 in
@@ -60,4 +60,4 @@ returns-clause-ended g c =
           subst ends (sym is) (served (Some ReadFault) (r.0, r.1, r.3))
       | inr (inr (inr is)) ↦ let r = calls.unwritten is in
           subst ends (sym is) (served (Some WriteFault) (r.0, r.1, (c.serve-fault.result.lines, r.2)))
-    ])
+    ]))

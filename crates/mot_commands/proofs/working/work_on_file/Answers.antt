@@ -41,7 +41,7 @@ returns-in-Some-clause-ended g c =
     subst (λ (f : _). Finishes (λ r. (r ≡ DeviceFault) × Keeps unread left)
     (λ ending used. DoesOnFile work ending used unread left old new) f old new) (sym c.in_memory.ensures)
     (inr (
-      sym c.only_looks.ensures ∙ c.in-Some.ensures.looks,
+      sym c.only_looks-looks.ensures ∙ c.in-Some.ensures.looks,
       (c.in-Some.copy, c.work_on-ended-in-Some.ensures.does),
     ))
 
@@ -68,7 +68,7 @@ returns-in-Some-clause-files g c =
     let old = calls c.args.host.now.system in
     let new = calls c.copy_unopened.new.system in
     let ended = c.work_on-ended-in-Some.result in
-    let looks = sym c.only_looks.ensures ∙ c.in-Some.ensures.looks in
+    let looks = sym c.only_looks-looks.ensures ∙ c.in-Some.ensures.looks in
     let still = looks_still ram_state ended.disk work (fault_of ended.result) _ _ _ _ (ram_state c.in-Some.copy)
     looks c.work_on-ended-in-Some.ensures.does in
     subst (λ (f : _). OpensOrReads (only_looks work) [] path (fault_of f.result) f.disk old new)
@@ -98,7 +98,7 @@ returns-in-None-clause-files g c =
         old,
         refl,
         subst (λ (l : List Call). TriesReads (only_looks work) path l new) c.in-Err.ensures.calls
-            (subst (λ (b : Bool). TriesReads b path (calls c.disk.new.self.system) new) c.only_looks.ensures
+            (subst (λ (b : Bool). TriesReads b path (calls c.disk.new.self.system) new) c.only_looks-looks.ensures
             c.copy_unopened.ensures.tried),
       ),
     ))

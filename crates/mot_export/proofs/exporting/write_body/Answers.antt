@@ -55,7 +55,7 @@ loop-from-preserved g c =
           count (one.bytes s held honest)) in
           subst (Appends (g.W.Write.contents c.args.writer.now)
           (g.W.Write.contents c.write_digits.new.writer)) (sym more)
-          (Appends-trans _ _ _ _ _ (is.written s holds was) c.in_ok-write_digits.ensures.written);
+          (Appends-trans _ _ _ _ _ (is.written s holds was) c.in_ok-write_digits.ensures);
     }
 
 pub returns-clause-written : goal.returns-clause-written
@@ -102,7 +102,7 @@ returns-in_err-write_digits-clause-written g c = λ s holds honest.
     (g.W.Write.contents c.args.writer.now) (g.W.Write.contents c.loop-from.writer)
     (g.W.Write.contents c.write_digits.new.writer)
     (subst (λ n. c.read_body.new.out ≡ slice_range body c.loop-from.from (c.loop-from.from + n))
-    count (one.bytes s held honest)) (is.written s holds was) c.in_err-write_digits.ensures.written)
+    count (one.bytes s held honest)) (is.written s holds was) c.in_err-write_digits.ensures.1)
 
 pub returns-in_err-read_body-clause-fault : goal.returns-in_err-read_body-clause-fault
 returns-in_err-read_body-clause-fault g c =
@@ -120,6 +120,6 @@ returns-in_err-write_digits-clause-fault g c =
     c.from_residual-in_err-write_digits.ensures.1 in
     let one = c.in_ok-read_body.ensures in
     rw p.1 (inl (
-      p.2 ∙ c.in_err-write_digits.ensures.fault,
+      p.2 ∙ c.in_err-write_digits.ensures.0,
       no_failure _ _ one.cause.later one.cause.shown ∙ c.loop-from.invariant.calm,
     ))

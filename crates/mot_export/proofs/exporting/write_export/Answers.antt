@@ -2,19 +2,20 @@ use Rattle.std.proofs.Common.{◌≡◌, ◌<◌, ◌∙◌, ap, refl, sym, subs
 use Rattle.std.specs.Prelude.{vec_len}
 use Rattle.std.specs.Io.KnownBytes.{Appends}
 use Rattle.std.specs.List.{flat_map}
-use Rattle.std.proofs.KnownBytes.{Appends-kept, Appends-nil, Appends-trans}
+use Rattle.std.proofs.KnownBytes.{Appends-nil, Appends-trans}
 use Rattle.std.proofs.lemmas.Result.{err_from_is_err_and}
 use Rattle.disk_model.proofs.Laws.{reads_none, reads_on}
-use Rattle.mot_lines.specs.Export.{export_text, period_line, put_line}
+use Rattle.mot_lines.specs.Export.{period_line, put_line}
 use Rattle.mot_objects.specs.Carousel as whole
 use Rattle.mot_objects.specs.declared.carousel.Carousel.{Carousel}
-use Rattle.mot_export.proofs.Printed.{all_objects, front-lines, lines-more, some_object}
+use Rattle.mot_export.proofs.Printed.{all_objects, front-lines, lines-more, prints-faults, prints-writes, some_object}
 use Rattle.mot_export.specs.Inner.Printing.{IsPrintingFault}
 use Rattle.mot_export.proofs.exporting.write_export.Goals as goal
 use Rattle.mot_repository.specs.Repository.{RepositoryView}
+use Rattle.mot_outcome.specs.Outcome.{Prints}
 use Rattle.mot_playout.proofs.Laws.{standing_still}
-use Rattle.mot_session.proofs.Laws.{WritesFront-after, WritesFront-all}
-use Rattle.mot_session.specs.Served.{WritesFront}
+use Rattle.mot_playout.specs.Attempts.{fault_of}
+use Rattle.mot_session.proofs.Laws.{Writes-after}
 
 pub loop-place-init : goal.loop-place-init
 loop-place-init g c =
@@ -75,15 +76,15 @@ returns-in_err-write_object-clause-written g c = λ s holds honest.
     (known c.write_object.new.writer) o.1 (is.written s holds was)
     (one.written s o.0 held honest o.1))
 
-pub returns-in_err-write_bytes-clause-written : goal.returns-in_err-write_bytes-clause-written
-returns-in_err-write_bytes-clause-written g c = λ s holds honest.
-    let p = err_from_is_err_and c.from_residual-in_err-write_bytes.result
-    c.from_residual-in_err-write_bytes.ensures.1 in
+pub returns-clause-written : goal.returns-clause-written
+returns-clause-written g c = λ s holds honest.
     let known = g.W.Write.contents in
     let old = c.args.repository.now in
     let is = c.loop-place.invariant in
     let first = known c.args.writer.now in
     let mid = known c.loop-place.writer in
+    let new = known c.write_last.new.writer in
+    let ended = c.write_last.result in
     let count = c.len-place-end.ensures
     ∙ ap (λ (k : Carousel). vec_len k.objects) c.carousel.ensures.value
     ∙ old.view.carousel.objects.ok.0 in
@@ -92,61 +93,17 @@ returns-in_err-write_bytes-clause-written g c = λ s holds honest.
     let lines = subst (λ l. Appends first mid (flat_map put_line l)) all
     (is.written s holds honest) in
     let text : c.as_slice.result.now ≡ period_line s.carousel.period = c.as_slice.ensures.value
-    ∙ c.period_text.ensures
+    ∙ c.period_text-period.ensures
     ∙ ap (λ (k : Carousel). period_line k.period) c.carousel-2.ensures.value
     ∙ ap (λ (v : RepositoryView). period_line v.carousel.period) is.view
     ∙ sym (ap (λ (k : whole.Carousel). period_line k.period) holds.agrees.carousel) in
-    let new = known c.write_bytes.new.writer in
-    rw p.1 (WritesFront-after (flat_map put_line s.carousel.objects)
-    (period_line s.carousel.period) first mid new lines
-    (subst (λ l. WritesFront l mid new) text c.in_err-write_bytes.ensures.written))
+    Writes-after ended (flat_map put_line s.carousel.objects) (period_line s.carousel.period) first mid new lines
+    (prints-writes ended (period_line s.carousel.period) mid new
+    (subst (λ l. Prints (fault_of ended) l mid new) text c.write_last.ensures))
 
-pub returns-in-Ok-clause-written : goal.returns-in-Ok-clause-written
-returns-in-Ok-clause-written g c = λ s holds honest.
-    let known = g.W.Write.contents in
-    let old = c.args.repository.now in
-    let is = c.loop-place.invariant in
-    let first = known c.args.writer.now in
-    let mid = known c.loop-place.writer in
-    let count = c.len-place-end.ensures
-    ∙ ap (λ (k : Carousel). vec_len k.objects) c.carousel.ensures.value
-    ∙ old.view.carousel.objects.ok.0 in
-    let end = c.loop-place-test.false in
-    let all = all_objects old.view s holds.agrees c.loop-place.place (omega (arith, count, end)) in
-    let lines = subst (λ l. Appends first mid (flat_map put_line l)) all
-    (is.written s holds honest) in
-    let text : c.as_slice.result.now ≡ period_line s.carousel.period = c.as_slice.ensures.value
-    ∙ c.period_text.ensures
-    ∙ ap (λ (k : Carousel). period_line k.period) c.carousel-2.ensures.value
-    ∙ ap (λ (v : RepositoryView). period_line v.carousel.period) is.view
-    ∙ sym (ap (λ (k : whole.Carousel). period_line k.period) holds.agrees.carousel) in
-    let last = subst (Appends mid (known c.write_bytes.new.writer)) text
-    c.in_ok-write_bytes.ensures.written in
-    Appends-kept _ _ _ _ (Appends-trans _ _ _ _ _ lines last) c.in-Ok.ensures.bytes
-
-pub returns-in-Err-clause-written : goal.returns-in-Err-clause-written
-returns-in-Err-clause-written g c = λ s holds honest.
-    let known = g.W.Write.contents in
-    let old = c.args.repository.now in
-    let is = c.loop-place.invariant in
-    let first = known c.args.writer.now in
-    let mid = known c.loop-place.writer in
-    let count = c.len-place-end.ensures
-    ∙ ap (λ (k : Carousel). vec_len k.objects) c.carousel.ensures.value
-    ∙ old.view.carousel.objects.ok.0 in
-    let end = c.loop-place-test.false in
-    let all = all_objects old.view s holds.agrees c.loop-place.place (omega (arith, count, end)) in
-    let lines = subst (λ l. Appends first mid (flat_map put_line l)) all
-    (is.written s holds honest) in
-    let text : c.as_slice.result.now ≡ period_line s.carousel.period = c.as_slice.ensures.value
-    ∙ c.period_text.ensures
-    ∙ ap (λ (k : Carousel). period_line k.period) c.carousel-2.ensures.value
-    ∙ ap (λ (v : RepositoryView). period_line v.carousel.period) is.view
-    ∙ sym (ap (λ (k : whole.Carousel). period_line k.period) holds.agrees.carousel) in
-    let last = subst (Appends mid (known c.write_bytes.new.writer)) text
-    c.in_ok-write_bytes.ensures.written in
-    WritesFront-all (export_text s.carousel) first (known c.flush.new.self)
-    (Appends-kept _ _ _ _ (Appends-trans _ _ _ _ _ lines last) c.in-Err.ensures.bytes)
+pub returns-clause-fault : goal.returns-clause-fault
+returns-clause-fault g c =
+    prints-faults c.write_last.result _ _ _ _ _ c.loop-place.invariant.calm c.write_last.ensures
 
 pub returns-in_err-write_object-clause-fault : goal.returns-in_err-write_object-clause-fault
 returns-in_err-write_object-clause-fault g c =

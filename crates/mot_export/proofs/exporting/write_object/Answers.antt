@@ -1,7 +1,7 @@
 use Rattle.std.proofs.Common.{◌<◌, subst}
 use Rattle.std.proofs.lemmas.Result.{err_from_is_err_and}
 use Rattle.mot_objects.specs.Stands.{object_of}
-use Rattle.mot_export.proofs.Printed.{ends-line, kept_at, object_is, stops-in_body, stops-in_words}
+use Rattle.mot_export.proofs.Printed.{ends-line, kept_at, object_is, prints-faults, prints-writes, stops-in_body, stops-in_words}
 use Rattle.mot_export.proofs.exporting.write_object.Goals as goal
 use Rattle.mot_repository.specs.Repository.{object_body}
 
@@ -17,8 +17,8 @@ returns-in_err-write_bytes-clause-written g c = λ s o holds honest at.
     let same = object_is view s holds.agrees c.args.place x o within is at in
     rw p.1 (stops-in_words (object_of x (object_body s.carousel.objects c.args.place)) o same
     (known c.args.writer.now) (known c.write_bytes.new.writer) c.as_slice.result.now
-    c.put_text.result.items c.as_slice.ensures.value c.put_text.ensures
-    c.in_err-write_bytes.ensures.written)
+    c.put_text-words.result.items c.as_slice.ensures.value c.put_text-words.ensures
+    c.in_err-write_bytes.ensures.1)
 
 pub returns-in_err-write_body-clause-written : goal.returns-in_err-write_body-clause-written
 returns-in_err-write_body-clause-written g c = λ s o holds honest at.
@@ -33,8 +33,8 @@ returns-in_err-write_body-clause-written g c = λ s o holds honest at.
     let same = object_is view s holds.agrees c.args.place x o within is at in
     rw p.1 (stops-in_body (object_of x (object_body s.carousel.objects c.args.place)) o same
     (known c.args.writer.now) (known c.write_bytes.new.writer) (known c.write_body.new.writer)
-    c.as_slice.result.now c.put_text.result.items c.as_slice.ensures.value c.put_text.ensures
-    c.in_ok-write_bytes.ensures.written
+    c.as_slice.result.now c.put_text-words.result.items c.as_slice.ensures.value c.put_text-words.ensures
+    c.in_ok-write_bytes.ensures
     (c.in_err-write_body.ensures.written s holds honest))
 
 pub returns-clause-written : goal.returns-clause-written
@@ -49,6 +49,9 @@ returns-clause-written g c = λ s o holds honest at.
     ends-line (object_of x (object_body s.carousel.objects c.args.place)) o same
     c.write_bytes-2.result (known c.args.writer.now) (known c.write_bytes.new.writer)
     (known c.write_body.new.writer) (known c.write_bytes-2.new.writer) c.as_slice.result.now
-    c.put_text.result.items c.as_slice.ensures.value c.put_text.ensures
-    c.in_ok-write_bytes.ensures.written (c.in_ok-write_body.ensures.written s holds honest)
-    c.write_bytes-2.ensures.written
+    c.put_text-words.result.items c.as_slice.ensures.value c.put_text-words.ensures
+    c.in_ok-write_bytes.ensures (c.in_ok-write_body.ensures.written s holds honest)
+    (prints-writes c.write_bytes-2.result _ _ _ c.write_bytes-2.ensures)
+
+pub returns-clause-fault : goal.returns-clause-fault
+returns-clause-fault g c = prints-faults c.write_bytes-2.result _ _ _ _ _ c.in_ok-write_body.ensures.calm c.write_bytes-2.ensures

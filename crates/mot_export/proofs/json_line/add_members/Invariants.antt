@@ -1,7 +1,6 @@
 use Rattle.std.proofs.Common.{◌≡◌, ◌++◌, take}
 use Rattle.std.specs.List.{flat_map}
-use Rattle.mot_export.specs.Json.{members_of}
-use Rattle.mot_export.specs.Inner.Tokens.{member_tokens}
+use Rattle.mot_export.specs.Json.{member_tokens, members_of}
 use Rattle.mot_export.proofs.json_line.add_members.Given as goal
 
 -- the members so far
