@@ -9,63 +9,86 @@ use mot_numbers::Refusal;
 use std::alloc::AllocError;
 use std::fmt::{self, Display, Formatter};
 use std::io;
+use thiserror::Error;
 
 /// Why packets could not be written, or what should take them not be opened.
-#[derive(Clone, Copy)]
+#[derive(Clone, Copy, Debug, Error)]
 pub enum PacketsFault {
     /// The system refused a call, for this reason.
+    #[error("{}", OpenFault::System(*.0))]
     System(io::Error),
     /// Another program writes it.
+    #[error("in use by another program")]
     InUse,
     /// It is the disk.
+    #[error("the disk itself")]
     IsDisk,
     /// It is a file that the disk has beside it, or would be one.
+    #[error("the name of a file of the disk")]
     IsOfDisk,
     /// It is a link, or no regular file.
+    #[error("a link, or not a regular file")]
     NoFile,
     /// The file beside it, which is written first, is a link, or no regular file.
+    #[error("the .new file beside it is a link, or not a regular file")]
     NoNewFile,
     /// A write took less than a packet.
+    #[error("a packet was cut")]
     Cut,
     /// No turn is asked for, and the file would be empty.
+    #[error("no turns to write")]
     NoTurns,
     /// Nothing is there, and no number of turns is given, with which a file is made.
+    #[error("no pipe is there; a file is written with --turns")]
     NoPipe,
     /// It is a regular file, and no number of turns is given.
+    #[error("a regular file, which is written with --turns")]
     EndlessFile,
     /// It is a terminal.
+    #[error("a terminal")]
     Terminal,
     /// It is a block device.
+    #[error("a block device, which takes no packets")]
     BlockDevice,
 }
 
 /// What is wrong with a file that adds suffixes.
-#[derive(Clone, Copy)]
+#[derive(Clone, Copy, Debug, Error)]
 pub enum TypesFault {
     /// The system refused a call, for this reason.
+    #[error("{}", OpenFault::System(*.0))]
     System(io::Error),
     /// It is no regular file.
+    #[error("not a regular file")]
     NoFile,
     /// It has more than 65,536 bytes.
+    #[error("longer than 65,536 bytes")]
     Long,
     /// The line of this number, from 1 on, does not have the form.
+    #[error("line {0} is no SUFFIX TYPE SUBTYPE MIME")]
     Line(usize),
 }
 
 /// What is wrong with the folder that lines come from.
-#[derive(Clone, Copy)]
+#[derive(Clone, Copy, Debug, Error)]
 pub enum LinesFault {
     /// The system refused a call, for this reason.
+    #[error("{}", OpenFault::System(*.0))]
     System(io::Error),
     /// It is not a folder.
+    #[error("not a folder")]
     NoFolder,
     /// It is the folder that the carousel is made equal to.
+    #[error("the folder of the objects")]
     HasObjects,
     /// The disk stands in it.
+    #[error("the folder of the disk")]
     HasDisk,
     /// PACKETS stands in it, or would.
+    #[error("the folder of the packets")]
     HasPackets,
     /// The file that adds suffixes stands in it.
+    #[error("the folder of the file of suffixes")]
     HasTypes,
 }
 
@@ -212,53 +235,6 @@ impl Display for NewDiskFault {
                     "the bodies need {length} bytes, and the copy would have {room}"
                 )
             }
-        }
-    }
-}
-
-impl Display for PacketsFault {
-    fn fmt<W: fmt::Write>(&self, f: &mut Formatter<W>) -> fmt::Result {
-        match self {
-            PacketsFault::System(error) => OpenFault::System(*error).fmt(f),
-            PacketsFault::InUse => f.pad("in use by another program"),
-            PacketsFault::IsDisk => f.pad("the disk itself"),
-            PacketsFault::IsOfDisk => f.pad("the name of a file of the disk"),
-            PacketsFault::NoFile => f.pad("a link, or not a regular file"),
-            PacketsFault::NoNewFile => {
-                f.pad("the .new file beside it is a link, or not a regular file")
-            }
-            PacketsFault::Cut => f.pad("a packet was cut"),
-            PacketsFault::NoTurns => f.pad("no turns to write"),
-            PacketsFault::NoPipe => f.pad("no pipe is there; a file is written with --turns"),
-            PacketsFault::EndlessFile => f.pad("a regular file, which is written with --turns"),
-            PacketsFault::Terminal => f.pad("a terminal"),
-            PacketsFault::BlockDevice => f.pad("a block device, which takes no packets"),
-        }
-    }
-}
-
-impl Display for TypesFault {
-    fn fmt<W: fmt::Write>(&self, f: &mut Formatter<W>) -> fmt::Result {
-        match self {
-            TypesFault::System(error) => OpenFault::System(*error).fmt(f),
-            TypesFault::NoFile => f.pad("not a regular file"),
-            TypesFault::Long => f.pad("longer than 65,536 bytes"),
-            TypesFault::Line(number) => {
-                write!(f, "line {number} is no SUFFIX TYPE SUBTYPE MIME")
-            }
-        }
-    }
-}
-
-impl Display for LinesFault {
-    fn fmt<W: fmt::Write>(&self, f: &mut Formatter<W>) -> fmt::Result {
-        match self {
-            LinesFault::System(error) => OpenFault::System(*error).fmt(f),
-            LinesFault::NoFolder => f.pad("not a folder"),
-            LinesFault::HasObjects => f.pad("the folder of the objects"),
-            LinesFault::HasDisk => f.pad("the folder of the disk"),
-            LinesFault::HasPackets => f.pad("the folder of the packets"),
-            LinesFault::HasTypes => f.pad("the folder of the file of suffixes"),
         }
     }
 }

@@ -60,21 +60,18 @@ abbrev pub note_words : List ℕ → List ℕ
 note_words name = codes "note " ++ shown_name name ++ codes " "
 
 -- the name of an image type, or that there is none
-abbrev pub image_word : ImageType → List ℕ
-image_word Gif = codes "GIF"
-image_word Jpeg = codes "JPEG"
-image_word Bmp = codes "BMP"
-image_word Png = codes "PNG"
-
-abbrev pub some_image_word : Option ImageType → List ℕ
-some_image_word None = codes "unknown"
-some_image_word (Some image) = image_word image
+abbrev pub image_word : Option ImageType → List ℕ
+image_word None = codes "unknown"
+image_word (Some Gif) = codes "GIF"
+image_word (Some Jpeg) = codes "JPEG"
+image_word (Some Bmp) = codes "BMP"
+image_word (Some Png) = codes "PNG"
 
 -- which image type an object is by its suffix, and which by its first bytes
 abbrev pub image_words : OtherImage → List ℕ
 image_words other =
-    image_word other.by_suffix ++ codes " by its suffix, "
-    ++ some_image_word other.by_bytes ++ codes " by its bytes"
+    image_word (Some other.by_suffix) ++ codes " by its suffix, "
+    ++ image_word other.by_bytes ++ codes " by its bytes"
 
 -- what a look met of a name
 abbrev pub result_text : List ℕ → LookResult → List ℕ

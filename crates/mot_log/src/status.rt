@@ -279,7 +279,7 @@ fn has_alike(
     shown: &[u8],
 ) -> Result<bool, AllocError> {
     for event in events {
-        if is_of_step(step, &event.outcome) {
+        if matches!(event.outcome, LookResult::Refused(other, _, _) if other == step) {
             let mut other = Vec::new(alloc);
             add_name(&mut other, event.name.as_bytes())?;
             if shown == other.as_slice() {
@@ -288,14 +288,6 @@ fn has_alike(
         }
     }
     Ok(false)
-}
-
-/// Whether it is a refusal of this step.
-fn is_of_step(step: LookStep, outcome: &LookResult) -> bool {
-    match outcome {
-        LookResult::Refused(other, _, _) => step.word().as_bytes() == other.word().as_bytes(),
-        _ => false,
-    }
 }
 
 /// Adds a sample for each of these objects: its name, its id, its version, and the length of its

@@ -3,7 +3,7 @@ ghost use Rattle.std.specs.Prelude.{◌≡◌, ◌++◌, OnOk, map, codes};
 ghost use Rattle.std.specs.Fmt.{decimal};
 ghost use Rattle.mot_log.specs.Shown.{ascii_byte, shown_name};
 ghost use Rattle.mot_log.specs.Text.{step_words, done_words, look_line, result_text, note_words};
-ghost use Rattle.mot_log.specs.Text.{image_word, image_words, some_image_word};
+ghost use Rattle.mot_log.specs.Text.{image_word, image_words};
 ghost use Rattle.mot_log.specs.Text.{reason_words, refusal_words, refused_words, why_words};
 ghost use Rattle.mot_lines.specs.Text.{taken_words};
 ghost use Rattle.mot_suffixes.specs.Shown.{shown};
@@ -34,12 +34,13 @@ pub(crate) fn add_text(text: &mut Vec<u8>, event: &Event<'_>) -> Result<(), Allo
         Event::Answered(file, number, verb, subject, reply) => {
             add_around(text, "lines ", file, ":")?;
             add_count(text, "", *number, " ")?;
-            add_verb(text, *verb)?;
-            add_subject(text, subject)?;
+            add_request(text, *verb, subject)?;
             add_reply(text, reply)
         }
         Event::Began(version, disk, objects, packets) => {
-            add_program(text, version, disk)?;
+            add(text, "play: motcar ")?;
+            add(text, version)?;
+            add_around(text, ", ", disk, ", ")?;
             add_sizes(text, *objects, *packets)
         }
         Event::Ended(turns, packets) => {
@@ -127,45 +128,31 @@ fn add_part(text: &mut Vec<u8>, part: u64, all: u64, back: &str) -> Result<(), A
 fn add_images(text: &mut Vec<u8>, other: OtherImage) -> Result<(), AllocError>
     ensures { OnOk result (text.new.items ≡ text.old.items ++ image_words other) }
 {
-    add_image(text, other.by_suffix)?;
+    add_image(text, Some(other.by_suffix))?;
     add(text, " by its suffix, ")?;
-    add_some_image(text, other.by_bytes)?;
+    add_image(text, other.by_bytes)?;
     add(text, " by its bytes")
 }
 
-/// Adds the word for an image type that there may be.
-fn add_some_image(text: &mut Vec<u8>, image: Option<ImageType>) -> Result<(), AllocError>
-    ensures { OnOk result (text.new.items ≡ text.old.items ++ some_image_word image) }
+/// Adds the word for an image type, if it is known.
+fn add_image(text: &mut Vec<u8>, image: Option<ImageType>) -> Result<(), AllocError>
+    ensures { OnOk result (text.new.items ≡ text.old.items ++ image_word image) }
 {
     match image {
-        Some(image) => add_image(text, image),
+        Some(ImageType::Gif) => add(text, "GIF"),
+        Some(ImageType::Jpeg) => add(text, "JPEG"),
+        Some(ImageType::Bmp) => add(text, "BMP"),
+        Some(ImageType::Png) => add(text, "PNG"),
         None => add(text, "unknown"),
     }
 }
 
-/// Adds the word for an image type.
-fn add_image(text: &mut Vec<u8>, image: ImageType) -> Result<(), AllocError>
-    ensures { OnOk result (text.new.items ≡ text.old.items ++ image_word image) }
-{
-    match image {
-        ImageType::Gif => add(text, "GIF"),
-        ImageType::Jpeg => add(text, "JPEG"),
-        ImageType::Bmp => add(text, "BMP"),
-        ImageType::Png => add(text, "PNG"),
+/// Adds the first word of a line, if it is a command, and what it is about, if that is said.
+fn add_request(text: &mut Vec<u8>, verb: Option<Verb>, subject: &[u8]) -> Result<(), AllocError> {
+    if let Some(verb) = verb {
+        add(text, verb.word())?;
+        add(text, " ")?;
     }
-}
-
-/// Adds the first word of a line, if it is a command.
-fn add_verb(text: &mut Vec<u8>, verb: Option<Verb>) -> Result<(), AllocError> {
-    let Some(verb) = verb else {
-        return Ok(());
-    };
-    add(text, verb.word())?;
-    add(text, " ")
-}
-
-/// Adds what a command is about, if that is said.
-fn add_subject(text: &mut Vec<u8>, subject: &[u8]) -> Result<(), AllocError> {
     if subject.is_empty() {
         return Ok(());
     }
@@ -181,27 +168,12 @@ fn add_reply(text: &mut Vec<u8>, reply: &Reply<'_>) -> Result<(), AllocError> {
     }
 }
 
-/// Adds which program plays which disk.
-fn add_program(text: &mut Vec<u8>, version: &str, disk: &[u8]) -> Result<(), AllocError> {
-    add(text, "play: motcar ")?;
-    add(text, version)?;
-    add_around(text, ", ", disk, ", ")
-}
-
-/// Adds how many objects a disk has, and how many packets a turn.
+/// Adds how many objects a disk has, and how many packets a turn, or that there was no memory to
+/// count them.
 fn add_sizes(text: &mut Vec<u8>, objects: u64, packets: Option<u64>) -> Result<(), AllocError> {
-    add_number(text, objects)?;
-    add(text, " objects, ")?;
-    add_turn(text, packets)
-}
-
-/// Adds how many packets a turn has, or that there was no memory to count them.
-fn add_turn(text: &mut Vec<u8>, packets: Option<u64>) -> Result<(), AllocError> {
+    add_count(text, "", objects, " objects, ")?;
     match packets {
-        Some(packets) => {
-            add_number(text, packets)?;
-            add(text, " packets a turn")
-        }
+        Some(packets) => add_count(text, "", packets, " packets a turn"),
         None => {
             add(text, "a turn not measured: ")?;
             add_refusal(text, Refusal::OutOfMemory)
