@@ -1,40 +1,31 @@
 //! What a block device is used for.
 use crate::short_name::ShortName;
 use crate::signature::Signature;
-use std::fmt::{self, Display, Formatter};
 use std::io;
+use thiserror::Error;
 
 /// What a block device is used for, or why that can't be told.
-#[derive(Clone, Copy)]
+#[derive(Clone, Copy, Debug, Error)]
 pub enum DeviceUse {
     /// It, or a partition of it, is mounted here.
+    #[error("it, or a partition of it, is mounted at {0}")]
     MountedAt(ShortName),
     /// It, or a partition of it, is a swap that is used.
+    #[error("it, or a partition of it, is swap space")]
     Swap,
     /// This device stands on it.
+    #[error("the device {0} stands on it")]
     HeldBy(ShortName),
     /// Its first bytes have this signature.
+    #[error("{0}")]
     HasSignature(Signature),
     /// The system does not say what is mounted, for this reason.
+    #[error("/proc/self/mountinfo does not say what is mounted")]
     Unknown(io::Error),
     /// It can't be looked at or read, for this reason.
+    #[error("{0}")]
     Unseen(io::Error),
     /// It is no device, but the name of a file of a disk.
+    #[error("the name of a file of another disk")]
     OfDisk,
-}
-
-impl Display for DeviceUse {
-    fn fmt<W: fmt::Write>(&self, f: &mut Formatter<W>) -> fmt::Result {
-        match self {
-            DeviceUse::MountedAt(place) => {
-                write!(f, "it, or a partition of it, is mounted at {place}")
-            }
-            DeviceUse::Swap => f.pad("it, or a partition of it, is swap space"),
-            DeviceUse::HeldBy(device) => write!(f, "the device {device} stands on it"),
-            DeviceUse::HasSignature(signature) => signature.fmt(f),
-            DeviceUse::Unknown(_) => f.pad("/proc/self/mountinfo does not say what is mounted"),
-            DeviceUse::Unseen(error) => error.fmt(f),
-            DeviceUse::OfDisk => f.pad("the name of a file of another disk"),
-        }
-    }
 }

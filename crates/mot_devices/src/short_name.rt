@@ -9,7 +9,7 @@ use std::str::from_utf8;
 pub const LONGEST: usize = 255;
 
 /// The first bytes of a name.
-#[derive(Clone, Copy)]
+#[derive(Clone, Copy, Debug)]
 pub struct ShortName {
     bytes: [u8; LONGEST],
     len: usize,

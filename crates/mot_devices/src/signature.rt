@@ -4,32 +4,43 @@ ghost use Rattle.std.specs.Prelude.{length};
 ghost use Rattle.mot_devices.specs.Signatures.{bytes_of, has_at, signature_among, signature_in};
 ghost use Rattle.mot_devices.specs.Signatures.{start_of};
 
-use std::fmt::{self, Display, Formatter};
+use thiserror::Error;
 
 /// What the first bytes of a device say that it has.
-#[derive(Clone, Copy, PartialEq, Eq)]
+#[derive(Clone, Copy, Debug, PartialEq, Eq, Error)]
 pub enum Signature {
     /// A file system ext2, ext3 or ext4.
+    #[error("it has a file system (ext2, ext3 or ext4)")]
     Ext,
     /// A file system XFS.
+    #[error("it has a file system (XFS)")]
     Xfs,
     /// A file system btrfs.
+    #[error("it has a file system (btrfs)")]
     Btrfs,
     /// A swap.
+    #[error("it is a swap")]
     Swap,
     /// An encrypted volume.
+    #[error("it is an encrypted volume (LUKS)")]
     Luks,
     /// A physical volume of LVM.
+    #[error("it is a physical volume of LVM")]
     Lvm,
     /// A member of a RAID.
+    #[error("it is a member of a RAID")]
     Raid,
     /// A file system squashfs.
+    #[error("it has a file system (squashfs)")]
     Squashfs,
     /// A file system ISO 9660.
+    #[error("it has a file system (ISO 9660)")]
     Iso9660,
     /// A partition table GPT.
+    #[error("it has a partition table (GPT)")]
     Gpt,
     /// A partition table MBR, or a file system FAT or NTFS.
+    #[error("it has a partition table or a file system (MBR, FAT or NTFS)")]
     BootSector,
 }
 
@@ -71,24 +82,6 @@ impl Signature {
             Signature::Gpt => (512, b"EFI PART"),
             Signature::BootSector => (510, b"\x55\xaa"),
         }
-    }
-}
-
-impl Display for Signature {
-    fn fmt<W: fmt::Write>(&self, f: &mut Formatter<W>) -> fmt::Result {
-        f.pad(match self {
-            Signature::Ext => "it has a file system (ext2, ext3 or ext4)",
-            Signature::Xfs => "it has a file system (XFS)",
-            Signature::Btrfs => "it has a file system (btrfs)",
-            Signature::Swap => "it is a swap",
-            Signature::Luks => "it is an encrypted volume (LUKS)",
-            Signature::Lvm => "it is a physical volume of LVM",
-            Signature::Raid => "it is a member of a RAID",
-            Signature::Squashfs => "it has a file system (squashfs)",
-            Signature::Iso9660 => "it has a file system (ISO 9660)",
-            Signature::Gpt => "it has a partition table (GPT)",
-            Signature::BootSector => "it has a partition table or a file system (MBR, FAT or NTFS)",
-        })
     }
 }
 

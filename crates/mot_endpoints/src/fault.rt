@@ -7,7 +7,6 @@ use mot_devices::DeviceUse;
 use mot_files::Fault;
 use mot_numbers::Refusal;
 use std::alloc::AllocError;
-use std::fmt::{self, Display, Formatter};
 use std::io;
 use thiserror::Error;
 
@@ -93,13 +92,16 @@ pub enum LinesFault {
 }
 
 /// What is wrong with the file that a copy of the disk is made of, or with its sizes.
-#[derive(Clone, Copy)]
+#[derive(Clone, Copy, Debug, Error)]
 pub enum NewDiskFault {
     /// It was not opened or made, or the system refused a call on it.
+    #[error("{0}")]
     Disk(OpenFault),
     /// It is a device in use.
+    #[error("{0}")]
     Device(DeviceUse),
     /// The disk has more objects than that.
+    #[error("the disk has {count} objects, and the copy would take {most}")]
     Objects {
         /// So many.
         count: usize,
@@ -107,6 +109,7 @@ pub enum NewDiskFault {
         most: u16,
     },
     /// The bodies need more bytes than that.
+    #[error("the bodies need {length} bytes, and the copy would have {room}")]
     Bodies {
         /// So many.
         length: u64,
@@ -116,23 +119,31 @@ pub enum NewDiskFault {
 }
 
 /// Why a task could not be done: it is printed, and nothing is decided by it.
-#[derive(Clone, Copy)]
+#[derive(Clone, Copy, Debug, Error)]
 pub enum Cause {
     /// The disk was not opened.
+    #[error("{0}")]
     Disk(OpenFault),
     /// The copy of the disk can't be made.
+    #[error("{0}")]
     NewDisk(NewDiskFault),
     /// The disk is a device in use.
+    #[error("{0}")]
     Device(DeviceUse),
     /// The file that adds suffixes was not read, or a line of it is wrong.
+    #[error("{0}")]
     Types(TypesFault),
     /// The folder of objects was not opened at the last look.
+    #[error("{}", OpenFault::System(*.0))]
     Folder(io::Error),
     /// Lines can't come from the folder.
+    #[error("{0}")]
     Lines(LinesFault),
     /// PACKETS was not opened, or did not take the packets.
+    #[error("{0}")]
     Packets(PacketsFault),
     /// The new file beside it was not written, or could not take its place.
+    #[error("{0}")]
     NewFile(PacketsFault),
 }
 
@@ -201,41 +212,6 @@ impl From<PacketsFault> for Cause {
 
     fn from(fault: PacketsFault) -> Cause {
         Cause::Packets(fault)
-    }
-}
-
-impl Display for Cause {
-    fn fmt<W: fmt::Write>(&self, f: &mut Formatter<W>) -> fmt::Result {
-        match self {
-            Cause::Disk(fault) => fault.fmt(f),
-            Cause::NewDisk(fault) => fault.fmt(f),
-            Cause::Device(found) => found.fmt(f),
-            Cause::Types(fault) => fault.fmt(f),
-            Cause::Folder(error) => OpenFault::System(*error).fmt(f),
-            Cause::Lines(fault) => fault.fmt(f),
-            Cause::Packets(fault) | Cause::NewFile(fault) => fault.fmt(f),
-        }
-    }
-}
-
-impl Display for NewDiskFault {
-    fn fmt<W: fmt::Write>(&self, f: &mut Formatter<W>) -> fmt::Result {
-        match self {
-            NewDiskFault::Disk(fault) => fault.fmt(f),
-            NewDiskFault::Device(found) => found.fmt(f),
-            NewDiskFault::Objects { count, most } => {
-                write!(
-                    f,
-                    "the disk has {count} objects, and the copy would take {most}"
-                )
-            }
-            NewDiskFault::Bodies { length, room } => {
-                write!(
-                    f,
-                    "the bodies need {length} bytes, and the copy would have {room}"
-                )
-            }
-        }
     }
 }
 

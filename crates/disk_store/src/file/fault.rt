@@ -6,7 +6,7 @@ use std::fmt::{self, Display, Formatter, Write};
 use std::io::{self, ErrorKind};
 
 /// Why a file was not opened or made as a disk.
-#[derive(Clone, Copy)]
+#[derive(Clone, Copy, Debug)]
 pub enum OpenFault {
     /// The system refused a call, for this reason.
     System(io::Error),
