@@ -1,7 +1,7 @@
 -- What one call more does to a disk in memory to work on.
 use Rattle.std.proofs.Common.{◌≡◌, ◌<◌, ◌∙◌, ap, subst, sym, length, OnOk, Result, Ok}
 use Rattle.std.specs.List.{All}
-use Rattle.disk_store.specs.Ram.{ram_content}
+use Rattle.disk_store.specs.File.{ram_content}
 use Rattle.disk_store.specs.declared.memory.ram.RamDisk.{RamDisk}
 use Rattle.disk_store.proofs.FileCalls.{IsWhole}
 

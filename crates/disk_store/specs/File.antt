@@ -1,6 +1,7 @@
 -- A file as a disk.
 use Rattle.std.specs.declared.io.Error.{Error}
-use Rattle.std.specs.Prelude.{◌≡◌, ◌⊎◌, Bool, List, Option, IsTrue, IsFalse, IsSome, IsOk, IsErr, Result}
+use Rattle.std.specs.Prelude.{◌≡◌, ◌⊎◌, Bool, List, Option, IsTrue, IsFalse, IsSome, IsOk, IsErr}
+use Rattle.std.specs.Prelude.{Result, []}
 use Rattle.disk_model.specs.Failures.{most_failures}
 use Rattle.disk_model.specs.declared.disk.DiskFault.{DiskFault}
 use Rattle.disk_model.specs.Disk.{State}
@@ -9,6 +10,7 @@ use Rattle.disk_store.specs.Calls.{Call, after_call, content_after, no_content, 
 use Rattle.disk_store.specs.declared.file.start.Start.{Ghosts}
 use Rattle.disk_store.specs.declared.file.FileDiskFrom.{FileDiskFrom}
 use Rattle.disk_store.specs.declared.file.system.HeldFile.{HeldFile}
+use Rattle.disk_store.specs.declared.memory.ram.RamDisk.{RamDisk}
 
 -- the calls on a file that is held, with their answers
 abbrev pub held_calls : {F : Type 0} → HeldFile F → List Call
@@ -59,3 +61,18 @@ module _ {S F : Type 0} {start : Ghosts S F} where
         ⊎ ((calls_on new ≡ calls_on old)
         × (HasFailedSync old ⊎ (old.failures ≡ most_failures)))
     pub none : IsOk result → fault_on new ≡ fault_on old
+
+-- A disk in memory to work on, whose calls never fail.
+
+-- the writes and syncs so far, from those that made it
+abbrev pub calls_in : RamDisk → List Call
+calls_in ram = ram.history.calls
+
+-- its bytes, which of them are loose, and the bytes at the last sync
+abbrev pub ram_content : RamDisk → Content
+ram_content ram = content_after [] (calls_in ram)
+
+-- all that contracts know of it as a disk: it is honest, and has not failed
+abbrev pub ram_state : RamDisk → State
+ram_state ram = replayed_state (after_call []) no_content (calls_in ram) (ram_content ram)
+    (Unit {0}) 0 ram.calls.number

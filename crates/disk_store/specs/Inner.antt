@@ -1,5 +1,4 @@
 -- What only private contracts, and the proof that each disk keeps the model, need.
-pub mod FirstFault
 pub mod Log
 pub mod MemorySound
 pub mod Noting

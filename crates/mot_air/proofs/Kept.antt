@@ -1,7 +1,6 @@
 -- Playing goes on from what was done in the lives before.
-use Rattle.std.proofs.Common.{◌≡◌, ℕ, false, List, [], ◌++◌, append_assoc}
-use Rattle.std.proofs.Common.{ap, append-nil, arith, refl, subst, sym, take}
-use Rattle.std.proofs.Common.{◌⊎◌, Option, None, inl, inr}
+use Rattle.std.proofs.Common.{◌≡◌, ℕ, false, List, [], ◌++◌, append_assoc, ap, append-nil, arith}
+use Rattle.std.proofs.Common.{refl, subst, sym, take, ◌⊎◌, Option, None, inl, inr}
 use Rattle.std.specs.Prelude.{IsFalse, IsSomeAnd}
 use Rattle.std.specs.Option.{option_map_or}
 use Rattle.disk_model.specs.Disk.{IsHonestDisk, OnlySyncs, State}
@@ -18,13 +17,12 @@ use Rattle.mot_numbers.specs.declared.geometry.Geometry.{Geometry}
 use Rattle.mot_numbers.specs.declared.refusal.Refusal.{Refusal}
 use Rattle.mot_objects.specs.declared.command.Command.{Command}
 use Rattle.mot_update.specs.Opening.{IsUnopened}
-use Rattle.mot_update.proofs.Laws.{all_hold}
+use Rattle.mot_update.proofs.Laws.{all_hold, not_none}
 use Rattle.mot_repository.specs.Opening.{IsOpened}
 use Rattle.mot_playout.specs.Lives.{HasDone}
-use Rattle.mot_playout.specs.Server.{ServerView}
-use Rattle.mot_playout.specs.Runs.{IsAfter, StandsAfterSome, accepted_commands, commands_in_flight}
+use Rattle.mot_playout.specs.Runs.{ServerView, IsAfter, StandsAfterSome, accepted_commands}
+use Rattle.mot_playout.specs.Runs.{commands_in_flight}
 use Rattle.mot_playout.proofs.Laws.{after_both, none_of}
-use Rattle.mot_update.proofs.Laws.{not_none}
 
 -- more that was done before
 behind : (s mid : Standing) (done sure others : List Command) (image : List ℕ)

@@ -7,31 +7,26 @@ use Rattle.std.proofs.lemmas.Bool.Decides.{nat_tests}
 use Rattle.disk_model.proofs.Laws.{keeps_on}
 use Rattle.disk_model.specs.Disk.{State, IsHonestDisk, KeepsLength, OnlySyncs}
 use Rattle.mot_air.specs.Playing.{HasAired, IsServed, Plays, Tale, each_packet, look_of_feed}
-use Rattle.mot_air.specs.Playing.{is_endless, place_at_start}
+use Rattle.mot_air.specs.Playing.{is_endless, place_at_start, tale_of}
 use Rattle.mot_feed.specs.declared.manner.Manner.{Manner}
-use Rattle.mot_air.specs.Playing.{tale_of}
 use Rattle.mot_air.specs.Commands.{PlaysInto, Sends}
 use Rattle.mot_endpoints.specs.declared.packets.Destination.{Destination}
 use Rattle.mot_files.specs.Call.{Call}
 use Rattle.mot_files.specs.declared.system.Handle.{Handle}
-use Rattle.mot_update.proofs.Laws.{ends_off, opened_leaves}
+use Rattle.mot_update.proofs.Laws.{ends_off, opened_leaves, AllAre, all_hold, openable}
 use Rattle.mot_endpoints.specs.declared.packets.Target.{Target}
-use Rattle.mot_feed.specs.Feeding.{AreOf, AreTold, Event, Happen, HasFed, IsFeedFault}
-use Rattle.mot_feed.specs.Feeding.{RulesAreKept, Stage}
-use Rattle.mot_feed.specs.Feeding.{fault_at}
+use Rattle.mot_feed.specs.Feeding.{AreOf, AreTold, Event, Happen, HasFed, IsFeedFault, RulesAreKept}
+use Rattle.mot_feed.specs.Feeding.{Stage, fault_at}
 use Rattle.mot_feed.specs.Often.{Feeds, IsOften, follows_in, is_often, server_for}
 use Rattle.mot_journal.specs.Image.{Standing}
-use Rattle.mot_numbers.specs.Geometry.{IsValid, packet_room}
+use Rattle.mot_numbers.specs.Geometry.{IsValid, packet_room, is_valid}
 use Rattle.mot_numbers.specs.declared.geometry.Geometry.{Geometry}
 use Rattle.mot_numbers.specs.declared.refusal.Refusal.{Refusal}
-use Rattle.mot_numbers.specs.Geometry.{is_valid}
-use Rattle.mot_objects.specs.Carousel.{Carousel, IsSound}
-use Rattle.mot_objects.specs.Rules.{AllKeepRules}
+use Rattle.mot_objects.specs.Carousel.{Carousel, IsSound, AllKeepRules}
 use Rattle.mot_objects.specs.declared.command.Command.{Command}
 use Rattle.mot_player.specs.Place.{Place}
 use Rattle.mot_player.specs.Start.{start_place}
 use Rattle.mot_player.specs.Turn.{turn_of_carousel}
-use Rattle.mot_update.proofs.Laws.{AllAre, all_hold, openable}
 use Rattle.mot_feed.proofs.Laws.{changed_turns_read, continuous, happen-apart, listeners_hear}
 use Rattle.mot_feed.proofs.Laws.{nobody_starves, often-front, rules_behind, rules_front}
 use Rattle.mot_feed.proofs.Laws.{rules_of_turn, rules_of_window, turns_read}
@@ -41,8 +36,8 @@ use Rattle.mot_repository.specs.Opening.{IsOpened}
 use Rattle.mot_repository.specs.Repository.{Agrees, Holds}
 use Rattle.mot_playout.proofs.Laws.{valid_is}
 use Rattle.mot_playout.specs.Attempts.{fault_of}
-use Rattle.mot_playout.specs.Server.{ServerView, place_in}
-use Rattle.mot_update.specs.Between.{Telling}
+use Rattle.mot_playout.specs.Runs.{ServerView, place_in}
+use Rattle.mot_update.specs.HasRun.{Telling}
 use Rattle.mot_update.specs.Faults.{StaysCalm}
 use Rattle.mot_update.specs.declared.moment.UpdatePoint.{UpdatePoint}
 

@@ -4,13 +4,11 @@ use Rattle.std.proofs.Common.{refl, subst, sym}
 use Rattle.disk_model.specs.Disk.{State}
 use Rattle.mot_air.specs.Playing.{HasAired, Plays, Tale, look_of_feed, tale_of}
 use Rattle.mot_feed.specs.declared.manner.Manner.{Manner}
-use Rattle.mot_air.specs.Inner.Beside.{SourcesOf, beside, tells_answered}
-use Rattle.mot_air.specs.Inner.Beside.{tells_lines_of, tells_reported}
+use Rattle.mot_air.specs.Inner.Beside.{SourcesOf, beside, tells_answered, tells_lines_of}
+use Rattle.mot_air.specs.Inner.Beside.{tells_reported}
 use Rattle.mot_air.specs.Inner.Fed.{Fed, IsEndOf, disk_of, ending_of}
-use Rattle.mot_air.specs.Telling.{Sources, no_looks, tale_with}
-use Rattle.mot_air.specs.Telling.{tells_alone, tells_lines}
-use Rattle.mot_feed_lines.specs.Answering.{TellsBetween, TellsInTurn, TellsOnTime}
-use Rattle.mot_feed_lines.specs.Answering.{late_behind}
+use Rattle.mot_air.specs.Telling.{Sources, no_looks, tale_with, tells_alone, tells_lines}
+use Rattle.mot_feed_lines.specs.Answering.{TellsBetween, TellsInTurn, TellsOnTime, late_behind}
 use Rattle.mot_feed_lines.specs.Answering.TellsBetween.{other_alone, then_lines}
 use Rattle.mot_feed_lines.specs.declared.lines.Lines.{Lines}
 use Rattle.mot_feed_lines.specs.declared.reported.WatchedUpdate.{WatchedUpdate}
@@ -27,7 +25,7 @@ use Rattle.mot_numbers.specs.declared.refusal.Refusal.{Refusal}
 use Rattle.mot_objects.specs.Carousel.{Carousel}
 use Rattle.mot_objects.specs.declared.command.Command.{Command}
 use Rattle.mot_shelf.specs.View.{FolderView}
-use Rattle.mot_update.specs.Between.{Telling}
+use Rattle.mot_update.specs.HasRun.{Telling}
 use Rattle.mot_update.specs.declared.moment.UpdatePoint.{UpdatePoint}
 
 -- what one update tells another does of what is seen of it, where something stays

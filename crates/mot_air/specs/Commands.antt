@@ -25,7 +25,7 @@ use Rattle.mot_files.specs.Call.{Call}
 use Rattle.mot_files.specs.declared.system.Handle.{Handle}
 use Rattle.mot_line_folder.specs.Spool.{SpoolView}
 use Rattle.mot_shelf.specs.View.{FolderView, folder_at}
-use Rattle.mot_endpoints.specs.Types.{IsTyped, IsUntyped}
+use Rattle.mot_endpoints.specs.Texts.{IsTyped, IsUntyped}
 use Rattle.mot_numbers.specs.declared.refusal.Refusal.{Refusal}
 use Rattle.mot_numbers.specs.declared.refusal.Refusal.TheVariants.{DeviceFault, WriteFault}
 use Rattle.mot_outcome.specs.Outcome.{OnFile}

@@ -6,8 +6,8 @@ use Rattle.disk_model.specs.Disk.{State}
 use Rattle.mot_update.specs.Ending.{EndsBy, Leaves}
 use Rattle.mot_feed.specs.declared.manner.Manner.{Manner}
 use Rattle.mot_feed.specs.Ends.{ServesAll}
-use Rattle.mot_feed.specs.Feeding.{AreOf, AreTold, EndsFeed, Event, Happen, Stage}
-use Rattle.mot_feed.specs.Feeding.{commands_among, fault_at, is_between_turns}
+use Rattle.mot_feed.specs.Feeding.{AreOf, AreTold, EndsFeed, Event, Happen, Stage, commands_among}
+use Rattle.mot_feed.specs.Feeding.{fault_at, is_between_turns}
 use Rattle.mot_feed.specs.Feeding.Stage.{Ready}
 use Rattle.mot_feed.specs.Listening.{HearsFirstChanges, IsHeard, IsHeardInTime, is_quiet}
 use Rattle.mot_feed.specs.Often.{IsOften, follows_in, look_in}
@@ -18,7 +18,7 @@ use Rattle.mot_numbers.specs.Refusal.{is_device_fault}
 use Rattle.mot_numbers.specs.declared.refusal.Refusal.{Refusal}
 use Rattle.mot_objects.specs.Carousel.{Carousel}
 use Rattle.mot_objects.specs.declared.command.Command.{Command}
-use Rattle.mot_packets.specs.Outlet.{Grows}
+use Rattle.mot_packets.specs.Written.{Grows}
 use Rattle.mot_player.specs.Continuity.{IsContinuous}
 use Rattle.mot_player.specs.Place.{Place}
 use Rattle.mot_player.specs.Repeats.{ReadAsTurn, ReadsOnceAs}
@@ -26,7 +26,7 @@ use Rattle.mot_player.specs.Start.{start_place}
 use Rattle.mot_player.specs.Turn.{turn_of_carousel}
 use Rattle.mot_repository.specs.Repository.{IsOf}
 use Rattle.mot_playout.specs.Runs.{IsAfter, accepted_commands}
-use Rattle.mot_update.specs.Between.{Telling}
+use Rattle.mot_update.specs.HasRun.{Telling}
 use Rattle.mot_update.specs.declared.moment.UpdatePoint.{UpdatePoint}
 
 -- it is played without end

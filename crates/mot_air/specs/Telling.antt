@@ -16,7 +16,7 @@ use Rattle.mot_air.specs.declared.playing.FollowedFolder.{FollowedFolder}
 use Rattle.mot_files.specs.Call.{Call}
 use Rattle.mot_outcome.specs.declared.used.TaskCalls.{TaskCalls}
 use Rattle.mot_suffixes.specs.Types.{SuffixType}
-use Rattle.mot_update.specs.Between.{Telling}
+use Rattle.mot_update.specs.HasRun.{Telling}
 use Rattle.mot_update.specs.declared.moment.UpdatePoint.{UpdatePoint}
 
 abbrev pub looks_within : Manner → Bool

@@ -1,6 +1,6 @@
 //! Playing a disk, and making its carousel equal to a folder.
-ghost use Rattle.std.specs.Prelude.{◌≡◌, ◌↔◌, ◌⊎◌, ◌-◌, ℕ, [], IfErr, IsSomeAnd, IsTrue, List, None};
-ghost use Rattle.std.specs.Prelude.{OnOk, Some, false};
+ghost use Rattle.std.specs.Prelude.{◌≡◌, ◌↔◌, ◌⊎◌, ◌-◌, ℕ, [], IfErr, IsSomeAnd, IsTrue, List};
+ghost use Rattle.std.specs.Prelude.{None, OnOk, Some, false};
 ghost use Rattle.mot_air.specs.Lives.{AirsOn, KeepsDone};
 ghost use Rattle.mot_air.specs.Playing.{Plays, each_packet, place_at_start, tale_of};
 ghost use Rattle.mot_air.specs.Telling.{EndsReading, HandsOut, folder_in, lines_at, no_looks};
@@ -8,19 +8,18 @@ ghost use Rattle.mot_air.specs.Telling.{tale_with, watch_in, watched};
 ghost use Rattle.mot_air.specs.Inner.Beside.{SourcesOf, beside, tells_answered, tells_lines_of};
 ghost use Rattle.mot_air.specs.Inner.Beside.{tells_reported};
 ghost use Rattle.mot_air.specs.Inner.Fed.{IsEndOf, disk_of, ending_of};
-ghost use Rattle.mot_line_folder.specs.Spooling.{Finishes};
+ghost use Rattle.mot_line_folder.specs.Spooling.{Finishes, GaveLines};
 ghost use Rattle.mot_folder.specs.Looked.{so_far, watch};
-ghost use Rattle.mot_lines.specs.Hand.{bytes_in_hand};
+ghost use Rattle.mot_lines.specs.Lines.{bytes_in_hand};
 ghost use Rattle.mot_numbers.specs.declared.geometry.Geometry.{Geometry};
 ghost use Rattle.mot_objects.specs.declared.command.Command.{Command};
 ghost use Rattle.mot_feed.specs.Often.{server_for};
 ghost use Rattle.mot_journal.specs.Image.{Standing};
 ghost use Rattle.mot_numbers.specs.declared.refusal.Refusal.TheVariants.{OutOfMemory};
-ghost use Rattle.mot_playout.specs.Server.{place_in};
+ghost use Rattle.mot_playout.specs.Runs.{place_in};
 ghost use Rattle.mot_repository.specs.Repository.{Agrees};
 ghost use Rattle.mot_update.specs.Opening.{IsUnopened, first_place};
 ghost use Rattle.mot_line_folder.specs.Spool.{SpoolView, open_file, spool_system, spool_view};
-ghost use Rattle.mot_line_folder.specs.Spooling.{GaveLines};
 ghost use Rattle.mot_shelf.specs.Reader.{reader_path, view};
 ghost use Rattle.mot_playout.specs.Attempts.{fault_of};
 

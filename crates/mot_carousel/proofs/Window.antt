@@ -1,7 +1,7 @@
 -- The marks that say which ids of a window are used.
-use Rattle.std.proofs.Common.{◌≡◌, ◌≢◌, ℕ, ◌+◌, ◌<◌, ◌≤◌, ◌||◌, Bool, true, false, List, []}
-use Rattle.std.proofs.Common.{length, get_or, take, set, replicate, refl, ap, subst, ◌∙◌, sym}
-use Rattle.std.proofs.Common.{arith, inl, inr, get_or-set_same, get_or-set_other, length-set, lit<}
+use Rattle.std.proofs.Common.{◌≡◌, ◌≢◌, ℕ, ◌+◌, ◌<◌, ◌≤◌, ◌||◌, Bool, true, false, List, [], length}
+use Rattle.std.proofs.Common.{get_or, take, set, replicate, refl, ap, subst, ◌∙◌, sym, arith, inl}
+use Rattle.std.proofs.Common.{inr, get_or-set_same, get_or-set_other, length-set, lit<}
 use Rattle.std.proofs.lemmas.Bool.{eq-eqb, false≢true, ne_eqb, cases_eq, cases_lt}
 use Rattle.std.proofs.lemmas.List.{get_or-replicate, length-replicate}
 use Rattle.std.proofs.lemmas.List.Folds.{list_any_more}
@@ -9,7 +9,7 @@ use Rattle.std.proofs.lemmas.List.Sums.{prefix_len-le-length, prefix_len_passes,
 use Rattle.std.specs.List.{prefix_len}
 use Rattle.std.specs.Prelude.{nat_eq}
 use Rattle.mot_objects.specs.Ids.{contains}
-use Rattle.mot_carousel.specs.Inner.Circle.{id_above, PassesUsed}
+use Rattle.mot_carousel.specs.Inner.{id_above, PassesUsed}
 
 -- each mark says whether the id so many places above the first is one of these
 pub record Marks (first : ℕ) (ids : List ℕ) (marks : List Bool) : Type 0 where

@@ -3,7 +3,7 @@ use Rattle.std.proofs.Common.{◌≡◌, ◌<◌, ◌+◌, ◌∙◌, ℕ, List,
 use Rattle.std.proofs.Common.{sym, take}
 use Rattle.std.proofs.lemmas.List.{take_more}
 use Rattle.clap.specs.Words.{App}
-use Rattle.mot_cli.specs.Inner.Made.{with_all}
+use Rattle.mot_cli.specs.Inner.{with_all}
 
 module _ {X : Type 0} (with_one : App → X → App) where
   behind : (app : App) (xs : List X) (x : X)

@@ -4,9 +4,9 @@ use Rattle.std.specs.Prelude.{Bool, true, false, ◌||◌, bytes_eq, codes}
 use Rattle.clap.specs.Words.{Row, Text}
 use Rattle.mot_numbers.specs.declared.geometry.Geometry.{Geometry}
 use Rattle.mot_cli.specs.Given.{IsGiven}
-use Rattle.mot_cli.specs.Inner.Found.{Finds}
-use Rattle.mot_cli.specs.Options.{AreGiven, GiveDirectory, GiveGeometry, GiveLastId}
-use Rattle.mot_cli.specs.Options.{geometry_asked, geometry_over}
+use Rattle.mot_cli.specs.Inner.{Finds}
+use Rattle.mot_cli.specs.Options.{AreGiven, GiveDirectory, GiveGeometry, GiveLastId, geometry_asked}
+use Rattle.mot_cli.specs.Options.{geometry_over}
 use Rattle.mot_cli.specs.Task.{IsTask, IsWork}
 use Rattle.mot_cli.specs.declared.options.Options.{Options}
 use Rattle.mot_cli.specs.declared.playing.PlayTask.{PlayTask}
@@ -14,8 +14,7 @@ use Rattle.mot_cli.specs.declared.task.Task.{Task}
 use Rattle.mot_cli.specs.declared.task.DiskTask.{DiskTask}
 use Rattle.mot_cli.specs.declared.task.DiskTask.TheVariants.{Serve, Check, Migrate, ListObjects}
 use Rattle.mot_cli.specs.declared.task.DiskTask.TheVariants.{GetBody, Export, Inspect}
-use Rattle.mot_cli.specs.declared.task.Task.TheVariants.{Memory, Format, Copy, Play, Sync}
-use Rattle.mot_cli.specs.declared.task.Task.TheVariants.{Health}
+use Rattle.mot_cli.specs.declared.task.Task.TheVariants.{Memory, Format, Copy, Play, Sync, Health}
 use Rattle.mot_cli.specs.declared.task.Task.TheVariants.{PutFiles, WithdrawNames, OnDisk}
 
 -- nothing was found where nothing has P

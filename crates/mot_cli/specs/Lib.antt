@@ -1,8 +1,6 @@
-pub mod Asked
 pub mod Command
 pub mod Given
 pub mod Inner
 pub mod Options
 pub mod Parts
 pub mod Task
-pub mod Whole

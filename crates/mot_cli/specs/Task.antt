@@ -3,11 +3,9 @@ use Rattle.std.specs.Prelude.{ℕ, ◌≡◌, ◌⊎◌, ◌%◌, ◌&&◌, ◌|
 use Rattle.std.specs.Prelude.{Option, Some, None, bytes_eq, codes, if◌then◌else◌, option_map}
 use Rattle.std.specs.Borrow.{Bor}
 use Rattle.clap.specs.Words.{Row, Text, first_of, subcommand_of}
-use Rattle.mot_cli.specs.Asked.{AreWrong}
+use Rattle.mot_cli.specs.Given.{AreWrong, IsGiven, NameWord, NameWords, is_set, is_whole}
 use Rattle.mot_cli.specs.Command.{motcar_app}
-use Rattle.mot_cli.specs.Given.{IsGiven, NameWord, NameWords, is_set}
 use Rattle.mot_cli.specs.Options.{AreGiven, GiveDirectory, GiveGeometry, GiveLastId}
-use Rattle.mot_cli.specs.Whole.{is_whole}
 use Rattle.mot_cli.specs.declared.playing.LookRules.{LookRules}
 use Rattle.mot_cli.specs.declared.task.DiskTask.{DiskTask}
 use Rattle.mot_cli.specs.declared.task.DiskTask.TheVariants.{Serve, Check, Migrate, ListObjects}
@@ -17,8 +15,7 @@ use Rattle.mot_cli.specs.declared.task.Form.TheVariants.{Json, Words}
 use Rattle.mot_cli.specs.declared.task.NoTask.{NoTask}
 use Rattle.mot_cli.specs.declared.task.NoTask.TheVariants.{Lacks, OutOfRange}
 use Rattle.mot_cli.specs.declared.task.Task.{Task}
-use Rattle.mot_cli.specs.declared.task.Task.TheVariants.{Memory, Format, Copy, Play, Sync}
-use Rattle.mot_cli.specs.declared.task.Task.TheVariants.{Health}
+use Rattle.mot_cli.specs.declared.task.Task.TheVariants.{Memory, Format, Copy, Play, Sync, Health}
 use Rattle.mot_cli.specs.declared.task.Task.TheVariants.{PutFiles, WithdrawNames, OnDisk}
 use Rattle.mot_numbers.specs.declared.refusal.Refusal.{Refusal}
 use Rattle.mot_numbers.specs.declared.refusal.Refusal.TheVariants.{BadGeometry, BadNumber}

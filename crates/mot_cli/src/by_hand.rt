@@ -2,7 +2,7 @@
 ghost use Rattle.std.specs.Prelude.{codes};
 ghost use Rattle.clap.specs.Words.{found_of, rows_of};
 ghost use Rattle.mot_cli.specs.Task.{IsTask};
-ghost use Rattle.mot_cli.specs.Inner.Found.{Finds};
+ghost use Rattle.mot_cli.specs.Inner.{Finds};
 
 use crate::given::{word_of, words_of};
 use crate::task::Task;

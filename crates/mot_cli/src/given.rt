@@ -3,7 +3,7 @@ ghost use Rattle.std.specs.Prelude.{◌≡◌, codes, option_map};
 ghost use Rattle.std.specs.Borrow.{Bor};
 ghost use Rattle.clap.specs.Words.{Text, first_of, found_of, rows_of};
 ghost use Rattle.mot_cli.specs.Given.{IsGiven, NameWords, is_set};
-ghost use Rattle.mot_cli.specs.Inner.Found.{Finds};
+ghost use Rattle.mot_cli.specs.Inner.{Finds};
 
 use clap::ArgMatches;
 

@@ -1,8 +1,9 @@
 //! The numbers of the command line.
 ghost use Rattle.std.specs.Prelude.{◌≡◌};
 ghost use Rattle.clap.specs.Words.{found_of, rows_of};
-ghost use Rattle.mot_cli.specs.Options.{AreGiven, GiveDirectory, GiveGeometry, GiveLastId, field_in};
-ghost use Rattle.mot_cli.specs.Inner.Found.{Finds};
+ghost use Rattle.mot_cli.specs.Options.{AreGiven, GiveDirectory, GiveGeometry, GiveLastId};
+ghost use Rattle.mot_cli.specs.Options.{field_in};
+ghost use Rattle.mot_cli.specs.Inner.{Finds};
 
 use crate::given::number_of;
 use clap::ArgMatches;

@@ -1,7 +1,7 @@
 //! What the command line is made with.
 ghost use Rattle.std.specs.Prelude.{◌≡◌, false};
 ghost use Rattle.clap.specs.Words.{rule_of};
-ghost use Rattle.mot_cli.specs.Inner.Made.{IsMade, line_app, rule_for, verb_app};
+ghost use Rattle.mot_cli.specs.Inner.{IsMade, line_app, rule_for, verb_app};
 
 use clap::{Arg, ArgAction, Command, value_parser};
 use std::alloc::{AllocError, Global};

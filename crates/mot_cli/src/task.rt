@@ -3,7 +3,7 @@ ghost use Rattle.std.specs.Prelude.{◌≡◌, IfErr, IfOk, codes};
 ghost use Rattle.clap.specs.Words.{found_of, rows_of};
 ghost use Rattle.mot_cli.specs.Task.{IsTask, IsWhy, IsWork, form_in};
 ghost use Rattle.mot_cli.specs.declared.task.Task.{Task};
-ghost use Rattle.mot_cli.specs.Inner.Found.{Finds};
+ghost use Rattle.mot_cli.specs.Inner.{Finds};
 
 use crate::by_hand::{put_of, withdraw_of};
 use crate::copying::{CopyTask, copy_of};

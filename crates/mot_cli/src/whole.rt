@@ -1,7 +1,7 @@
 //! Options that are given with another one.
 ghost use Rattle.std.specs.Prelude.{◌≡◌};
 ghost use Rattle.clap.specs.Words.{found_of, rows_of};
-ghost use Rattle.mot_cli.specs.Whole.{flag_goes_with, goes_with, is_whole};
+ghost use Rattle.mot_cli.specs.Given.{flag_goes_with, goes_with, is_whole};
 
 use crate::given::{is_set, word_of};
 use clap::ArgMatches;

@@ -13,7 +13,7 @@ use Rattle.mot_update.proofs.Laws.{AllAre, held, openable, opened_throughout}
 use Rattle.mot_repository.specs.OnDisk.{OnDisk}
 use Rattle.mot_repository.specs.Repository.{Agrees, IsOf, Holds}
 use Rattle.mot_repository.specs.Opening.{IsOpened}
-use Rattle.mot_playout.specs.Server.{ServerView, place_in}
+use Rattle.mot_playout.specs.Runs.{ServerView, place_in}
 
 -- a session on a server that was opened is one from the disk's standing on
 pub opens_to : {D : Type 0} (state : D → State) (start disk : D) (server new : ServerView D)

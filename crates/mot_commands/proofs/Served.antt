@@ -10,7 +10,7 @@ use Rattle.mot_cli.specs.declared.task.DiskTask.TheVariants.{GetBody, Export, In
 use Rattle.mot_commands.specs.Commands.{Does}
 use Rattle.mot_commands.specs.Serving.{OpensFor, OpensTo, Serves, ServesTill}
 use Rattle.mot_commands.specs.Serving.OpensFor.{opened, unopened}
-use Rattle.mot_playout.specs.Server.{ServerView}
+use Rattle.mot_playout.specs.Runs.{ServerView}
 use Rattle.mot_session.proofs.Laws.{each-on, server_on, some-on}
 
 module _ {D E : Type 0} (of : D → E) (state : E → State) (disk : D) (start : State) where

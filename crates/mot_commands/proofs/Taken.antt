@@ -1,7 +1,7 @@
 -- What follows of words that were taken in turn.
-use Rattle.std.proofs.Common.{◌≡◌, ◌∙◌, ◌&&◌, ◌+◌, ◌<◌, ℕ, zero, suc, Bool, true, false, List, [], ◌∷◌}
-use Rattle.std.proofs.Common.{◌++◌, Option, None, Some, Result, Ok, Err, ap, append-nil, arith, get_or}
-use Rattle.std.proofs.Common.{inl, inr, length, refl, subst, sym, take}
+use Rattle.std.proofs.Common.{◌≡◌, ◌∙◌, ◌&&◌, ◌+◌, ◌<◌, ℕ, zero, suc, Bool, true, false, List, []}
+use Rattle.std.proofs.Common.{◌∷◌, ◌++◌, Option, None, Some, Result, Ok, Err, ap, append-nil, arith}
+use Rattle.std.proofs.Common.{get_or, inl, inr, length, refl, subst, sym, take}
 use Rattle.std.proofs.lemmas.List.{take_more}
 use Rattle.std.specs.Borrow.{Bor}
 use Rattle.clap.specs.Words.{Text}
@@ -10,7 +10,8 @@ use Rattle.disk_model.proofs.Laws.{keeps_none}
 use Rattle.disk_store.specs.File.{file_state}
 use Rattle.disk_store.specs.declared.file.start.Start.{Ghosts}
 use Rattle.mot_commands.specs.Asking.{IsRequest}
-use Rattle.mot_commands.specs.Changing.{Executes, Changes, ChangesFile, Progress, Takes, TakesEach, texts}
+use Rattle.mot_commands.specs.Changing.{Executes, Changes, ChangesFile, Progress, Takes, TakesEach}
+use Rattle.mot_commands.specs.Changing.{texts}
 use Rattle.mot_commands.specs.Serving.OpensFor.{opened, unopened}
 use Rattle.mot_commands.specs.declared.asking.Words.{Words}
 use Rattle.mot_commands.specs.declared.asking.Words.TheVariants.{Objects}
@@ -23,8 +24,9 @@ use Rattle.mot_objects.specs.declared.command.Done.{Done}
 use Rattle.mot_outcome.proofs.Laws.{opened_after}
 use Rattle.mot_outcome.specs.Outcome.{OpensAnd}
 use Rattle.mot_outcome.specs.declared.used.UsedDisk.{UsedDisk}
-use Rattle.mot_outcome.specs.declared.used.UsedDisk.TheVariants.{InMemory, OfCopy, OfFile, Untouched}
-use Rattle.mot_playout.specs.Server.{ServerView}
+use Rattle.mot_outcome.specs.declared.used.UsedDisk.TheVariants.{InMemory, OfCopy, OfFile}
+use Rattle.mot_outcome.specs.declared.used.UsedDisk.TheVariants.{Untouched}
+use Rattle.mot_playout.specs.Runs.{ServerView}
 
 and_true : (b : Bool) → (true && b) ≡ (b && true)
 and_true true = refl

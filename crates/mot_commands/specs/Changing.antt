@@ -13,7 +13,7 @@ use Rattle.mot_commands.specs.Asking.{IsRequest, base_name}
 use Rattle.mot_commands.specs.Serving.{OpensFor}
 use Rattle.mot_commands.specs.declared.asking.Words.{Words}
 use Rattle.mot_commands.specs.declared.asking.Words.TheVariants.{Files, Objects}
-use Rattle.mot_endpoints.specs.Types.{IsTyped}
+use Rattle.mot_endpoints.specs.Texts.{IsTyped}
 use Rattle.mot_events.specs.Events.{event_of}
 use Rattle.mot_events.specs.declared.event.LookEvent.{LookEvent}
 use Rattle.mot_events.specs.declared.event.LookResult.{LookResult}
@@ -30,7 +30,7 @@ use Rattle.mot_objects.specs.declared.command.Command.{Command}
 use Rattle.mot_objects.specs.declared.command.Done.{Done}
 use Rattle.mot_outcome.specs.Outcome.{OnFile, Prints}
 use Rattle.mot_outcome.specs.declared.used.UsedDisk.{UsedDisk}
-use Rattle.mot_playout.specs.Server.{ServerView}
+use Rattle.mot_playout.specs.Runs.{ServerView}
 use Rattle.mot_repository.specs.Answers.{IsAnswered}
 use Rattle.mot_repository.specs.Outcome.{after_command}
 use Rattle.mot_repository.specs.Repository.{Holds, IsBeforeOrAfter}

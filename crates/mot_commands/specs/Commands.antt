@@ -5,8 +5,7 @@ use Rattle.std.specs.Io.KnownBytes.{Keeps}
 use Rattle.clap.specs.Words.{Text}
 use Rattle.disk_model.specs.Disk.{State}
 use Rattle.disk_store.specs.Beginning.{HasFirstCalls, SinceMade, SinceOpened}
-use Rattle.disk_store.specs.File.{file_state}
-use Rattle.disk_store.specs.Ram.{ram_state}
+use Rattle.disk_store.specs.File.{file_state, ram_state}
 use Rattle.disk_store.specs.declared.file.start.Start.{Ghosts}
 use Rattle.disk_store.specs.declared.memory.ram.RamDisk.{RamDisk}
 use Rattle.mot_cli.specs.declared.task.DiskTask.{DiskTask}

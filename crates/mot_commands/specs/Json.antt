@@ -1,11 +1,12 @@
 -- A carousel as JSON, each line an object.
-use Rattle.std.specs.Prelude.{ℕ, Bool, List, [], ◌∷◌, ◌++◌, flat_map, length, Option, None, Some, codes}
+use Rattle.std.specs.Prelude.{ℕ, Bool, List, [], ◌∷◌, ◌++◌, flat_map, length, Option, None, Some}
+use Rattle.std.specs.Prelude.{codes}
 use Rattle.json.specs.Token.{Token, boolean, null, string}
 use Rattle.mot_export.specs.Json.{count, json_line}
 use Rattle.mot_journal.specs.declared.layout.Layout.{Layout}
 use Rattle.mot_journal.specs.declared.layout.Layout.TheVariants.{One, Two}
 use Rattle.mot_objects.specs.Carousel.{Carousel, Object}
-use Rattle.mot_objects.specs.Content.{ContentNumbers}
+use Rattle.mot_objects.specs.Name.{ContentNumbers}
 
 -- a carousel's numbers, and how many objects it has
 abbrev pub numbers_json : (period directory cursor objects : ℕ) → List ℕ

@@ -7,7 +7,7 @@ use Rattle.mot_journal.specs.Image.{Standing}
 use Rattle.mot_lines.specs.Lines.{whole_lines, lines_of}
 use Rattle.mot_numbers.specs.declared.refusal.Refusal.{Refusal}
 use Rattle.mot_numbers.specs.declared.refusal.Refusal.TheVariants.{ReadFault, WriteFault}
-use Rattle.mot_playout.specs.Server.{ServerView}
+use Rattle.mot_playout.specs.Runs.{ServerView}
 use Rattle.mot_session.specs.LineByLine.{ServesEach, ServesSome}
 use Rattle.mot_session.specs.declared.serving.TheConstants.{MAX_READS}
 use Rattle.mot_session.specs.Served.{TakesInput}

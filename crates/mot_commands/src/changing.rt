@@ -2,11 +2,11 @@
 ghost use Rattle.std.specs.Prelude.{◌≡◌, ◌⊎◌, ℕ, Bool, [], IfOk, List, None, Option, false, is_ok};
 ghost use Rattle.std.specs.Result.{result_unwrap_or};
 ghost use Rattle.disk_model.specs.Disk.{KeepsLength};
-ghost use Rattle.mot_commands.specs.Changing.{Executes, Changes, ChangesFile, PutReads};
-ghost use Rattle.mot_commands.specs.Changing.{PutsFiles, Takes, TakesEach, WithdrawsFile};
-ghost use Rattle.mot_commands.specs.Changing.{IsLineOf, reply_line, taken_event, taken_result, texts};
+ghost use Rattle.mot_commands.specs.Changing.{Executes, Changes, ChangesFile, PutReads, PutsFiles};
+ghost use Rattle.mot_commands.specs.Changing.{Takes, TakesEach, WithdrawsFile, IsLineOf};
+ghost use Rattle.mot_commands.specs.Changing.{reply_line, taken_event, taken_result, texts};
 ghost use Rattle.mot_endpoints.specs.Opened.{Need, if_given};
-ghost use Rattle.mot_endpoints.specs.Types.{IsUntyped};
+ghost use Rattle.mot_endpoints.specs.Texts.{IsUntyped};
 ghost use Rattle.mot_events.specs.Events.{event_of};
 ghost use Rattle.mot_files.specs.Call.{Call};
 ghost use Rattle.mot_log.specs.Text.{look_line};

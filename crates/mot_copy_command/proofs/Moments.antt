@@ -1,21 +1,22 @@
 -- What a crash leaves while a copy is made.
-use Rattle.std.proofs.Common.{◌≡◌, inl, inr, ⊎_elim, ℕ, ◌+◌, Bool, true, false, List, take, drop, Err}
+use Rattle.std.proofs.Common.{◌≡◌, inl, inr, ⊎_elim, ℕ, ◌+◌, Bool, true, false, List, take, drop}
+use Rattle.std.proofs.Common.{Err, Option, refl, sym, ◌∙◌, ap, subst, arith}
 use Rattle.std.proofs.lemmas.List.{drop-drop}
-use Rattle.std.proofs.Common.{Option, refl, sym, ◌∙◌, ap, subst, arith}
 use Rattle.std.specs.Prelude.{bytes_eq, IsOk}
 use Rattle.disk_model.specs.Disk.{State, IsHonestDisk, IsStill, OnlySyncs, Torn, Throughout}
 use Rattle.disk_model.proofs.Laws.{at_end, begins, joins, keeps_none, stays, unchanged_none}
 use Rattle.disk_model.proofs.Laws.{weakens}
 use Rattle.mot_copy_command.specs.Copied.{HasRestOf, IsCopyOf, IsNotCopied, MakesCopy, NoneOrCopyOf}
 use Rattle.mot_copy_command.specs.declared.copying.NotCopied.{NotCopied}
-use Rattle.mot_copy_command.specs.Copied.IsNotCopied.{unreadable as none_read, device as none_written}
+use Rattle.mot_copy_command.specs.Copied.IsNotCopied.{unreadable as none_read}
+use Rattle.mot_copy_command.specs.Copied.IsNotCopied.{device as none_written}
 use Rattle.mot_copy_command.specs.Inner.Steps.{ChangesOnly, IsFault, IsFilled, NoneOrFilled}
 use Rattle.mot_copy_command.specs.Inner.Steps.{unreadable, device}
 use Rattle.mot_journal.specs.declared.layout.Layout.TheVariants.{Two}
 use Rattle.mot_journal.specs.declared.record.Record.{Record}
 use Rattle.mot_journal.specs.Geometry.{has_magic, magic}
 use Rattle.mot_journal.specs.Image.{Standing, area_of, catalogue_of}
-use Rattle.mot_journal.specs.Made.{IsMade, NoneOrMade}
+use Rattle.mot_journal.specs.Making.{IsMade, NoneOrMade}
 use Rattle.mot_journal.specs.Journal.{HasAreaOf}
 use Rattle.mot_journal.proofs.Laws.{drop_behind, part}
 use Rattle.mot_numbers.specs.declared.geometry.Geometry.{Geometry}

@@ -1,4 +1,3 @@
 -- What only private contracts and proofs need.
-pub mod Records
 pub mod Steps
 pub mod Views

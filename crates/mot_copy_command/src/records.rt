@@ -1,7 +1,6 @@
 //! The records of a copy: the same carousel for other sizes, its bodies one after the other.
-ghost use Rattle.std.specs.Prelude.{◌≡◌, ◌<◌, ◌≤◌, ◌^◌, IfErr, IfOk, length, map};
-ghost use Rattle.std.specs.Prelude.{unwrap_or};
-ghost use Rattle.mot_copy_command.specs.Inner.Records.{bytes_of_bodies, ids_of};
+ghost use Rattle.std.specs.Prelude.{◌≡◌, ◌<◌, ◌≤◌, ◌^◌, IfErr, IfOk, length, map, unwrap_or};
+ghost use Rattle.mot_copy_command.specs.Inner.Steps.{bytes_of_bodies, ids_of};
 ghost use Rattle.mot_journal.specs.declared.record.Action.TheVariants.{Set};
 ghost use Rattle.mot_numbers.specs.declared.geometry.TheConstants.{MAX_OBJECTS};
 ghost use Rattle.mot_objects.specs.declared.object.Object.{Object};

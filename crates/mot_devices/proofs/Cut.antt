@@ -1,12 +1,12 @@
 -- Parts that a byte ends.
 use Rattle.std.proofs.Common.{◌≡◌, ◌∙◌, ℕ, ◌+◌, ◌-◌, ◌<◌, false, List, [], ◌∷◌, ◌++◌, length, take}
-use Rattle.std.proofs.Common.{All, add-one, ap, append_assoc, append-nil, arith, drop, drop-cons, eq-eqb, nat_eq, refl, sym}
-use Rattle.std.proofs.Common.{length-drop, length-take, take-append-drop}
+use Rattle.std.proofs.Common.{All, add-one, ap, append_assoc, append-nil, arith, drop, drop-cons}
+use Rattle.std.proofs.Common.{eq-eqb, nat_eq, refl, sym, length-drop, length-take, take-append-drop}
 use Rattle.std.proofs.lemmas.Bool.{eqb-true, false_from_ne_true}
 use Rattle.std.proofs.lemmas.List.{get_or-take, take_all}
 use Rattle.std.proofs.lemmas.List.Elements.{All-from_get_or, All-head, All-tail}
 use Rattle.memchr.specs.Find.{NoneBefore, Nowhere, Passes, is_byte}
-use Rattle.mot_devices.specs.Parts.{parts_behind, parts_of}
+use Rattle.mot_devices.specs.Mounts.{parts_behind, parts_of}
 
 module _ (byte : ℕ) where
   none_behind : (met xs : List ℕ) → All (λ b. nat_eq b byte ≡ false) xs → parts_behind byte met xs ≡ []

@@ -1,6 +1,6 @@
 -- The device that stands on another, as far as its name is told.
 use Rattle.std.proofs.Common.{◌≡◌, List, None, Option, Some, option_map, take, ℕ}
-use Rattle.mot_devices.specs.Inner.Uses.{TellsHolder}
+use Rattle.mot_devices.specs.Inner.{TellsHolder}
 use Rattle.mot_devices.specs.Tables.{HolderIs, short_bytes}
 use Rattle.mot_devices.specs.declared.short_name.ShortName.{ShortName}
 use Rattle.mot_devices.specs.declared.short_name.TheConstants.{LONGEST}

@@ -2,7 +2,7 @@
 use Rattle.std.proofs.Common.{◌≡◌, ◌∙◌, ℕ, Bool, true, List, [], ◌∷◌, ◌++◌, Ok, Err, Result, ap}
 use Rattle.std.proofs.Common.{append_assoc, append-nil, length, refl, sym}
 use Rattle.std.specs.Prelude.{IfErr, IfOk}
-use Rattle.mot_devices.specs.Inner.Reading.{IsFailed, IsFirst, IsMore, IsRefusedRead, IsUnreadFor}
+use Rattle.mot_devices.specs.Inner.{IsFailed, IsFirst, IsMore, IsRefusedRead, IsUnreadFor}
 use Rattle.mot_devices.specs.Looking.{WasRead, last_read}
 use Rattle.mot_devices.specs.Looking.IsUnread.{failed}
 use Rattle.mot_devices.specs.declared.reading.NotRead.{NotRead}

@@ -1,9 +1,8 @@
 -- The definitions, computed on worked rows.
 use Rattle.std.proofs.Common.{◌≡◌, ◌++◌, ◌∷◌, [], List, None, Some, refl, ℕ, replicate}
 use Rattle.std.specs.Prelude.{codes}
-use Rattle.mot_devices.specs.Mounts.{mount_in}
-use Rattle.mot_devices.specs.Number.{major_of, minor_of}
-use Rattle.mot_devices.specs.Parts.{parts_of}
+use Rattle.mot_devices.specs.Mounts.{mount_in, parts_of}
+use Rattle.mot_devices.specs.Tables.{major_of, minor_of}
 use Rattle.mot_devices.specs.Signatures.{signature_in}
 use Rattle.mot_devices.specs.declared.signature.Signature.TheVariants.{BootSector, Xfs}
 

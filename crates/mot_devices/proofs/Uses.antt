@@ -1,10 +1,8 @@
 -- What was found of a device, look by look.
 use Rattle.std.proofs.Common.{◌≡◌, List, None, Ok, OnOk, Err, Result, false, refl, subst, ℕ}
-use Rattle.mot_devices.specs.Inner.Reading.{IsUnreadFor}
-use Rattle.mot_devices.specs.Inner.Uses.{IsIdle}
+use Rattle.mot_devices.specs.Inner.{IsUnreadFor, IsIdle}
 use Rattle.mot_devices.specs.Looking.{OnlyLooks, Within}
-use Rattle.mot_devices.specs.Number.{number_text}
-use Rattle.mot_devices.specs.Tables.{HasPartitions, HolderIs, IsSwap}
+use Rattle.mot_devices.specs.Tables.{number_text, HasPartitions, HolderIs, IsSwap}
 use Rattle.mot_devices.specs.Uses.{BeginsWith, IsBusy, IsFreeDevice, IsMounted, IsSigned}
 use Rattle.mot_devices.specs.Uses.{IsUsedDevice, MountsAt}
 use Rattle.mot_devices.specs.declared.device_use.DeviceUse.{DeviceUse}

@@ -1,9 +1,20 @@
 -- Where a device is mounted, by `/proc/self/mountinfo`.
 use Rattle.std.specs.Prelude.{ℕ, ◌||◌, if◌then◌else◌, Bool, List, [], ◌∷◌, Option, None, Some}
-use Rattle.std.specs.Prelude.{bytes_eq}
+use Rattle.std.specs.Prelude.{bytes_eq, ◌==◌, ◌++◌}
 use Rattle.std.specs.List.{list_any}
 use Rattle.std.specs.Option.{option_or}
-use Rattle.mot_devices.specs.Parts.{parts_of}
+
+-- The parts of bytes, each ended by the same byte.
+
+-- the parts, where this much of the first was met already
+abbrev pub parts_behind : (byte : ℕ) → (met : List ℕ) → List ℕ → List (List ℕ)
+parts_behind byte met [] = []
+parts_behind byte met (b ∷ bytes) =
+    if b == byte then met ∷ parts_behind byte [] bytes else parts_behind byte (met ++ b ∷ []) bytes
+
+-- the parts, each ended by this byte; what stands behind the last of them is none
+abbrev pub parts_of : (byte : ℕ) → List ℕ → List (List ℕ)
+parts_of byte bytes = parts_behind byte [] bytes
 
 -- a number is this device's, or stands on a line of the others, which are its partitions'
 abbrev pub is_one_of : (own others number : List ℕ) → Bool

@@ -2,7 +2,8 @@
 -- what stands on it. Each relation goes from the calls that were made before to those that were made
 -- once it was done.
 use Rattle.std.specs.Prelude.{◌≡◌, ◌⊎◌, ◌==◌, ℕ, Bool, true, false, List, [], ◌∷◌, ◌++◌, Ok, Err}
-use Rattle.std.specs.Prelude.{IsUtf8, None, Option, Result, Some, codes, if◌then◌else◌, take}
+use Rattle.std.specs.Prelude.{IsUtf8, None, Option, Result, Some, codes, if◌then◌else◌, take, ◌+◌}
+use Rattle.std.specs.Prelude.{◌*◌, ◌/◌, ◌%◌}
 use Rattle.std.specs.Option.{option_map_or}
 use Rattle.mot_files.specs.Call.{Call, followed, looked}
 use Rattle.mot_files.specs.Listing.{path_in}
@@ -10,10 +11,23 @@ use Rattle.mot_files.specs.declared.system.Fault.{Fault}
 use Rattle.mot_files.specs.declared.system.How.TheVariants as how
 use Rattle.mot_files.specs.declared.system.FileStat.{FileStat}
 use Rattle.mot_devices.specs.Looking.{IsTold}
-use Rattle.mot_devices.specs.Mounts.{is_one_of}
-use Rattle.mot_devices.specs.Number.{number_text}
-use Rattle.mot_devices.specs.Parts.{parts_of}
+use Rattle.mot_devices.specs.Mounts.{is_one_of, parts_of}
 use Rattle.mot_devices.specs.declared.short_name.ShortName.{ShortName}
+use Rattle.std.specs.Fmt.{decimal}
+
+-- The number of a device, as Linux keeps and writes it.
+
+-- its first part: bits 8 to 19, and above them bits 44 to 63
+abbrev pub major_of : ℕ → ℕ
+major_of number = number / 256 % 4096 + number / 17592186044416 * 4096
+
+-- its second part: bits 0 to 7, and above them bits 20 to 43
+abbrev pub minor_of : ℕ → ℕ
+minor_of number = number % 256 + number / 1048576 % 16777216 * 256
+
+-- both, with a colon between them
+abbrev pub number_text : ℕ → List ℕ
+number_text number = decimal (major_of number) ++ 58 ∷ decimal (minor_of number)
 
 -- where the system tells of the device of this number
 abbrev pub device_folder : ℕ → List ℕ

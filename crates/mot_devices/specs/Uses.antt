@@ -13,9 +13,8 @@ use Rattle.mot_files.specs.declared.system.FileStat.{FileStat}
 use Rattle.mot_devices.specs.Beside.{IsApart, IsFileOfDisk}
 use Rattle.mot_devices.specs.Looking.{IsUnread, WasRead, Within}
 use Rattle.mot_devices.specs.Mounts.{mount_in}
-use Rattle.mot_devices.specs.Number.{number_text}
+use Rattle.mot_devices.specs.Tables.{number_text, HasPartitions, HolderIs, IsSwap, short_bytes}
 use Rattle.mot_devices.specs.Signatures.{signature_in}
-use Rattle.mot_devices.specs.Tables.{HasPartitions, HolderIs, IsSwap, short_bytes}
 use Rattle.mot_devices.specs.declared.device_use.DeviceUse.{DeviceUse}
 use Rattle.mot_devices.specs.declared.short_name.ShortName.{ShortName}
 use Rattle.mot_devices.specs.declared.short_name.TheConstants.{LONGEST}

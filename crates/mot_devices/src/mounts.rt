@@ -1,8 +1,7 @@
 //! Where a device is mounted, by the text of `/proc/self/mountinfo`.
 ghost use Rattle.std.specs.Prelude.{◌≡◌, ℕ, IfNone, IfSome, List, None, Some, bytes_eq};
 ghost use Rattle.std.specs.List.{list_any};
-ghost use Rattle.mot_devices.specs.Mounts.{is_one_of, mount_in, place_of_line};
-ghost use Rattle.mot_devices.specs.Parts.{parts_of};
+ghost use Rattle.mot_devices.specs.Mounts.{is_one_of, mount_in, place_of_line, parts_of};
 
 use crate::number::Numbers;
 use crate::parts::cut;

@@ -1,7 +1,7 @@
 //! The numbers of a device and of its partitions, as text.
 ghost use Rattle.std.specs.Prelude.{◌≡◌, IfOk, string_bytes};
 ghost use Rattle.mot_devices.specs.Mounts.{is_one_of};
-ghost use Rattle.mot_devices.specs.Number.{number_text};
+ghost use Rattle.mot_devices.specs.Tables.{number_text};
 
 use crate::mounts::is_line_of;
 use itoa::Buffer;

@@ -1,6 +1,6 @@
 //! The parts of bytes, each ended by the same byte.
 ghost use Rattle.std.specs.Prelude.{◌≡◌, ◌<◌, ◌∷◌, [], IfNone, IfSome, length};
-ghost use Rattle.mot_devices.specs.Parts.{parts_of};
+ghost use Rattle.mot_devices.specs.Mounts.{parts_of};
 
 use memchr::memchr;
 

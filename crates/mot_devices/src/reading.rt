@@ -2,8 +2,7 @@
 #![tactic(auto, using(crate::proofs::Looks::looks_on, crate::proofs::Looks::looks_one, crate::proofs::Looks::looks_none))]
 
 ghost use Rattle.std.specs.Prelude.{◌≡◌, true, IfErr, IfOk};
-ghost use Rattle.mot_devices.specs.Inner.Reading.{IsFirst, IsMore};
-ghost use Rattle.mot_devices.specs.Inner.Reading.{IsFailed, IsRefusedRead, IsUnreadFor};
+ghost use Rattle.mot_devices.specs.Inner.{IsFirst, IsMore, IsFailed, IsRefusedRead, IsUnreadFor};
 ghost use Rattle.mot_devices.specs.declared.reading.NotRead.TheVariants.{NoMemory};
 ghost use Rattle.std.specs.IoError.{error_kind};
 ghost use Rattle.std.specs.declared.io.ErrorKind.TheVariants.{OutOfMemory};

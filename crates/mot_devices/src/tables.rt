@@ -4,14 +4,13 @@
 ghost use Rattle.std.specs.Prelude.{◌≡◌, IfOk, OnOk, option_map, take, true};
 ghost use Rattle.mot_files.specs.Listing.{path_in};
 ghost use Rattle.mot_files.specs.declared.system.How.TheVariants as How;
-ghost use Rattle.mot_devices.specs.Inner.Uses.{TellsHolder};
+ghost use Rattle.mot_devices.specs.Inner.{TellsHolder};
 ghost use Rattle.mot_devices.specs.Looking.{IsTold, OnlyLooks};
 ghost use Rattle.mot_files.specs.Looking.{reads_only};
-ghost use Rattle.mot_devices.specs.Number.{number_text};
-ghost use Rattle.mot_devices.specs.Parts.{parts_of};
-ghost use Rattle.mot_devices.specs.Tables.{AddPartitions, AddsPartition, AreSwapLines};
+ghost use Rattle.mot_devices.specs.Tables.{number_text, AddPartitions, AddsPartition, AreSwapLines};
 ghost use Rattle.mot_devices.specs.Tables.{HasPartitions, IsSwap, IsSwapLine, first_shown};
 ghost use Rattle.mot_devices.specs.Tables.{short_bytes};
+ghost use Rattle.mot_devices.specs.Mounts.{parts_of};
 ghost use Rattle.mot_devices.specs.declared.short_name.TheConstants.{LONGEST};
 
 use crate::number::{Numbers, number_text};

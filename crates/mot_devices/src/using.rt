@@ -2,7 +2,7 @@
 #![tactic(auto, using(crate::proofs::Looks::looks_on, crate::proofs::Looks::looks_one, crate::proofs::Looks::looks_none))]
 
 ghost use Rattle.std.specs.Prelude.{◌≡◌, IfErr, IfNone, IfSome, None, OnOk};
-ghost use Rattle.mot_devices.specs.Inner.Uses.{IsIdle};
+ghost use Rattle.mot_devices.specs.Inner.{IsIdle};
 ghost use Rattle.mot_devices.specs.Looking.{OnlyLooks};
 ghost use Rattle.mot_devices.specs.Uses.{BeginsWith, IsBusy, IsFree, IsFreeDevice, IsFreeThere};
 ghost use Rattle.mot_devices.specs.Uses.{IsMounted, IsSigned, IsUsed, IsUsedDevice, IsUsedThere};

@@ -5,9 +5,9 @@ use Rattle.std.specs.Prelude.{flat_map, option_to_list}
 use Rattle.mot_directory.specs.Parameter.{Parameter, OneByte, bytes_of_parameter}
 use Rattle.mot_directory.specs.Header.{bytes_of_header, bytes_of_core}
 use Rattle.mot_directory.specs.Entries.{parameters_with, text_parameter}
-use Rattle.mot_directory.specs.Sizes.{text_size, mime_size}
+use Rattle.mot_directory.specs.Directory.{text_size, mime_size}
 use Rattle.mot_directory.proofs.Fits.{length-extension}
-use Rattle.mot_objects.specs.Content.{ContentNumbers}
+use Rattle.mot_objects.specs.Name.{ContentNumbers}
 
 -- the core, the name, the MIME type and the version, appended in turn, are the header
 pub header-appended : (out name : List ℕ) (mime : Option (List ℕ)) (body version : ℕ)

@@ -10,9 +10,9 @@ use Rattle.mot_directory.specs.Header.{HeaderFields}
 use Rattle.mot_directory.specs.Directory.{Entry, DirectoryFields, IsEntry, IsDirectory}
 use Rattle.mot_directory.specs.Directory.{bytes_of_directory, bytes_of_entry}
 use Rattle.mot_directory.specs.Directory.{bytes_of_directory_header, bytes_of_entries}
+use Rattle.mot_directory.specs.Directory.{directory_size, entry_size}
 use Rattle.mot_directory.specs.Entries.{parameters_with, header_of, entry_of, directory_of}
-use Rattle.mot_directory.specs.Inner.Beside.{header_beside, entry_beside, directory_beside}
-use Rattle.mot_directory.specs.Sizes.{directory_size, entry_size}
+use Rattle.mot_directory.specs.Inner.{header_beside, entry_beside, directory_beside}
 use Rattle.mot_directory.proofs.Fits.{length-bytes_of_entry, length-extension}
 use Rattle.mot_objects.specs.declared.object.Object.{Object}
 use Rattle.mot_objects.specs.declared.carousel.Carousel.{Carousel}

@@ -11,12 +11,12 @@ use Rattle.mot_directory.specs.Parameter.{OneByte, Short, Long, IsParameter, byt
 use Rattle.mot_directory.specs.Header.{IsHeader, bytes_of_header, bytes_of_extension}
 use Rattle.mot_directory.specs.Directory.{Entry, IsEntry, IsDirectory, bytes_of_entry}
 use Rattle.mot_directory.specs.Directory.{bytes_of_entries, bytes_of_directory, read_directory}
+use Rattle.mot_directory.specs.Directory.{text_size, mime_size}
 use Rattle.mot_directory.specs.Entries.{text_parameter, parameters_with, entry_of, directory_of}
 use Rattle.mot_directory.specs.Entries.{IsShortMime, IsWithinLimits, HasDirectory}
-use Rattle.mot_directory.specs.Sizes.{text_size, mime_size}
 use Rattle.mot_directory.proofs.ReadBack.{read_directory-bytes_of_directory}
 use Rattle.mot_objects.specs.Carousel.{Object, Carousel}
-use Rattle.mot_objects.specs.Content.{ContentNumbers}
+use Rattle.mot_objects.specs.Name.{ContentNumbers}
 
 length-by_form : (id : ℕ) (text : List ℕ) (b : Bool) →
     length (bytes_of_parameter (if b then Short id text else Long id text))

@@ -17,8 +17,8 @@ use Rattle.mot_directory.specs.Directory.{Entry, IsEntry, DirectoryFields, IsDir
 use Rattle.mot_directory.specs.Directory.{bytes_of_entry, bytes_of_entries, entries_in}
 use Rattle.mot_directory.specs.Directory.{bytes_of_directory_header, directory_header_of}
 use Rattle.mot_directory.specs.Directory.{directory_with, bytes_of_directory, read_directory}
-use Rattle.mot_numbers.specs.Fields.{number_in}
-use Rattle.mot_objects.specs.Content.{ContentNumbers}
+use Rattle.mot_numbers.specs.Reading.{number_in}
+use Rattle.mot_objects.specs.Name.{ContentNumbers}
 
 -- data that is cut off at its length
 parameter_with-append : (make : List ℕ → Parameter) (n : ℕ) (text rest : List ℕ) → n ≡ length text →

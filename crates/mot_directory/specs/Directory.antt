@@ -1,11 +1,13 @@
 -- The directory (EN 301 234), as a receiver reads it and as it is written.
 use Rattle.std.specs.Prelude.{ℕ, zero, suc, ◌+◌, ◌^◌, ◌<◌, ◌&&◌, ◌==◌, nat_le, if◌then◌else◌, List}
 use Rattle.std.specs.Prelude.{[], ◌∷◌, ◌++◌, length, drop, take, flat_map, All, Option, Some, None}
+use Rattle.std.specs.Prelude.{sum_by}
 use Rattle.std.specs.Int.{w16, w32, to_be_bytes, bytes_high_first}
 use Rattle.mot_directory.specs.Header.{HeaderFields, header_size_in, read_header, bytes_of_header}
 use Rattle.mot_directory.specs.Header.{IsHeader}
-use Rattle.mot_numbers.specs.Reading.{◌>>=◌}
-use Rattle.mot_numbers.specs.Fields.{number_in, fields}
+use Rattle.mot_numbers.specs.Reading.{◌>>=◌, number_in, fields}
+use Rattle.mot_objects.specs.declared.object.Object.{Object}
+use Rattle.mot_objects.specs.declared.carousel.Carousel.{Carousel}
 
 -- an object in the directory: its transport id and its header
 pub record Entry : Type 0 where
@@ -78,3 +80,26 @@ pub record IsDirectory (d : DirectoryFields) : Type 0 where
   pub period : d.period < 2 ^ 24
   pub segment_size : d.segment_size < 2 ^ 13
   pub entries : All IsEntry d.entries
+
+-- How many bytes headers and the directory have.
+
+-- a parameter with a text of so many bytes
+abbrev pub text_size : ℕ → ℕ
+text_size n = if nat_le n 127 then 2 + n else 3 + n
+
+abbrev pub mime_size : Option (List ℕ) → ℕ
+mime_size None = 0
+mime_size (Some text) = text_size (length text)
+
+-- a header: the core, ContentName with its character set, MimeType if there is one, and
+-- VersionNumber
+abbrev pub header_size : Object → ℕ
+header_size o = 7 + text_size (1 + length o.name) + mime_size o.mime + 2
+
+-- an entry: a transport id and a header
+abbrev pub entry_size : Object → ℕ
+entry_size o = 2 + header_size o
+
+-- a directory: its header and the entries
+abbrev pub directory_size : Carousel → ℕ
+directory_size c = 13 + sum_by entry_size c.objects.items

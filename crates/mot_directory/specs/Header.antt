@@ -5,9 +5,8 @@ use Rattle.std.specs.Prelude.{slice_index}
 use Rattle.std.specs.Int.{bytes_high_first}
 use Rattle.mot_directory.specs.Parameter.{Parameter, read_parameters, bytes_of_parameter}
 use Rattle.mot_directory.specs.Parameter.{IsParameter}
-use Rattle.mot_numbers.specs.Reading.{◌>>=◌}
-use Rattle.mot_numbers.specs.Fields.{number_in, fields}
-use Rattle.mot_objects.specs.Content.{ContentNumbers}
+use Rattle.mot_numbers.specs.Reading.{◌>>=◌, number_in, fields}
+use Rattle.mot_objects.specs.Name.{ContentNumbers}
 
 -- BodySize, ContentType with ContentSubType, and the parameters of the extension
 pub record HeaderFields : Type 0 where

@@ -3,4 +3,3 @@ pub mod Entries
 pub mod Header
 pub mod Inner
 pub mod Parameter
-pub mod Sizes

@@ -1,4 +1,3 @@
-pub mod Copies
 pub mod Inner
 pub mod LinePlaces
 pub mod Lines
@@ -8,4 +7,3 @@ pub mod Packets
 pub mod Placing
 pub mod Status
 pub mod Texts
-pub mod Types

@@ -1,6 +1,6 @@
 -- What a command asks for before its disk is opened, by the calls of its host.
-use Rattle.std.specs.Prelude.{ℕ, ◌≡◌, List, [], ◌∷◌, ◌++◌, Option, Some, None, Err}
-use Rattle.std.specs.Prelude.{Bool, true, false}
+use Rattle.std.specs.Prelude.{ℕ, ◌≡◌, List, [], ◌∷◌, ◌++◌, Option, Some, None, Err, Bool, true}
+use Rattle.std.specs.Prelude.{false, ◌⊎◌}
 use Rattle.std.specs.Borrow.{Bor}
 use Rattle.mot_endpoints.specs.Packets.{OpensPackets}
 use Rattle.mot_endpoints.specs.declared.fault.Cause.{Cause}
@@ -11,7 +11,11 @@ use Rattle.mot_endpoints.specs.declared.lines.OtherFiles.{OtherFiles}
 use Rattle.mot_files.specs.Call.{Call, apart}
 use Rattle.mot_files.specs.declared.system.Part.TheVariants as Part
 use Rattle.mot_numbers.specs.declared.refusal.Refusal.{Refusal}
-use Rattle.mot_numbers.specs.declared.refusal.Refusal.TheVariants.{DeviceFault, ReadFault, WriteFault}
+use Rattle.mot_numbers.specs.declared.refusal.Refusal.TheVariants.{DeviceFault, ReadFault}
+use Rattle.mot_numbers.specs.declared.refusal.Refusal.TheVariants.{WriteFault}
+use Rattle.mot_endpoints.specs.declared.copy.TheConstants.{MOST_COPIED}
+use Rattle.mot_files.specs.Reading.{IsRead, IsUnread}
+use Rattle.mot_files.specs.declared.reading.ReadFailure.{ReadFailure}
 
 -- such calls of a system of its own were taken into the log
 abbrev pub TakesIn : (List Call → Type 0) → (old new : List Call) → Type 0
@@ -69,3 +73,24 @@ pub data BeginsTo (all : List Need) (refusal : Refusal) (old new : List Call) : 
       → BeginsTo all refusal old new
   unfit : (first rest : List Need) → first ++ rest ≡ all → is_fault refusal ≡ false
       → AreMet first old new → BeginsTo all refusal old new
+
+-- Reading the file of a disk that is not opened as one. Each relation goes from the calls that were
+-- made before to those that were made once it was done.
+
+-- two reads of the file at the path gave these bytes, the second as the first
+pub record IsReadAlike (path bytes : List ℕ) (old new : List Call) : Type 0 where
+  pub between : List Call
+  pub first : IsRead path MOST_COPIED true bytes old between
+  pub second : IsRead path MOST_COPIED true bytes between new
+
+-- it was tried to read the file at the path
+abbrev pub TriesRead : (path : List ℕ) → (old new : List Call) → Type 0
+TriesRead path old new = ((bytes : List ℕ) × IsRead path MOST_COPIED true bytes old new)
+    ⊎ ((why : ReadFailure) × IsUnread path MOST_COPIED true why old new)
+
+-- Nothing was asked for but reads of that file, two of them at most, and those only for a command
+-- that looks.
+abbrev pub TriesReads : (looks : Bool) → (path : List ℕ) → (old new : List Call) → Type 0
+TriesReads false path old new = new ≡ old
+TriesReads true path old new = (new ≡ old) ⊎ TriesRead path old new
+    ⊎ ((between : List Call) × TriesRead path old between × TriesRead path between new)

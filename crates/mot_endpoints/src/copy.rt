@@ -1,7 +1,7 @@
 //! A disk that is looked at while another program has it, or where it can only be read.
 ghost use Rattle.std.specs.Prelude.{◌≡◌, IfSome, true};
-ghost use Rattle.disk_store.specs.Ram.{ram_state};
-ghost use Rattle.mot_endpoints.specs.Copies.{IsReadAlike, TriesRead, TriesReads};
+ghost use Rattle.disk_store.specs.File.{ram_state};
+ghost use Rattle.mot_endpoints.specs.Opened.{IsReadAlike, TriesRead, TriesReads};
 ghost use Rattle.mot_endpoints.specs.declared.copy.TheConstants.{MOST_COPIED};
 ghost use Rattle.mot_files.specs.Reading.{IsRead};
 

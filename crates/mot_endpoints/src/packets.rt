@@ -10,7 +10,7 @@ ghost use Rattle.mot_endpoints.specs.Packets.{writer_system, writes_to};
 ghost use Rattle.mot_endpoints.specs.declared.packets.Target.{Target};
 ghost use Rattle.mot_files.specs.Call.{wrote};
 ghost use Rattle.mot_files.specs.declared.system.Fault.{Fault};
-ghost use Rattle.mot_packets.specs.Outlet.{Grows};
+ghost use Rattle.mot_packets.specs.Written.{Grows};
 
 use crate::beside::{SUFFIX, folder_of, is_of_disk, leads_to};
 use crate::fault::{Cause, PacketsFault};

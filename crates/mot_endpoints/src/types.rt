@@ -1,11 +1,10 @@
 //! Which files of a folder are objects: the known suffixes, and those that a file adds.
-ghost use Rattle.std.specs.Prelude.{◌≡◌, ◌≤◌, ◌<◌, ◌+◌, ◌∷◌, ◌++◌, ℕ, List, []};
-ghost use Rattle.std.specs.Prelude.{IfErr, IfOk, MatchResult, Ok, length, take};
+ghost use Rattle.std.specs.Prelude.{◌≡◌, ◌≤◌, ◌<◌, ◌+◌, ◌∷◌, ◌++◌, ℕ, List, [], IfErr, IfOk};
+ghost use Rattle.std.specs.Prelude.{MatchResult, Ok, length, take};
 ghost use Rattle.mot_endpoints.specs.Opened.{AreMet, BeginsTo, if_given};
 ghost use Rattle.mot_endpoints.specs.Opened.Need.{types as types_at};
 ghost use Rattle.mot_endpoints.specs.Inner.{Extends};
-ghost use Rattle.mot_endpoints.specs.Texts.{AsksFirst, IsReadToEnd, IsTextOf};
-ghost use Rattle.mot_endpoints.specs.Types.{IsTyped, IsUntyped};
+ghost use Rattle.mot_endpoints.specs.Texts.{AsksFirst, IsReadToEnd, IsTextOf, IsTyped, IsUntyped};
 ghost use Rattle.mot_files.specs.Call.{looked_at, read_of};
 ghost use Rattle.mot_files.specs.Reading.{IsSame};
 ghost use Rattle.mot_files.specs.declared.system.FileStat.{FileStat};

@@ -8,20 +8,18 @@ use Rattle.mot_journal.specs.Image.{Standing, stands_for}
 use Rattle.mot_lines.proofs.Laws.{export_text-asks}
 use Rattle.mot_lines.specs.Export.{export_text}
 use Rattle.mot_numbers.specs.declared.refusal.Refusal.{Refusal}
-use Rattle.mot_objects.specs.Carousel.{Carousel}
-use Rattle.mot_objects.specs.Rebuilding.{rebuilding}
+use Rattle.mot_objects.specs.Carousel.{Carousel, rebuilding}
 use Rattle.mot_export.specs.Exporting.{Exports, PrintsLines, RebuildsByLines}
-use Rattle.mot_export.specs.Inner.Printing.{IsPrintingFault}
+use Rattle.mot_export.specs.Inner.Inspected.{IsPrintingFault}
 use Rattle.mot_update.specs.Opening.{OfStanding}
-use Rattle.mot_update.proofs.Laws.{openable, read_so}
+use Rattle.mot_update.proofs.Laws.{openable, read_so, exports_are_taken}
 use Rattle.mot_repository.proofs.Laws.{rules_kept, standings-are_sound}
 use Rattle.mot_repository.specs.OnDisk.{OnDisk}
 use Rattle.mot_repository.specs.Opening.{IsOpened}
 use Rattle.mot_repository.specs.Repository.{HasStanding}
 use Rattle.mot_playout.proofs.Laws.{syncs_read}
 use Rattle.mot_playout.specs.Attempts.{fault_of}
-use Rattle.mot_session.specs.Output.{Writes}
-use Rattle.mot_update.proofs.Laws.{exports_are_taken}
+use Rattle.mot_session.specs.Served.{Writes}
 use Rattle.mot_update.specs.Export.{IsEmpty}
 
 -- the text of what an image stands for rebuilds it

@@ -1,7 +1,6 @@
 -- A disk inspected, from its opening on.
-use Rattle.std.proofs.Common.{◌≡◌, ◌∙◌, ℕ, suc, ◌+◌, List, [], ◌∷◌, length, map, Option}
-use Rattle.std.proofs.Common.{Some, Result, Ok, Err, refl, sym, ap, subst, inr}
-use Rattle.std.proofs.Common.{Global, None, Vec}
+use Rattle.std.proofs.Common.{◌≡◌, ◌∙◌, ℕ, suc, ◌+◌, List, [], ◌∷◌, length, map, Option, Some}
+use Rattle.std.proofs.Common.{Result, Ok, Err, refl, sym, ap, subst, inr, Global, None, Vec}
 use Rattle.std.specs.Prelude.{IfOk, IsFalse, MatchResult}
 use Rattle.std.specs.Int.{div_ceil}
 use Rattle.std.specs.List.{fold, sum_by}
@@ -23,7 +22,7 @@ use Rattle.mot_objects.specs.declared.object.Object as beside
 use Rattle.mot_objects.specs.Stands.{AreBodiesOf, carousel_of, objects_of}
 use Rattle.mot_player.specs.Place.{Place, directory_packets}
 use Rattle.mot_player.specs.Turn.{turn_of_carousel}
-use Rattle.mot_listening.specs.TurnSize.{size_of_turn}
+use Rattle.mot_listening.specs.Lengths.{size_of_turn}
 use Rattle.mot_listening.specs.declared.turn.TurnSize.{TurnSize}
 use Rattle.mot_export.specs.Inspecting.{AreFigures, Inspects, PrintsFigures, TellsOfDisk}
 use Rattle.mot_export.specs.Inspecting.{bytes_of_bodies, rates_of, times_of, usual_pause, waits_of}
@@ -33,7 +32,7 @@ use Rattle.mot_update.specs.Opening.{OfStanding, first_place}
 use Rattle.mot_update.proofs.Laws.{openable, read_so}
 use Rattle.mot_repository.specs.Opening.{IsOpened}
 use Rattle.mot_repository.specs.Repository.{Agrees, RepositoryView}
-use Rattle.mot_playout.specs.Server.{ServerView, place_in}
+use Rattle.mot_playout.specs.Runs.{ServerView, place_in}
 use Rattle.mot_outcome.specs.Outcome.{Prints}
 use Rattle.mot_session.specs.Served.{WritesFront}
 

@@ -1,7 +1,8 @@
 -- The packets of a turn that is played have the lengths that its groups are cut into.
 use Rattle.std.proofs.Common.{◌≡◌, ◌∙◌, ℕ, zero, suc, ◌+◌, ◌-◌, ◌*◌, ◌<◌, ◌≤◌, List, [], ◌∷◌, ◌++◌}
-use Rattle.std.proofs.Common.{inl, inr, Bool, true, false, ◌&&◌, Option, Some, None, length, map, take, drop}
-use Rattle.std.proofs.Common.{replicate, refl, sym, ap, subst, arith, add-one, length-append}
+use Rattle.std.proofs.Common.{inl, inr, Bool, true, false, ◌&&◌, Option, Some, None, length, map}
+use Rattle.std.proofs.Common.{take, drop, replicate, refl, sym, ap, subst, arith, add-one}
+use Rattle.std.proofs.Common.{length-append}
 use Rattle.std.proofs.Math.Nat.{mul-le-mul_right}
 use Rattle.std.proofs.lemmas.Bool.{cases_lt, leb-false, leb-true}
 use Rattle.std.proofs.lemmas.List.{length-drop, length-map, length-replicate, length-take}
@@ -15,17 +16,15 @@ use Rattle.mot_numbers.specs.PacketLength.{shortest_room}
 use Rattle.mot_numbers.specs.Reading.{◌>>=◌, is_empty}
 use Rattle.mot_packets.specs.Packet.{PacketFields}
 use Rattle.mot_packets.specs.Written.{bytes_of_packet, covered_bytes}
-use Rattle.mot_player.specs.Laws.{IsAtTurnsBeginning}
+use Rattle.mot_player.specs.Laws.{IsAtTurnsBeginning, packets_sent}
 use Rattle.mot_player.specs.Place.{Place, Request, Sent, Step, UnderWay, first_sent, group_for}
 use Rattle.mot_player.specs.Place.{next_sent, packet_sent, request, sent_by, to_send, with_begun}
-use Rattle.mot_player.specs.Sending.{packets_sent}
 use Rattle.mot_player.specs.Turn.{segments_of_turn}
-use Rattle.mot_listening.proofs.Laws.{count-segments}
+use Rattle.mot_listening.proofs.Laws.{count-segments, group-lengths}
 use Rattle.mot_listening.specs.Lengths.{lengths_of_segments}
 use Rattle.mot_export.specs.Filling.{TurnsHaveTheirLengths}
 use Rattle.mot_export.specs.Inspecting.{TurnsHaveTheirPackets}
 use Rattle.mot_listening.specs.Entities.{group_lengths, packet_length, packet_lengths}
-use Rattle.mot_listening.proofs.Laws.{group-lengths}
 
 -- ---- a group's packets, one after the other
 

@@ -1,7 +1,6 @@
 -- The lines of a carousel, written one after the other.
 use Rattle.std.proofs.Common.{◌≡◌, ℕ, zero, suc, ◌+◌, ◌-◌, ◌/◌, ◌%◌, ◌<◌, ◌≤◌, List, [], ◌∷◌, ◌++◌}
-use Rattle.std.proofs.Common.{length, take, drop, get_or}
-use Rattle.std.proofs.Common.{Result, Ok, Err, inl, take-append-drop}
+use Rattle.std.proofs.Common.{length, take, drop, get_or, Result, Ok, Err, inl, take-append-drop}
 use Rattle.std.proofs.Common.{Option, Some, map, refl, sym, ap, ◌∙◌, subst, arith, add-one}
 use Rattle.std.proofs.Common.{append-nil}
 use Rattle.std.specs.Prelude.{IfErr, slice_get, slice_index, slice_range}
@@ -21,13 +20,12 @@ use Rattle.mot_objects.specs.Carousel as whole
 use Rattle.mot_objects.specs.declared.carousel.Carousel.{Carousel}
 use Rattle.mot_objects.specs.Stands.{object_of, objects_of}
 use Rattle.mot_repository.specs.Repository.{Agrees, RepositoryView, object_body}
-use Rattle.mot_export.specs.Inner.Printing.{IsPrintingFault}
+use Rattle.mot_export.specs.Inner.Inspected.{IsPrintingFault}
 use Rattle.mot_outcome.specs.Outcome.{Prints}
 use Rattle.mot_playout.specs.Attempts.{fault_of}
 use Rattle.mot_session.proofs.Laws.{Writes-after, WritesFront-after, WritesFront-all}
 use Rattle.mot_session.proofs.Laws.{WritesFront-before}
-use Rattle.mot_session.specs.Output.{Writes}
-use Rattle.mot_session.specs.Served.{WritesFront}
+use Rattle.mot_session.specs.Served.{Writes, WritesFront}
 
 digits-append : (t xs ys : List ℕ) → encode_with t (xs ++ ys) ≡ encode_with t xs ++ encode_with t ys
 unfolding encode_with

@@ -1,3 +1,2 @@
 pub mod Filled
 pub mod Inspected
-pub mod Printing

@@ -1,7 +1,7 @@
 -- What is told of a disk's sizes, what is free of them, and its turn.
-use Rattle.std.specs.Prelude.{◌≡◌, ◌⊎◌, ℕ, ◌+◌, ◌-◌, ◌*◌, ◌/◌, ◌&&◌, nat_le, if◌then◌else◌}
-use Rattle.std.specs.Prelude.{List, [], ◌∷◌, ◌++◌, length, flat_map, Option, Some, None, IsSomeAnd}
-use Rattle.std.specs.Prelude.{◌<◌, ◌≤◌, Ok, codes, map, max, min, ⊤}
+use Rattle.std.specs.Prelude.{◌≡◌, ◌⊎◌, ℕ, ◌+◌, ◌-◌, ◌*◌, ◌/◌, ◌&&◌, nat_le, if◌then◌else◌, List}
+use Rattle.std.specs.Prelude.{[], ◌∷◌, ◌++◌, length, flat_map, Option, Some, None, IsSomeAnd, ◌<◌}
+use Rattle.std.specs.Prelude.{◌≤◌, Ok, codes, map, max, min, ⊤}
 use Rattle.std.specs.List.{sum_by}
 use Rattle.std.specs.Io.KnownBytes.{Appends, Keeps}
 use Rattle.disk_model.specs.Disk.{State, OnlySyncs}
@@ -20,8 +20,7 @@ use Rattle.mot_listening.specs.Waits.{longest_group, round_for, soon_for, turn_p
 use Rattle.mot_player.specs.Laws.{IsAtTurnsBeginning}
 use Rattle.mot_player.specs.Place.{Place, directory_packets}
 use Rattle.mot_player.specs.Turn.{Turn, turn_of_carousel}
-use Rattle.mot_listening.specs.Lengths.{frame_packets, frame_size, lengths_of_turn}
-use Rattle.mot_listening.specs.TurnSize.{size_of_turn}
+use Rattle.mot_listening.specs.Lengths.{frame_packets, frame_size, lengths_of_turn, size_of_turn}
 use Rattle.mot_export.specs.Filling.{frames_of}
 use Rattle.mot_export.specs.Json.{count, json_line, maybe_count}
 use Rattle.mot_export.specs.declared.inspection.Inspection.{Inspection}

@@ -1,17 +1,16 @@
 //! A carousel as the lines that rebuild it.
-ghost use Rattle.std.specs.Prelude.{◌≡◌, ◌≤◌, ◌<◌, Some, length, vec_len, IfErr, OnOk};
-ghost use Rattle.std.specs.Prelude.{slice_get};
+ghost use Rattle.std.specs.Prelude.{◌≡◌, ◌≤◌, ◌<◌, Some, length, vec_len, IfErr, OnOk, slice_get};
 ghost use Rattle.disk_model.specs.Disk.{OnlyReads};
 ghost use Rattle.hex.specs.Hex.{encode_lower};
 ghost use Rattle.mot_journal.specs.Image.{Standing};
 ghost use Rattle.mot_lines.specs.Export.{export_text, put_line};
 ghost use Rattle.mot_objects.specs.Carousel as whole;
 ghost use Rattle.mot_export.specs.Exporting.{Exports};
-ghost use Rattle.mot_export.specs.Inner.Printing.{IsPrintingFault};
+ghost use Rattle.mot_export.specs.Inner.Inspected.{IsPrintingFault};
 ghost use Rattle.mot_repository.specs.Repository.{HasStanding, object_body};
 ghost use Rattle.mot_outcome.specs.Outcome.{Prints};
 ghost use Rattle.mot_playout.specs.Attempts.{fault_of};
-ghost use Rattle.mot_session.specs.Output.{Writes};
+ghost use Rattle.mot_session.specs.Served.{Writes};
 
 use disk_model::Disk;
 use mot_lines::{period_text, put_text};

@@ -6,7 +6,7 @@ ghost use Rattle.mot_export.specs.Inspecting.{Inspects, TurnsHaveTheirPackets};
 ghost use Rattle.mot_export.specs.Inner.Inspected.{IsAbout};
 ghost use Rattle.mot_repository.specs.Repository.{Agrees};
 ghost use Rattle.mot_playout.specs.Attempts.{fault_of};
-ghost use Rattle.mot_playout.specs.Server.{place_in};
+ghost use Rattle.mot_playout.specs.Runs.{place_in};
 
 use crate::inspection::inspection_of;
 use crate::shown::text_of;

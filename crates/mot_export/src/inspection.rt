@@ -8,7 +8,7 @@ ghost use Rattle.mot_numbers.specs.Geometry.{is_valid, packet_room};
 ghost use Rattle.mot_numbers.specs.declared.refusal.Refusal.TheVariants.{OutOfMemory};
 ghost use Rattle.mot_objects.specs.declared.object.Object.{Object};
 ghost use Rattle.mot_player.specs.Place.{directory_packets};
-ghost use Rattle.mot_playout.specs.Server.{place_in};
+ghost use Rattle.mot_playout.specs.Runs.{place_in};
 ghost use Rattle.mot_repository.specs.Repository.{Agrees};
 ghost use Rattle.mot_export.specs.Inspecting.{AreFigures, usual_pause, waits_of};
 

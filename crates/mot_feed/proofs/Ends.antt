@@ -14,17 +14,16 @@ use Rattle.mot_listening.proofs.Laws.{IsOnAir, bodies_come_whole, room-kept, sta
 use Rattle.mot_listening.proofs.Laws.{turns_end_soon}
 use Rattle.mot_numbers.specs.declared.geometry.TheConstants.{MAX_OBJECTS}
 use Rattle.mot_objects.specs.Carousel.{Carousel, IsSound, carousel_if_accepted, change}
+use Rattle.mot_objects.specs.Carousel.{AllKeepRules}
 use Rattle.mot_objects.specs.Ids.{contains, is_distinct}
-use Rattle.mot_objects.specs.Rules.{AllKeepRules}
 use Rattle.mot_objects.specs.declared.command.Command.{Command}
-use Rattle.mot_player.specs.Followable.{IsFollowable, IsOneChange, put, replaced, same, withdrawn}
-use Rattle.mot_player.specs.Place.{Change, Directory, Follow, Place, Request}
-use Rattle.mot_player.specs.Place.{Sent, Step, change_between, change_turn, changed}
-use Rattle.mot_player.specs.Place.{follow, hear_directory, sent_by}
+use Rattle.mot_player.specs.Turn.{IsFollowable, IsOneChange, put, replaced, same, withdrawn, Turn}
+use Rattle.mot_player.specs.Turn.{turn_of_carousel}
+use Rattle.mot_player.specs.Place.{Change, Directory, Follow, Place, Request, Sent, Step}
+use Rattle.mot_player.specs.Place.{change_between, change_turn, changed, follow, hear_directory}
+use Rattle.mot_player.specs.Place.{sent_by}
 use Rattle.mot_player.specs.Start.{start_place}
-use Rattle.mot_player.specs.Staying.{AreFewEarly, HasDirectory, Stays, begun_by}
-use Rattle.mot_player.specs.Staying.{none_ends, touches}
-use Rattle.mot_player.specs.Turn.{Turn, turn_of_carousel}
+use Rattle.mot_player.specs.Staying.{AreFewEarly, HasDirectory, Stays, begun_by, none_ends, touches}
 use Rattle.mot_player.proofs.Laws.{AreOthers, StaysFew, apart-carousel, between-put}
 use Rattle.mot_player.proofs.Laws.{between-replaced, between-same, between-withdrawn, few-followed}
 use Rattle.mot_player.proofs.Laws.{few-heard, few-sent, few-start, few-steps, has-directory}

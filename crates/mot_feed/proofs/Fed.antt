@@ -1,26 +1,24 @@
 -- Updates and packets, one after the other.
-use Rattle.std.proofs.Common.{◌≡◌, ◌<◌, ℕ, zero, suc, ◌+◌, ◌-◌, Bool, true, false, List, []}
-use Rattle.std.proofs.Common.{◌∷◌, ◌++◌, length, map, Option, Some, None, Ok, Err, refl}
-use Rattle.std.proofs.Common.{sym, ap}
-use Rattle.std.proofs.Common.{◌∙◌, subst, arith, length-append, append-nil, inl, inr, take}
+use Rattle.std.proofs.Common.{◌≡◌, ◌<◌, ℕ, zero, suc, ◌+◌, ◌-◌, Bool, true, false, List, [], ◌∷◌}
+use Rattle.std.proofs.Common.{◌++◌, length, map, Option, Some, None, Ok, Err, refl, sym, ap, ◌∙◌}
+use Rattle.std.proofs.Common.{subst, arith, length-append, append-nil, inl, inr, take}
 use Rattle.std.proofs.lemmas.List.{map-append}
 use Rattle.std.proofs.lemmas.Option.{none-some}
 use Rattle.std.specs.Prelude.{◌⊎◌, ◌≢◌, if◌then◌else◌, is_some}
 use Rattle.std.specs.Option.{option_map_or}
 use Rattle.disk_model.specs.Disk.{State, IsHonestDisk, IsUnchanged}
-use Rattle.mot_feed.specs.Feeding.{AreOf, AreTold, EndsFeed, Event, FedPacketsAreContinuous}
-use Rattle.mot_feed.specs.Feeding.{Happen, HasFed, RulesAreKept, Stage}
+use Rattle.mot_feed.specs.Feeding.{AreOf, AreTold, EndsFeed, Event, FedPacketsAreContinuous, Happen}
+use Rattle.mot_feed.specs.Feeding.{HasFed, RulesAreKept, Stage, commands_among, is_between_turns}
+use Rattle.mot_feed.specs.Feeding.{left_after, left_behind, moment_at, moment_behind, sents_in}
+use Rattle.mot_feed.specs.Feeding.{turns_in, SendsPacket}
 use Rattle.mot_feed.specs.OnAir.{is_turn}
-use Rattle.mot_feed.specs.Feeding.{commands_among, is_between_turns, left_after}
-use Rattle.mot_feed.specs.Feeding.{left_behind, moment_at, moment_behind, sents_in, turns_in}
 use Rattle.mot_feed.specs.Feeding.AreTold.{no_call, one_asked, one_call, one_played}
 use Rattle.mot_feed.specs.Feeding.EndsFeed.{all_numbers, all_turns, of_call, of_packet, of_write}
 use Rattle.mot_feed.specs.Feeding.Stage.{Called, Ready}
 use Rattle.mot_feed.specs.Feeding.Event.{Accepted, Asked, Played}
 use Rattle.mot_feed.specs.Often.{Feeds, is_due, look_in, pause, server_for}
 use Rattle.mot_feed.specs.declared.manner.Manner.{Manner}
-use Rattle.mot_feed.specs.Sending.{SendsPacket}
-use Rattle.mot_feed.specs.Sending as one
+use Rattle.mot_feed.specs.Feeding as one
 use Rattle.mot_feed.proofs.Hearing.{OftenUpTo, asks, left_for, often-accepted, often-all}
 use Rattle.mot_feed.proofs.Hearing.{often-asked, often-cut, often-none, often-sent}
 use Rattle.mot_feed.proofs.Grown.{grows_nil, grows_trans, grows_kept}
@@ -32,26 +30,22 @@ use Rattle.mot_numbers.specs.declared.geometry.Geometry.{Geometry}
 use Rattle.mot_numbers.specs.declared.refusal.Refusal.{Refusal}
 use Rattle.mot_numbers.specs.declared.refusal.Refusal.TheVariants.{WriteFault}
 use Rattle.mot_objects.specs.Carousel.{Carousel, carousel_after, carousel_if_accepted, change}
+use Rattle.mot_objects.specs.Carousel.{AllKeepRules}
 use Rattle.mot_objects.specs.declared.command.Command.{Command}
-use Rattle.mot_packets.specs.Outlet.{Grows}
+use Rattle.mot_packets.specs.Written.{Grows, bytes_of_packet}
 use Rattle.mot_packets.specs.Packet.{PacketFields, read_packet}
-use Rattle.mot_packets.specs.Written.{bytes_of_packet}
 use Rattle.mot_player.proofs.Laws.{start-continuous}
 use Rattle.mot_player.specs.Laws.{AreSent, IsStep}
 use Rattle.mot_player.specs.Place.{Place, Sent, Step, Request, NewTurn, Directory, Follow}
-use Rattle.mot_player.specs.Place.{change_turn, changed, follow, hear_directory}
+use Rattle.mot_player.specs.Place.{change_turn, changed, follow, hear_directory, sent_by}
 use Rattle.mot_player.specs.Start.{start_place}
-use Rattle.mot_player.specs.Place.{sent_by}
 use Rattle.mot_player.specs.Turn.{Turn, turn_of_carousel}
-use Rattle.mot_objects.specs.Rules.{AllKeepRules}
 use Rattle.mot_repository.specs.Repository.{Holds, RepositoryView}
 use Rattle.mot_repository.proofs.Laws.{rules_kept}
 use Rattle.mot_playout.specs.RunEnds.{RulesAlong, place_after}
-use Rattle.mot_playout.specs.Runs.{accepted_commands}
-use Rattle.mot_playout.specs.Server.{ServerView, place_in}
+use Rattle.mot_playout.specs.Runs.{accepted_commands, ServerView, place_in}
 use Rattle.mot_playout.proofs.Laws.{accepted-join, reads_leave, runs_join}
-use Rattle.mot_update.specs.Between.{IsUpdating, Telling}
-use Rattle.mot_update.specs.HasRun.{HasRun}
+use Rattle.mot_update.specs.HasRun.{IsUpdating, Telling, HasRun}
 use Rattle.mot_update.proofs.Laws.{same_err, same_ok, same_some}
 use Rattle.mot_update.specs.declared.moment.UpdatePoint.{UpdatePoint}
 

@@ -1,7 +1,7 @@
 -- What was added to what is known.
-use Rattle.std.proofs.Common.{List, [], ◌++◌, Option, Some, None}
-use Rattle.std.proofs.Common.{sym, ap, ◌∙◌, subst, append_assoc, append-nil}
-use Rattle.mot_packets.specs.Outlet.{Grows}
+use Rattle.std.proofs.Common.{List, [], ◌++◌, Option, Some, None, sym, ap, ◌∙◌, subst, append_assoc}
+use Rattle.std.proofs.Common.{append-nil}
+use Rattle.mot_packets.specs.Written.{Grows}
 
 -- what is known goes on by nothing
 pub grows_nil : {A : Type 0} (a : Option (List A)) → Grows a a []

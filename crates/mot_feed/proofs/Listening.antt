@@ -2,50 +2,44 @@
 use Rattle.std.proofs.Common.{◌≡◌, ◌⊎◌, ℕ, zero, suc, ◌+◌, ◌*◌, ◌-◌, ◌<◌, ◌≤◌, Bool, true, false}
 use Rattle.std.proofs.Common.{List, [], ◌∷◌, ◌++◌, length, not, Option, Some, None, inl, inr, refl}
 use Rattle.std.proofs.Common.{sym, ap, ◌∙◌, subst, arith}
-use Rattle.std.proofs.lemmas.Bool.{and_parts, eqb-true, leb-true}
+use Rattle.std.proofs.lemmas.Bool.{and_parts, eqb-true, leb-true, cases_lt}
 use Rattle.std.proofs.lemmas.List.{length-map}
-use Rattle.std.proofs.lemmas.Bool.{cases_lt}
 use Rattle.std.proofs.lemmas.Grind.{div_ceil_times}
 use Rattle.std.specs.Int.{div_ceil}
 use Rattle.std.specs.Prelude.{if◌then◌else◌, is_some, min, nat_le, ◌||◌}
 use Rattle.mot_feed.specs.Feeding.{AreOf, Event, Happen, RulesAreKept, sents_in, turns_in}
 use Rattle.mot_feed.specs.Feeding.Event.{Accepted, Asked, Played}
 use Rattle.mot_feed.specs.Listening.{HearsFirstChanges, IsHeardInTime, IsWindow, ListenersHear}
-use Rattle.mot_feed.specs.Listening.{asks_in, is_quiet}
-use Rattle.mot_feed.specs.Listening.{is_settled, pauses_within}
+use Rattle.mot_feed.specs.Listening.{asks_in, is_quiet, is_settled, pauses_within}
 use Rattle.mot_feed.specs.Often.{IsOften, is_due, is_often, pause}
 use Rattle.mot_feed.specs.OnAir.{is_turn}
 use Rattle.mot_numbers.specs.Reading.{is_empty}
 use Rattle.mot_numbers.specs.declared.geometry.TheConstants.{MAX_OBJECTS}
 use Rattle.mot_objects.specs.Carousel.{Carousel, IsSound, carousel_if_accepted, change}
-use Rattle.mot_objects.specs.Rules.{AllKeepRules}
+use Rattle.mot_objects.specs.Carousel.{AllKeepRules}
 use Rattle.mot_objects.specs.declared.command.Command.{Command}
 use Rattle.mot_player.specs.Laws.{AreSent}
 use Rattle.mot_groups.specs.Group.{Segment}
-use Rattle.mot_listening.specs.Listening.{HearsBodiesIn, HearsCarousel, HearsEntity}
-use Rattle.mot_listening.specs.Listening.{HearsOnly}
-use Rattle.mot_listening.specs.Waits.{early_packets, early_within, left_packets}
-use Rattle.mot_listening.specs.Waits.{longest_group, turn_packets, with_directories}
+use Rattle.mot_listening.specs.Listening.{HearsBodiesIn, HearsCarousel, HearsEntity, HearsOnly}
+use Rattle.mot_listening.specs.Waits.{early_packets, early_within, left_packets, longest_group}
+use Rattle.mot_listening.specs.Waits.{turn_packets, with_directories}
 use Rattle.mot_packets.specs.Written.{bytes_of_packet}
 use Rattle.mot_player.specs.Place.{Directory, Place, Request, Sent, Step, change_turn, changed}
-use Rattle.mot_player.specs.Place.{directory_packets, directory_segments}
-use Rattle.mot_player.specs.Place.{early_of, follow}
-use Rattle.mot_player.specs.Place.{hear_directory, left_of, packets_of_segments}
-use Rattle.mot_player.specs.Place.{sent_by, to_send}
+use Rattle.mot_player.specs.Place.{directory_packets, directory_segments, early_of, follow}
+use Rattle.mot_player.specs.Place.{hear_directory, left_of, packets_of_segments, sent_by, to_send}
 use Rattle.mot_player.specs.Start.{start_place}
 use Rattle.mot_player.specs.Turn.{Turn, segments_of_turn, turn_of_carousel}
-use Rattle.mot_listening.proofs.Laws.{IsEarlyOn, early-changed, early-heard}
-use Rattle.mot_listening.proofs.Laws.{early-sent, early-short, hears-new}
-use Rattle.mot_listening.proofs.Laws.{start-comes, start-early, start-on, start-rest}
-use Rattle.mot_listening.proofs.Laws.{IsOnAir, IsRest, asked_packets, asks_once, changed-comes}
-use Rattle.mot_listening.proofs.Laws.{changed-on, group-fewer, group_left, heard-on, hears-change}
-use Rattle.mot_listening.proofs.Laws.{hears-directory, hears-only, hears-settled, hears-two_ends}
-use Rattle.mot_listening.proofs.Laws.{hears-within, packets-are, rest-behind_turn}
-use Rattle.mot_listening.proofs.Laws.{rest-heard, rest-sent, sent-on, some-packets}
-use Rattle.mot_listening.proofs.Laws.{packets_for, room-kept, until_asked}
+use Rattle.mot_listening.proofs.Laws.{IsEarlyOn, early-changed, early-heard, early-sent}
+use Rattle.mot_listening.proofs.Laws.{early-short, hears-new, start-comes, start-early, start-on}
+use Rattle.mot_listening.proofs.Laws.{start-rest, IsOnAir, IsRest, asked_packets, asks_once}
+use Rattle.mot_listening.proofs.Laws.{changed-comes, changed-on, group-fewer, group_left, heard-on}
+use Rattle.mot_listening.proofs.Laws.{hears-change, hears-directory, hears-only, hears-settled}
+use Rattle.mot_listening.proofs.Laws.{hears-two_ends, hears-within, packets-are, rest-behind_turn}
+use Rattle.mot_listening.proofs.Laws.{rest-heard, rest-sent, sent-on, some-packets, packets_for}
+use Rattle.mot_listening.proofs.Laws.{room-kept, until_asked}
 use Rattle.mot_player.proofs.Laws.{has-directory, keep_turn, plays-carousel}
-use Rattle.mot_feed.proofs.OnAir.{accepted-cases, follow-cases, sound-behind, steps_of}
-use Rattle.mot_feed.proofs.OnAir.{turn-ends, turn-quiet}
+use Rattle.mot_feed.proofs.OnAir.{accepted-cases, follow-cases, sound-behind, steps_of, turn-ends}
+use Rattle.mot_feed.proofs.OnAir.{turn-quiet}
 
 -- ---- what is shown
 

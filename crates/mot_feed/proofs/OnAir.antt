@@ -1,6 +1,6 @@
 -- Each whole turn on air reads as its carousel.
-use Rattle.std.proofs.Common.{◌≡◌, ℕ, ◌≤◌, Bool, true, false, not, ◌||◌, List, [], ◌∷◌}
-use Rattle.std.proofs.Common.{Some, Result, Ok, Err, refl, sym, ap, subst, ◌<◌, arith, length}
+use Rattle.std.proofs.Common.{◌≡◌, ℕ, ◌≤◌, Bool, true, false, not, ◌||◌, List, [], ◌∷◌, Some}
+use Rattle.std.proofs.Common.{Result, Ok, Err, refl, sym, ap, subst, ◌<◌, arith, length}
 use Rattle.std.specs.List.{AllByRecursion}
 use Rattle.std.proofs.lemmas.Bool.{and_parts}
 use Rattle.std.proofs.lemmas.Option.{none-some}
@@ -13,24 +13,22 @@ use Rattle.mot_numbers.specs.Reading.{is_empty}
 use Rattle.mot_numbers.specs.declared.geometry.TheConstants.{MAX_OBJECTS}
 use Rattle.mot_numbers.specs.declared.refusal.Refusal.{Refusal}
 use Rattle.mot_objects.specs.Carousel.{Carousel, IsSound, Object, carousel_if_accepted, change}
-use Rattle.mot_objects.specs.Rules.{AllKeepRules, KeepsRules}
+use Rattle.mot_objects.specs.Carousel.{AllKeepRules, KeepsRules}
 use Rattle.mot_objects.specs.declared.command.Command.{Command}
 use Rattle.mot_objects.specs.declared.command.Done.{Done}
 use Rattle.mot_objects.proofs.Laws.{change-sound}
-use Rattle.mot_player.specs.Followable.{IsFollowable}
+use Rattle.mot_player.specs.Turn.{IsFollowable, IsTurnOf, Turn, bodies_with_ids, turn_of_carousel}
 use Rattle.mot_player.specs.Laws.{IsPlace}
 use Rattle.mot_player.specs.Place.{Place, Step, Request, Directory, changed, hear_directory}
 use Rattle.mot_player.specs.Place.{sent_by}
 use Rattle.mot_player.specs.Start.{start_place}
 use Rattle.mot_player.specs.Repeats.{ReadAsTurn, ReadsOnceAs, ends_at_last}
 use Rattle.mot_player.specs.Staying.{AreFewEarly, HasDirectory}
-use Rattle.mot_player.specs.Turn.{IsTurnOf, Turn, bodies_with_ids, turn_of_carousel}
 use Rattle.mot_player.proofs.Laws.{IsApartTurn, IsFresh, apart-carousel, ask_directory, keep_turn}
 use Rattle.mot_player.proofs.Laws.{few-changed, few-heard, few-sent, few-start, fresh-changed}
-use Rattle.mot_player.proofs.Laws.{fresh-heard, fresh-place, fresh-reads, fresh-start}
-use Rattle.mot_player.proofs.Laws.{fresh-sent, has-directory}
-use Rattle.mot_player.proofs.Laws.{StandsAt, place-begins, plays-carousel, stands-changed}
-use Rattle.mot_player.proofs.Laws.{stands-heard, stands-sent, stands-start}
+use Rattle.mot_player.proofs.Laws.{fresh-heard, fresh-place, fresh-reads, fresh-start, fresh-sent}
+use Rattle.mot_player.proofs.Laws.{has-directory, StandsAt, place-begins, plays-carousel}
+use Rattle.mot_player.proofs.Laws.{stands-changed, stands-heard, stands-sent, stands-start}
 use Rattle.mot_player.proofs.Laws.{turns-read-with_directories}
 use Rattle.mot_playout.proofs.Laws.{followable}
 

@@ -4,7 +4,7 @@ use Rattle.mot_feed.specs.Ends.{added_among, carousel_with, packets_of_directory
 use Rattle.mot_feed.specs.Ends.{stays_among}
 use Rattle.mot_feed.specs.Feeding.{Accepted, Asked}
 use Rattle.mot_objects.specs.Carousel.{Carousel, change, new_carousel}
-use Rattle.mot_objects.specs.Content.{ContentNumbers}
+use Rattle.mot_objects.specs.Name.{ContentNumbers}
 use Rattle.mot_objects.specs.Ids.{next_free_id}
 use Rattle.mot_objects.specs.declared.command.Command.{Command}
 use Rattle.mot_objects.specs.declared.command.Command.TheVariants.{Put, Replace, Withdraw, Period}

@@ -1,6 +1,6 @@
 -- Packets in a row.
-use Rattle.std.proofs.Common.{◌≡◌, ◌∙◌, ℕ, ◌<◌, List, [], ◌∷◌, length}
-use Rattle.std.proofs.Common.{Some, Result, Ok, Err, sym, ap, subst, arith, inl, inr}
+use Rattle.std.proofs.Common.{◌≡◌, ◌∙◌, ℕ, ◌<◌, List, [], ◌∷◌, length, Some, Result, Ok, Err, sym}
+use Rattle.std.proofs.Common.{ap, subst, arith, inl, inr}
 use Rattle.std.specs.Prelude.{◌≢◌}
 use Rattle.disk_model.specs.Disk.{State}
 use Rattle.mot_feed.specs.Feeding.{IsFeedFault}
@@ -11,7 +11,7 @@ use Rattle.mot_numbers.specs.declared.refusal.Refusal.TheVariants.{WriteFault}
 use Rattle.mot_packets.specs.Packet.{PacketFields, read_packet}
 use Rattle.mot_player.specs.PlayerView as player
 use Rattle.mot_repository.specs.Repository.{RepositoryView}
-use Rattle.mot_playout.specs.Server.{ServerView, bodies_of, place_in}
+use Rattle.mot_playout.specs.Runs.{ServerView, bodies_of, place_in}
 use Rattle.mot_playout.specs.Playing.{IsReadRefusal}
 use Rattle.mot_playout.specs.Playing as reading
 use Rattle.mot_update.specs.Faults.{StaysCalm, IsUpdateFault}

@@ -9,12 +9,11 @@ use Rattle.mot_groups.specs.Group.{Segment}
 use Rattle.mot_listening.specs.Waits.{left_packets, longest_group}
 use Rattle.mot_numbers.specs.declared.geometry.TheConstants.{MAX_OBJECTS}
 use Rattle.mot_objects.specs.Carousel.{Carousel, IsSound, Object, carousel_if_accepted, change}
+use Rattle.mot_objects.specs.Carousel.{AllKeepRules}
 use Rattle.mot_objects.specs.Ids.{contains}
-use Rattle.mot_objects.specs.Rules.{AllKeepRules}
 use Rattle.mot_objects.specs.declared.command.Command.{Command}
 use Rattle.mot_player.specs.Place.{Place, change_between, changed, directory_segments}
-use Rattle.mot_player.specs.Place.{fresh_segments, hear_directory, left_of}
-use Rattle.mot_player.specs.Place.{packets_of_segments}
+use Rattle.mot_player.specs.Place.{fresh_segments, hear_directory, left_of, packets_of_segments}
 use Rattle.mot_player.specs.Repeats.{ends_at_last}
 use Rattle.mot_player.specs.Start.{start_place}
 use Rattle.mot_player.specs.Staying.{begun_with}

@@ -1,25 +1,23 @@
 -- What taking turns between updates and packets does.
 use Rattle.std.specs.Prelude.{ℕ, ◌≡◌, ◌≢◌, ◌==◌, ◌⊎◌, ◌+◌, ◌-◌, ◌<◌, nat_eq, nat_lt, Bool, true}
 use Rattle.std.specs.Prelude.{false, ◌&&◌, if◌then◌else◌, List, [], ◌∷◌, ◌++◌, length, map, Option}
-use Rattle.std.specs.Prelude.{Some, None, take, ⊤}
+use Rattle.std.specs.Prelude.{Some, None, take, ⊤, Result, Ok, Err}
 use Rattle.disk_model.specs.Disk.{State}
 use Rattle.mot_journal.specs.Image.{Standing}
 use Rattle.mot_numbers.specs.declared.refusal.Refusal.{Refusal}
 use Rattle.mot_numbers.specs.declared.refusal.Refusal.TheVariants.{WriteFault}
 use Rattle.mot_objects.specs.Carousel.{Carousel, carousel_after, carousel_if_accepted, change}
-use Rattle.mot_objects.specs.Rules.{AllKeepRules}
+use Rattle.mot_objects.specs.Carousel.{AllKeepRules}
 use Rattle.mot_objects.specs.declared.command.Command.{Command}
-use Rattle.mot_packets.specs.Outlet.{Grows}
+use Rattle.mot_packets.specs.Written.{Grows}
 use Rattle.mot_player.specs.Continuity.{IsContinuous}
-use Rattle.mot_player.specs.Laws.{AreSent}
+use Rattle.mot_player.specs.Laws.{AreSent, packets_sent, IsStep}
 use Rattle.mot_player.specs.Place.{Place, Sent, changed, hear_directory, request}
-use Rattle.mot_player.specs.Sending.{packets_sent}
 use Rattle.mot_player.specs.Start.{start_place}
 use Rattle.mot_player.specs.Turn.{Turn, turn_of_carousel}
 use Rattle.mot_playout.specs.RunEnds.{RunLeaves}
-use Rattle.mot_playout.specs.Runs.{accepted_commands}
-use Rattle.mot_playout.specs.Server.{ServerView, place_in}
-use Rattle.mot_update.specs.Between.{Telling, may_look}
+use Rattle.mot_playout.specs.Runs.{accepted_commands, ServerView, place_in}
+use Rattle.mot_update.specs.HasRun.{Telling, may_look}
 use Rattle.mot_update.specs.Faults.{IsUpdateFault}
 use Rattle.mot_update.specs.declared.moment.UpdatePoint.{UpdatePoint}
 use Rattle.mot_update.specs.declared.moment.UpdatePoint.TheVariants.{AtLook, BetweenTurns, Within}
@@ -195,3 +193,16 @@ FedPacketsAreContinuous =
     → Happen limit size c (start_place address room size turn cursor follows newest_first) events last
     new
     → AreOf events packets → IsContinuous packets
+
+-- A packet sent, in one write.
+
+-- one request, whose packet was written in one write, in part or not at all, or not made
+pub data SendsPacket (result : Result Bool Refusal) (old new : Place)
+    (before after : Option (List (List ℕ))) : Type 0 where
+  whole : (packet : List ℕ) (ends : Bool) → result ≡ Ok ends → IsStep old packet ends new
+      → Grows before after (packet ∷ []) → SendsPacket result old new before after
+  short : (packet : List ℕ) (ends : Bool) (count : ℕ) → result ≡ Err WriteFault
+      → IsStep old packet ends new → count < length packet
+      → Grows before after (take count packet ∷ []) → SendsPacket result old new before after
+  none : (refusal : Refusal) → refusal ≢ WriteFault → result ≡ Err refusal → new ≡ old
+      → Grows before after [] → SendsPacket result old new before after

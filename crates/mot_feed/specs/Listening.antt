@@ -1,20 +1,18 @@
 -- Who begins to listen to a feed at any packet.
-use Rattle.std.specs.Prelude.{◌≡◌, ℕ, ◌+◌, ◌*◌, ◌≤◌, ◌<◌, nat_le, Bool, true, false}
-use Rattle.std.specs.Prelude.{◌&&◌, ◌||◌, List, [], ◌∷◌, ◌++◌, length, Option}
+use Rattle.std.specs.Prelude.{◌≡◌, ℕ, ◌+◌, ◌*◌, ◌≤◌, ◌<◌, nat_le, Bool, true, false, ◌&&◌, ◌||◌}
+use Rattle.std.specs.Prelude.{List, [], ◌∷◌, ◌++◌, length, Option}
 use Rattle.mot_feed.specs.Feeding.{Accepted, AreOf, Asked, Event, Happen, Played, turns_in}
 use Rattle.mot_feed.specs.Often.{IsOften, pause}
 use Rattle.mot_numbers.specs.declared.geometry.TheConstants.{MAX_OBJECTS}
 use Rattle.mot_numbers.specs.declared.numbers.TheConstants.{MAX_SEGMENT, MIN_SEGMENT}
-use Rattle.mot_objects.specs.Carousel.{Carousel, IsSound}
-use Rattle.mot_objects.specs.Rules.{AllKeepRules}
+use Rattle.mot_objects.specs.Carousel.{Carousel, IsSound, AllKeepRules}
 use Rattle.mot_objects.specs.declared.command.Command.{Command}
-use Rattle.mot_listening.specs.Listening.{HearsBodiesIn, HearsCarousel, HearsEntity}
-use Rattle.mot_listening.specs.Listening.{HearsNewBodies, HearsOnly}
+use Rattle.mot_listening.specs.Listening.{HearsBodiesIn, HearsCarousel, HearsEntity, HearsNewBodies}
+use Rattle.mot_listening.specs.Listening.{HearsOnly}
 use Rattle.mot_listening.specs.Waits.{all_packets, change_packets, change_within, early_packets}
 use Rattle.mot_listening.specs.Waits.{left_packets, longest_group, round_packets, soon_packets}
 use Rattle.mot_listening.specs.Waits.{turn_packets}
-use Rattle.mot_player.specs.Place.{Place, bodies_not_begun, directory_packets, early_of}
-use Rattle.mot_player.specs.Place.{most_early}
+use Rattle.mot_player.specs.Place.{Place, bodies_not_begun, directory_packets, early_of, most_early}
 use Rattle.mot_player.specs.Start.{start_place}
 use Rattle.mot_player.specs.Turn.{turn_of_carousel}
 

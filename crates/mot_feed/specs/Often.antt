@@ -1,7 +1,6 @@
 -- What feeding in a manner does: the directory is asked for often, or not.
-use Rattle.std.specs.Prelude.{◌≡◌, ◌==◌, ◌<◌, ℕ, ◌*◌, ◌-◌, max, nat_eq, Bool, true, false, not, ◌||◌}
-use Rattle.std.specs.Prelude.{◌&&◌, if◌then◌else◌}
-use Rattle.std.specs.Prelude.{List, [], ◌∷◌, Option, Some, None}
+use Rattle.std.specs.Prelude.{◌≡◌, ◌==◌, ◌<◌, ℕ, ◌*◌, ◌-◌, max, nat_eq, Bool, true, false, not}
+use Rattle.std.specs.Prelude.{◌||◌, ◌&&◌, if◌then◌else◌, List, [], ◌∷◌, Option, Some, None}
 use Rattle.disk_model.specs.Disk.{State}
 use Rattle.mot_feed.specs.Feeding.{Accepted, AreOf, AreTold, Asked, EndsFeed, Event, HasFed, Played}
 use Rattle.mot_feed.specs.Feeding.{Stage, fault_at}
@@ -10,8 +9,8 @@ use Rattle.mot_journal.specs.Image.{Standing}
 use Rattle.mot_numbers.specs.declared.refusal.Refusal.{Refusal}
 use Rattle.mot_objects.specs.declared.command.Command.{Command}
 use Rattle.mot_player.specs.Place.{Place, directory_packets}
-use Rattle.mot_playout.specs.Server.{ServerView}
-use Rattle.mot_update.specs.Between.{Telling}
+use Rattle.mot_playout.specs.Runs.{ServerView}
+use Rattle.mot_update.specs.HasRun.{Telling}
 use Rattle.mot_update.specs.declared.moment.UpdatePoint.{UpdatePoint}
 
 -- how many packets go out before the directory is asked for again, at least ten times those that it

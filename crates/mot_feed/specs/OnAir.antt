@@ -1,13 +1,12 @@
 -- What a server that is fed from has on air, turn by turn.
 use Rattle.std.specs.Prelude.{◌≡◌, ℕ, Bool, true, false, not, ◌&&◌, ◌||◌, ◌<◌, ◌≤◌, if◌then◌else◌}
 use Rattle.std.specs.Prelude.{List, [], ◌∷◌, Option, is_some}
-use Rattle.mot_feed.specs.Feeding.{Accepted, AreOf, Asked, Event, Happen, Played}
-use Rattle.mot_feed.specs.Feeding.{RulesAreKept, is_between_turns}
+use Rattle.mot_feed.specs.Feeding.{Accepted, AreOf, Asked, Event, Happen, Played, RulesAreKept}
+use Rattle.mot_feed.specs.Feeding.{is_between_turns}
 use Rattle.mot_numbers.specs.Reading.{is_empty}
 use Rattle.mot_numbers.specs.declared.geometry.TheConstants.{MAX_OBJECTS}
 use Rattle.mot_numbers.specs.declared.numbers.TheConstants.{MAX_SEGMENT, MIN_SEGMENT}
-use Rattle.mot_objects.specs.Carousel.{Carousel, IsSound}
-use Rattle.mot_objects.specs.Rules.{AllKeepRules}
+use Rattle.mot_objects.specs.Carousel.{Carousel, IsSound, AllKeepRules}
 use Rattle.mot_player.specs.Place.{Place}
 use Rattle.mot_player.specs.Repeats.{ReadAsTurn, ReadsOnceAs}
 use Rattle.mot_player.specs.Start.{start_place}

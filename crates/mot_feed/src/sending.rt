@@ -1,11 +1,10 @@
 //! A packet, in one write.
 ghost use Rattle.std.specs.Prelude.{◌≡◌, IfErr, OnOk};
 ghost use Rattle.disk_model.specs.Disk.{OnlyReads};
-ghost use Rattle.mot_feed.specs.Feeding.{IsFeedFault};
-ghost use Rattle.mot_feed.specs.Sending.{SendsPacket};
+ghost use Rattle.mot_feed.specs.Feeding.{IsFeedFault, SendsPacket};
 ghost use Rattle.mot_journal.specs.Image.{Standing};
 ghost use Rattle.mot_repository.specs.Repository.{Holds};
-ghost use Rattle.mot_playout.specs.Server.{place_in};
+ghost use Rattle.mot_playout.specs.Runs.{place_in};
 
 use crate::Outlet;
 use disk_model::Disk;

@@ -1,24 +1,22 @@
 -- Updates one after the other.
-use Rattle.std.proofs.Common.{◌≡◌, ℕ, ◌<◌, Bool, true, false, List, [], ◌++◌, Option, None}
-use Rattle.std.proofs.Common.{refl, sym, subst, ◌-◌, arith, zero, suc}
+use Rattle.std.proofs.Common.{◌≡◌, ℕ, ◌<◌, Bool, true, false, List, [], ◌++◌, Option, None, refl}
+use Rattle.std.proofs.Common.{sym, subst, ◌-◌, arith, zero, suc}
 use Rattle.std.proofs.lemmas.Slice.Eq.{bytes_eq-Decides}
 use Rattle.std.specs.Prelude.{◌≢◌, ◌⊎◌, ⊤, Decides, bytes_eq}
 use Rattle.mot_feed_lines.proofs.Requests.{never}
 use Rattle.disk_model.specs.Disk.{State, IsHonestDisk}
 use Rattle.disk_model.proofs.Laws.{unchanged_none}
-use Rattle.mot_feed_lines.specs.Answering.{IsInHand, TellsBetween, TellsLines}
-use Rattle.mot_feed_lines.specs.Answering.{TellsOnTime, late_behind}
-use Rattle.mot_feed_lines.specs.Inner.Request.{AnswersMore}
+use Rattle.mot_feed_lines.specs.Answering.{IsInHand, TellsBetween, TellsLines, TellsOnTime}
+use Rattle.mot_feed_lines.specs.Answering.{late_behind}
+use Rattle.mot_feed_lines.specs.Inner.{AnswersMore}
 use Rattle.mot_feed_lines.specs.Answering.TellsBetween.{other_alone, then_lines}
-use Rattle.mot_lines.specs.Hand.{bytes_in_hand}
-use Rattle.mot_lines.specs.Lines.{rest_of}
+use Rattle.mot_lines.specs.Lines.{bytes_in_hand, rest_of}
 use Rattle.mot_journal.specs.Image.{Standing}
 use Rattle.mot_numbers.specs.declared.refusal.Refusal.{Refusal}
 use Rattle.mot_objects.specs.declared.command.Command.{Command}
 use Rattle.mot_repository.specs.Repository.{Holds}
-use Rattle.mot_playout.specs.Server.{ServerView}
-use Rattle.mot_update.specs.Between.{IsUpdating, Telling}
-use Rattle.mot_update.specs.HasRun.{HasRun}
+use Rattle.mot_playout.specs.Runs.{ServerView}
+use Rattle.mot_update.specs.HasRun.{IsUpdating, Telling, HasRun}
 use Rattle.mot_update.proofs.Laws.{has_read, join}
 
 module _ {D : Type 0} (state : D → State) where

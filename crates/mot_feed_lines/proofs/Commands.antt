@@ -1,14 +1,14 @@
 -- What one command comes to.
-use Rattle.std.proofs.Common.{◌≡◌, ◌⊎◌, inl, inr, Bool, List, [], ◌∷◌, Option, Some, None}
-use Rattle.std.proofs.Common.{Result, Ok, Err, refl, sym, subst}
+use Rattle.std.proofs.Common.{◌≡◌, ◌⊎◌, inl, inr, Bool, List, [], ◌∷◌, Option, Some, None, Result}
+use Rattle.std.proofs.Common.{Ok, Err, refl, sym, subst}
 use Rattle.disk_model.specs.Disk.{State}
-use Rattle.mot_feed_lines.specs.Inner.Request.{end_of, ran_of}
+use Rattle.mot_feed_lines.specs.Inner.{end_of, ran_of}
 use Rattle.mot_journal.specs.Image.{Standing}
 use Rattle.mot_numbers.specs.declared.refusal.Refusal.{Refusal}
 use Rattle.mot_numbers.specs.declared.refusal.Refusal.TheVariants.{DeviceFault, Halted, OutOfMemory}
 use Rattle.mot_objects.specs.declared.command.Command.{Command}
 use Rattle.mot_playout.specs.Attempts as attempts
-use Rattle.mot_playout.specs.Server.{ServerView}
+use Rattle.mot_playout.specs.Runs.{ServerView}
 use Rattle.mot_playout.specs.declared.running.Attempt.{Attempt}
 use Rattle.mot_update.specs.Faults.{IsUpdateFault, TellsFaults}
 use Rattle.mot_update.specs.Faults as fault

@@ -1,14 +1,15 @@
 -- What one request comes to.
-use Rattle.std.proofs.Common.{◌≡◌, ◌⊎◌, inl, inr, false, true, List, [], Option, None, Result, ap, refl, subst, ◌∙◌}
+use Rattle.std.proofs.Common.{◌≡◌, ◌⊎◌, inl, inr, false, true, List, [], Option, None, Result, ap}
+use Rattle.std.proofs.Common.{refl, subst, ◌∙◌}
 use Rattle.disk_model.specs.Disk.{State, IsHonestDisk}
 use Rattle.disk_model.proofs.Laws.{unchanged_none}
-use Rattle.mot_feed_lines.specs.Inner.Request.{HasAnswered}
+use Rattle.mot_feed_lines.specs.Inner.{HasAnswered}
 use Rattle.mot_lines.specs.Line.{IsParsed}
 use Rattle.mot_lines.specs.declared.line.Line.{Line}
 use Rattle.mot_numbers.specs.declared.refusal.Refusal.{Refusal}
 use Rattle.mot_objects.specs.declared.command.Command.{Command}
-use Rattle.mot_playout.specs.Server.{ServerView}
-use Rattle.mot_session.specs.Stored.{command_in}
+use Rattle.mot_playout.specs.Runs.{ServerView}
+use Rattle.mot_session.specs.State.{command_in}
 use Rattle.mot_update.proofs.Laws.{has_read}
 
 -- false is not true

@@ -1,17 +1,17 @@
 -- What the lines of an input come to.
-use Rattle.std.proofs.Common.{◌≡◌, ◌∙◌, ℕ, List, [], ◌∷◌, ◌++◌, Option, None}
-use Rattle.std.proofs.Common.{refl, sym, ap, append_assoc, append-nil}
+use Rattle.std.proofs.Common.{◌≡◌, ◌∙◌, ℕ, List, [], ◌∷◌, ◌++◌, Option, None, refl, sym, ap}
+use Rattle.std.proofs.Common.{append_assoc, append-nil}
 use Rattle.disk_model.specs.Disk.{State, IsHonestDisk}
 use Rattle.disk_model.proofs.Laws.{unchanged_none}
 use Rattle.mot_feed_lines.specs.Answering.{AreAskedBy, IsAskedBy}
-use Rattle.mot_feed_lines.specs.Inner.Request.{AnswersMore, HasAnswered}
+use Rattle.mot_feed_lines.specs.Inner.{AnswersMore, HasAnswered}
 use Rattle.mot_lines.specs.Line.{line_of}
 use Rattle.mot_lines.specs.Lines.{rest_of, whole_lines}
 use Rattle.mot_lines.proofs.Laws.{whole_lines-end, whole_lines-front}
 use Rattle.mot_numbers.specs.declared.refusal.Refusal.{Refusal}
 use Rattle.mot_objects.specs.declared.command.Command.{Command}
-use Rattle.mot_playout.specs.Server.{ServerView}
-use Rattle.mot_session.specs.Stored.{command_in}
+use Rattle.mot_playout.specs.Runs.{ServerView}
+use Rattle.mot_session.specs.State.{command_in}
 use Rattle.mot_update.proofs.Laws.{has_read, join}
 
 -- ---- bytes

@@ -1,14 +1,13 @@
 -- What lines are answered that come between the packets of a feed.
-use Rattle.std.specs.Prelude.{◌≡◌, ◌≢◌, ◌⊎◌, ℕ, ◌<◌, Bool, List, [], ◌∷◌, ◌++◌}
-use Rattle.std.specs.Prelude.{Option, None, zero, suc}
-use Rattle.mot_lines.specs.Hand.{bytes_in_hand}
+use Rattle.std.specs.Prelude.{◌≡◌, ◌≢◌, ◌⊎◌, ℕ, ◌<◌, Bool, List, [], ◌∷◌, ◌++◌, Option, None, zero}
+use Rattle.std.specs.Prelude.{suc}
+use Rattle.mot_lines.specs.Lines.{bytes_in_hand, rest_of, whole_lines}
 use Rattle.mot_lines.specs.Line.{line_of}
-use Rattle.mot_lines.specs.Lines.{rest_of, whole_lines}
 use Rattle.mot_numbers.specs.declared.refusal.Refusal.{Refusal}
 use Rattle.mot_objects.specs.Carousel.{Carousel}
 use Rattle.mot_objects.specs.declared.command.Command.{Command}
-use Rattle.mot_session.specs.Stored.{command_in}
-use Rattle.mot_update.specs.Between.{Telling}
+use Rattle.mot_session.specs.State.{command_in}
+use Rattle.mot_update.specs.HasRun.{Telling}
 
 -- the command that a line asks for; or none, where it asks for none, or memory was wanted for it
 abbrev pub IsAskedBy : (line : List ℕ) → List Command → Type 0

@@ -2,15 +2,14 @@
 ghost use Rattle.std.specs.Prelude.{◌≡◌, ◌++◌, ◌∷◌, [], ℕ, List, None, IfNone, IfSome, ⊤};
 ghost use Rattle.disk_model.specs.Disk.{KeepsLength};
 ghost use Rattle.mot_feed_lines.specs.Answering.{TellsLines};
-ghost use Rattle.mot_feed_lines.specs.Inner.Request.{AnswersMore, HasAnswered, end_of};
-ghost use Rattle.mot_update.specs.Between.{IsUpdating};
+ghost use Rattle.mot_feed_lines.specs.Inner.{AnswersMore, HasAnswered, end_of};
+ghost use Rattle.mot_update.specs.HasRun.{IsUpdating};
 ghost use Rattle.mot_playout.specs.Attempts.{fault_of};
 ghost use Rattle.mot_journal.specs.Image.{Standing};
-ghost use Rattle.mot_lines.specs.Hand.{bytes_in_hand};
+ghost use Rattle.mot_lines.specs.Lines.{bytes_in_hand, rest_of};
 ghost use Rattle.mot_lines.specs.Line.{line_of};
-ghost use Rattle.mot_lines.specs.Lines.{rest_of};
 ghost use Rattle.mot_repository.specs.Repository.{Holds};
-ghost use Rattle.mot_session.specs.Stored.{command_in};
+ghost use Rattle.mot_session.specs.State.{command_in};
 ghost use Rattle.mot_update.specs.Faults.{TellsFaults};
 
 use crate::intake::Intake;

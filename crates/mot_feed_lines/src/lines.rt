@@ -2,10 +2,10 @@
 ghost use Rattle.std.specs.Prelude.{◌≡◌, ◌<◌, ◌-◌, ◌↔◌, [], ℕ, IsTrue, List, OnOk};
 ghost use Rattle.disk_model.specs.Disk.{KeepsLength};
 ghost use Rattle.mot_feed_lines.specs.Answering.{TellsOnTime};
-ghost use Rattle.mot_update.specs.Between.{IsUpdating};
+ghost use Rattle.mot_update.specs.HasRun.{IsUpdating};
 ghost use Rattle.mot_playout.specs.Attempts.{fault_of};
 ghost use Rattle.mot_journal.specs.Image.{Standing};
-ghost use Rattle.mot_lines.specs.Hand.{bytes_in_hand};
+ghost use Rattle.mot_lines.specs.Lines.{bytes_in_hand};
 ghost use Rattle.mot_repository.specs.Repository.{Holds};
 ghost use Rattle.mot_update.specs.Faults.{TellsFaults};
 

@@ -4,7 +4,7 @@ ghost use Rattle.disk_model.specs.Disk.{KeepsLength};
 ghost use Rattle.mot_journal.specs.Image.{Standing};
 ghost use Rattle.mot_repository.specs.Repository.{Holds};
 ghost use Rattle.mot_playout.specs.Attempts.{fault_of};
-ghost use Rattle.mot_update.specs.Between.{IsUpdating};
+ghost use Rattle.mot_update.specs.HasRun.{IsUpdating};
 ghost use Rattle.mot_update.specs.Faults.{TellsFaults};
 
 use disk_model::Disk;

@@ -1,7 +1,7 @@
 -- What a look at a folder does, and its log.
-use Rattle.std.specs.Prelude.{ℕ, ◌≡◌, ◌≢◌, ◌<◌, ◌≤◌, ◌⊎◌, ◌&&◌, ◌||◌, ◌-◌, nat_le}
-use Rattle.std.specs.Prelude.{Bool, true, false, ◌↔◌, not, if◌then◌else◌, List, [], ◌∷◌, ◌++◌}
-use Rattle.std.specs.Prelude.{length, map, Option, None, Some}
+use Rattle.std.specs.Prelude.{ℕ, ◌≡◌, ◌≢◌, ◌<◌, ◌≤◌, ◌⊎◌, ◌&&◌, ◌||◌, ◌-◌, nat_le, Bool, true}
+use Rattle.std.specs.Prelude.{false, ◌↔◌, not, if◌then◌else◌, List, [], ◌∷◌, ◌++◌, length, map}
+use Rattle.std.specs.Prelude.{Option, None, Some}
 use Rattle.std.specs.List.{AllByRecursion, flat_map}
 use Rattle.disk_model.specs.Disk.{State}
 use Rattle.mot_events.specs.Events.{event_of}
@@ -25,14 +25,12 @@ use Rattle.mot_numbers.specs.declared.refusal.Refusal.TheVariants.{OutOfMemory, 
 use Rattle.mot_numbers.specs.declared.refusal.Refusal.TheVariants.{TooManyObjects}
 use Rattle.mot_objects.specs.Carousel.{Carousel, carousel_after}
 use Rattle.mot_objects.specs.declared.command.Command.{Command}
-use Rattle.mot_playout.specs.Runs.{accepted_commands}
-use Rattle.mot_playout.specs.Server.{ServerView}
+use Rattle.mot_playout.specs.Runs.{accepted_commands, ServerView}
 use Rattle.mot_shelf.specs.Given.{Given, nothing}
 use Rattle.mot_shelf.specs.Gives.{Gives}
 use Rattle.mot_shelf.specs.View.{FolderView}
 use Rattle.mot_suffixes.specs.Types.{AreShown, SuffixType}
-use Rattle.mot_update.specs.Between.{may_look}
-use Rattle.mot_update.specs.HasRun.{HasRun}
+use Rattle.mot_update.specs.HasRun.{may_look, HasRun}
 use Rattle.mot_update.specs.Laws.{IsUpdate}
 use Rattle.mot_update.specs.Looking.{AreAccepted}
 use Rattle.mot_update.specs.Told.{Answer, AreAnswers, AreAttemptsOf}

@@ -1,18 +1,17 @@
 //! A look at a folder, and looks between the packets of a feed.
-ghost use Rattle.std.specs.Prelude.{◌≡◌, ◌&&◌, ◌||◌, ◌+◌, ◌/◌, ◌≤◌, [], OnOk, true};
-ghost use Rattle.std.specs.Prelude.{◌≢◌, ◌⊎◌, IfErr, None, Some};
-ghost use Rattle.std.specs.Prelude.{◌<◌, false, ℕ, List, if◌then◌else◌, length, min};
+ghost use Rattle.std.specs.Prelude.{◌≡◌, ◌&&◌, ◌||◌, ◌+◌, ◌/◌, ◌≤◌, [], OnOk, true, ◌≢◌, ◌⊎◌};
+ghost use Rattle.std.specs.Prelude.{IfErr, None, Some, ◌<◌, false, ℕ, List, if◌then◌else◌, length};
+ghost use Rattle.std.specs.Prelude.{min};
 ghost use Rattle.disk_model.specs.Disk.{KeepsLength};
-ghost use Rattle.mot_update.specs.Between.{IsUpdating, may_look};
-ghost use Rattle.mot_events.specs.Events.{is_listed};
-ghost use Rattle.mot_events.specs.Events.{event_of};
+ghost use Rattle.mot_update.specs.HasRun.{IsUpdating, may_look};
+ghost use Rattle.mot_events.specs.Events.{is_listed, event_of};
 ghost use Rattle.mot_events.specs.declared.event.Why.{Why};
 ghost use Rattle.mot_folder.specs.Log.{TellsOf, TellsOne, is_note, unlisted_for};
 ghost use Rattle.mot_folder.specs.Inner.Notes.{unknown_objects};
 ghost use Rattle.mot_folder.specs.Inner.Listing.{IsListed, TellsNameless, stage_of};
 ghost use Rattle.mot_folder.specs.Guard.{is_kept, kept_so};
-ghost use Rattle.mot_folder.specs.Looked.{HasLookedAtFolder, TellsWatch, is_look_due};
-ghost use Rattle.mot_folder.specs.Looked.{packets_left, packets_left_behind, so_far, watch};
+ghost use Rattle.mot_folder.specs.Looked.{HasLookedAtFolder, TellsWatch, is_look_due, packets_left};
+ghost use Rattle.mot_folder.specs.Looked.{packets_left_behind, so_far, watch};
 ghost use Rattle.mot_journal.specs.Image.{Standing};
 ghost use Rattle.mot_repository.specs.Repository.{Holds};
 ghost use Rattle.mot_update.specs.Faults.{TellsFaults};

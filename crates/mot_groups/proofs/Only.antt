@@ -1,9 +1,8 @@
 -- Only the bytes of a group read as it.
-use Rattle.std.proofs.Common.{◌≡◌, ℕ, ◌+◌, ◌-◌, ◌%◌, ◌^◌, ◌<◌, List, [], ◌∷◌, ◌++◌, true}
-use Rattle.std.proofs.Common.{refl, sym, length, take, drop, arith, ap, subst, ◌∙◌, length-take}
-use Rattle.std.proofs.Common.{length-drop, Some}
-use Rattle.std.proofs.lemmas.Bool.{and_parts, eqb-true, leb-true, ltb-true}
-use Rattle.std.proofs.lemmas.Bool.{not-true}
+use Rattle.std.proofs.Common.{◌≡◌, ℕ, ◌+◌, ◌-◌, ◌%◌, ◌^◌, ◌<◌, List, [], ◌∷◌, ◌++◌, true, refl, sym}
+use Rattle.std.proofs.Common.{length, take, drop, arith, ap, subst, ◌∙◌, length-take, length-drop}
+use Rattle.std.proofs.Common.{Some}
+use Rattle.std.proofs.lemmas.Bool.{and_parts, eqb-true, leb-true, ltb-true, not-true}
 use Rattle.std.proofs.lemmas.List.{take-append-drop, take-take}
 use Rattle.std.proofs.lemmas.List.Elements.{All-drop, All-same, All-take}
 use Rattle.std.proofs.Math.Nat.{mod-eq_of_lt}
@@ -15,12 +14,9 @@ use Rattle.mot_base.proofs.Laws.{append-without_crc}
 use Rattle.mot_groups.specs.Group.{GroupFields, IsGroup, group_with, header_widths, read_group}
 use Rattle.mot_groups.specs.Group.{bytes_of_group, group_of}
 use Rattle.mot_groups.proofs.ReadBack.{AreBytes-bytes_of_group, read_group-bytes_of_group}
-use Rattle.mot_numbers.specs.Bytes.{IsByte, AreBytes}
-use Rattle.mot_numbers.specs.Fields.{number_in, fields}
-use Rattle.mot_numbers.specs.Reading.{is_empty}
+use Rattle.mot_numbers.specs.Reading.{IsByte, AreBytes, number_in, fields, is_empty}
 use Rattle.mot_numbers.proofs.Laws.{fields-injective, length-some, number_in-fits}
-use Rattle.mot_numbers.proofs.Laws.{number_in-injective}
-use Rattle.mot_numbers.proofs.Laws.{one_or_zero}
+use Rattle.mot_numbers.proofs.Laws.{number_in-injective, one_or_zero}
 
 -- the header's fields, as a group has them
 abbrev header_of : GroupFields → List ℕ

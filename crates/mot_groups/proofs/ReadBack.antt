@@ -10,9 +10,7 @@ use Rattle.mot_base.proofs.Laws.{without_crc-append, ends_in_crc-append}
 use Rattle.mot_groups.specs.Group.{Segment, GroupFields, IsGroup, group_with, header_widths}
 use Rattle.mot_groups.specs.Group.{read_group, bytes_of_group, group_of, content_of}
 use Rattle.mot_groups.specs.Group.{segment_content}
-use Rattle.mot_numbers.specs.Bytes.{AreBytes}
-use Rattle.mot_numbers.specs.Fields.{number_in, fields}
-use Rattle.mot_numbers.specs.Reading.{is_empty}
+use Rattle.mot_numbers.specs.Reading.{AreBytes, number_in, fields, is_empty}
 use Rattle.mot_numbers.proofs.Laws.{AreBytes-append, AreBytes-cons, AreBytes-to_be_bytes, cons_eq}
 use Rattle.mot_numbers.proofs.Laws.{is_empty-some}
 

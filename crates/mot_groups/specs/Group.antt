@@ -5,8 +5,7 @@ use Rattle.std.specs.Prelude.{if◌then◌else◌, List, [], ◌∷◌, ◌++◌
 use Rattle.std.specs.Prelude.{None}
 use Rattle.std.specs.Int.{w16, to_be_bytes}
 use Rattle.mot_base.specs.Checksum.{crc_of, without_crc, ends_in_crc}
-use Rattle.mot_numbers.specs.Fields.{number_in, fields}
-use Rattle.mot_numbers.specs.Reading.{is_empty}
+use Rattle.mot_numbers.specs.Reading.{number_in, fields, is_empty}
 
 -- a segment of an entity: the type of its group, the entity's transport id, the segment's number,
 -- whether it is the last, its bytes

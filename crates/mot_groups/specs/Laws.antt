@@ -3,7 +3,7 @@ use Rattle.std.specs.Prelude.{◌≡◌, ℕ, ◌<◌, List, length, Some}
 use Rattle.mot_groups.specs.Entity.{entity_of, own_segments, segments_of}
 use Rattle.mot_groups.specs.Group.{GroupFields, IsGroup, Segment, bytes_of_group, content_of}
 use Rattle.mot_groups.specs.Group.{read_group, segment_content}
-use Rattle.mot_numbers.specs.Bytes.{AreBytes}
+use Rattle.mot_numbers.specs.Reading.{AreBytes}
 
 -- each group that can be written reads back
 abbrev pub GroupsReadBack : Type 0

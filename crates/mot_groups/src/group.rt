@@ -6,7 +6,7 @@ ghost use Rattle.mot_groups.specs.Entity.{IsCut, pieces};
 ghost use Rattle.mot_groups.specs.Group.{bytes_of_group, content_head, group_of, read_group};
 ghost use Rattle.mot_groups.specs.Laws.{EntitiesReadBack, GroupsHaveTheirContent, GroupsReadBack};
 ghost use Rattle.mot_groups.specs.Laws.{OnlyOwnBytesRead};
-ghost use Rattle.mot_numbers.specs.GroupKind.{kind_number};
+ghost use Rattle.mot_numbers.specs.PacketLength.{kind_number};
 
 use mot_base::{append, append_number, crc16};
 use mot_numbers::{GroupKind, MAX_SEGMENT, SegmentSize, TransportId};

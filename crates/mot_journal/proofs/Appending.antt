@@ -1,7 +1,6 @@
 -- What a crash leaves during an `append`.
-use Rattle.std.proofs.Common.{◌≡◌, inl, inr, ⊎_elim, ℕ, ◌+◌, ◌<◌, ◌≤◌, false, List, []}
-use Rattle.std.proofs.Common.{◌∷◌, ◌++◌, length, take, drop, get_or, Some, sym, ◌∙◌}
-use Rattle.std.proofs.Common.{ap, subst, arith}
+use Rattle.std.proofs.Common.{◌≡◌, inl, inr, ⊎_elim, ℕ, ◌+◌, ◌<◌, ◌≤◌, false, List, [], ◌∷◌, ◌++◌}
+use Rattle.std.proofs.Common.{length, take, drop, get_or, Some, sym, ◌∙◌, ap, subst, arith}
 use Rattle.std.specs.Prelude.{slice_index}
 use Rattle.std.proofs.lemmas.Bool.{cases_eq}
 use Rattle.std.proofs.lemmas.Bool.Decides.{nat_tests}
@@ -10,10 +9,9 @@ use Rattle.disk_model.specs.Disk.{State, AgreeOutside, IsHonestDisk, Torn, Throu
 use Rattle.disk_model.proofs.Laws.{agree_more, weakens}
 use Rattle.mot_journal.specs.declared.record.Record.{Record}
 use Rattle.mot_journal.specs.Slot.{is_open, read_slot, slot_size, slot_count, bytes_of_slot}
-use Rattle.mot_journal.specs.Inner.Steps.{IsBehindGate, IsWritten, IsGated}
+use Rattle.mot_journal.specs.Inner.Steps.{IsBehindGate, IsWritten, IsGated, start_of_slot}
 use Rattle.mot_journal.specs.Journal.{JournalView, HasRecords, HoldsRecords, FoldOf, WithoutOrWith}
 use Rattle.mot_journal.specs.Journal.{HasReadArea}
-use Rattle.mot_journal.specs.Inner.Places.{start_of_slot}
 use Rattle.mot_journal.proofs.NextSlot.{stays_closed, opens, same_area, gate_was_shut, gate_at}
 use Rattle.mot_journal.proofs.NextSlot.{slot_longer_than_gate, slot_within}
 use Rattle.mot_journal.proofs.Parts.{HasParts, has_parts, parts_have}

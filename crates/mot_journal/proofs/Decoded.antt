@@ -5,7 +5,7 @@ use Rattle.std.proofs.Common.{arith}
 use Rattle.std.specs.Prelude.{if◌then◌else◌, ◌==◌, nat_lt, slice_index, ◌&&◌}
 use Rattle.std.specs.Option.{option_map_or}
 use Rattle.std.proofs.lemmas.List.{drop-drop, length-take, length-drop}
-use Rattle.std.proofs.lemmas.Bool.{cases_lt, lt-ltb, false_from_ne_true}
+use Rattle.std.proofs.lemmas.Bool.{cases_lt, lt-ltb, false_from_ne_true, and_from}
 use Rattle.mot_journal.specs.Faults.{IsOutside}
 use Rattle.mot_numbers.specs.Reading.{◌>>=◌}
 use Rattle.std.proofs.lemmas.Bool.Decides.{nat_tests}
@@ -13,22 +13,17 @@ use Rattle.mot_journal.specs.declared.layout.Layout.{Layout}
 use Rattle.mot_journal.specs.declared.record.Record.{Record}
 use Rattle.mot_journal.specs.declared.record.Action.{Action}
 use Rattle.mot_journal.specs.declared.record.Action.TheVariants.{Nothing, Remove}
-use Rattle.mot_journal.specs.Geometry.{columns}
+use Rattle.mot_journal.specs.Geometry.{columns, number_at}
 use Rattle.mot_journal.specs.Inner.Unread.{BreaksSlot}
 use Rattle.mot_journal.specs.declared.decoding.SlotFault.{SlotFault}
 use Rattle.mot_journal.specs.declared.decoding.SlotFault.TheVariants.{OutOfMemory, Field}
 use Rattle.mot_journal.specs.Slot.{short_text_in, read_slot, is_sound, is_sound_action, kind_base}
 use Rattle.mot_journal.specs.Slot.{slot_columns, record_in, action_in}
-use Rattle.mot_journal.specs.Inner.Reading.{content_at, if_sound, set_in_slot}
-use Rattle.mot_journal.specs.Geometry.{number_at}
-use Rattle.mot_journal.specs.Inner.Reading.{action_in_slot, sound_action_of, name_from, mime_from}
+use Rattle.mot_journal.specs.Inner.Reading.{content_at, if_sound, set_in_slot, action_in_slot}
+use Rattle.mot_journal.specs.Inner.Reading.{sound_action_of, name_from, mime_from}
 use Rattle.mot_numbers.specs.declared.geometry.Geometry.{Geometry}
-use Rattle.mot_objects.specs.Name.{IsName}
+use Rattle.mot_objects.specs.Name.{IsName, IsMime, is_mime, is_name}
 use Rattle.mot_objects.proofs.Laws.{name_true, name_is, mime_true, mime_is}
-use Rattle.mot_objects.specs.Mime.{IsMime}
-use Rattle.mot_objects.specs.Mime.{is_mime}
-use Rattle.mot_objects.specs.Name.{is_name}
-use Rattle.std.proofs.lemmas.Bool.{and_from}
 use Rattle.mot_journal.proofs.Written.{entry, some-entry}
 
 -- an action that is there

@@ -8,17 +8,16 @@ use Rattle.std.proofs.lemmas.List.{length-take, length-drop, drop_all, get_or-ta
 use Rattle.std.proofs.lemmas.List.{get_or_past}
 use Rattle.std.proofs.lemmas.List.Elements.{All-from_get_or}
 use Rattle.byteorder.specs.Endian.{big_from, big_number}
-use Rattle.mot_numbers.specs.Bytes.{IsByte}
+use Rattle.mot_numbers.specs.Reading.{IsByte, number_in}
 use Rattle.mot_numbers.proofs.Laws.{number_in-fits}
 use Rattle.std.proofs.lemmas.Bool.{cases_lt}
 use Rattle.mot_journal.specs.declared.layout.Layout.{Layout}
 use Rattle.mot_journal.specs.declared.record.Record.{Record}
 use Rattle.mot_journal.specs.declared.record.Action.{Action}
 use Rattle.mot_journal.specs.declared.record.Action.TheVariants.{Set}
-use Rattle.mot_journal.specs.Slot.{action_bytes, mime_bytes, bytes_of_slot, kind_base}
-use Rattle.mot_journal.specs.Slot.{action_kind, slot_size}
-use Rattle.mot_numbers.specs.Fields.{number_in}
-use Rattle.mot_objects.specs.Content.{ContentNumbers}
+use Rattle.mot_journal.specs.Slot.{action_bytes, mime_bytes, bytes_of_slot, kind_base, action_kind}
+use Rattle.mot_journal.specs.Slot.{slot_size}
+use Rattle.mot_objects.specs.Name.{ContentNumbers}
 
 regroup : (o a b c d e f n m : List ℕ)
     → (((((((o ++ a) ++ b) ++ c) ++ d) ++ e) ++ f) ++ n) ++ m

@@ -1,8 +1,8 @@
 -- What an image has of a journal when its other half is filled and selected.
 use Rattle.std.proofs.Common.{◌≡◌, ◌⊎◌, inl, inr, ⊎_elim, ℕ, zero, suc, ◌+◌, ◌-◌, ◌*◌, ◌<◌, ◌≤◌}
-use Rattle.std.proofs.Common.{Bool, true, false, ◌&&◌, ◌==◌, List, [], ◌∷◌, ◌++◌}
-use Rattle.std.proofs.Common.{length, map, take, drop, get_or, replicate, Some, Ok, refl}
-use Rattle.std.proofs.Common.{sym, ◌∙◌, ap, arith, if◌then◌else◌, length-append, add-zero}
+use Rattle.std.proofs.Common.{Bool, true, false, ◌&&◌, ◌==◌, List, [], ◌∷◌, ◌++◌, length, map, take}
+use Rattle.std.proofs.Common.{drop, get_or, replicate, Some, Ok, refl, sym, ◌∙◌, ap, arith}
+use Rattle.std.proofs.Common.{if◌then◌else◌, length-append, add-zero}
 use Rattle.std.specs.Prelude.{slice_index, slice_get, take_while, IsOk, nat_le, bytes_eq}
 use Rattle.std.proofs.lemmas.Bool.{cases_eq}
 use Rattle.std.proofs.lemmas.Bool.Decides.{nat_tests}
@@ -16,30 +16,26 @@ use Rattle.mot_journal.specs.declared.layout.Layout.TheVariants.{One, Two}
 use Rattle.mot_journal.specs.declared.record.Record.{Record}
 use Rattle.mot_journal.specs.declared.record.Action.{Action}
 use Rattle.mot_journal.specs.declared.record.Action.TheVariants.{Nothing, Set, Remove}
-use Rattle.mot_journal.specs.Geometry.{geometry_of, selected_half, has_magic, magic}
+use Rattle.mot_journal.specs.Geometry.{geometry_of, selected_half, has_magic, magic, number_at}
 use Rattle.mot_journal.specs.Slot.{is_open, layout_of, read_slot, slot_size, slot_count}
 use Rattle.mot_journal.specs.Slot.{bytes_of_slot, kind_base, action_kind}
-use Rattle.mot_journal.specs.Image.{catalogue_of, or_damaged}
+use Rattle.mot_journal.specs.Image.{catalogue_of, or_damaged, records_in, area_of, are_gates_clean}
 use Rattle.mot_numbers.specs.Refusal.{◌>>=◌}
-use Rattle.mot_journal.specs.Image.{records_in, area_of, are_gates_clean}
-use Rattle.mot_journal.specs.Geometry.{number_at}
 use Rattle.mot_journal.specs.Inner.Steps.{slot_from, IsReadable, HasSlots}
 use Rattle.mot_journal.specs.Journal.{JournalView, in_other_half}
 use Rattle.mot_journal.proofs.Laws.{drop_behind, part, geometry_stays, half_selected_stays}
 use Rattle.mot_journal.proofs.OpenSlots.{AreShut, clean_of}
 use Rattle.mot_journal.proofs.Heads.{geometry_if, geometry_by_places, of as geometry_at}
-use Rattle.mot_journal.proofs.NextSlot.{part_of_half, byte_of_half, half_ends}
-use Rattle.mot_journal.proofs.NextSlot.{half_begins, slot_fits, second_byte}
+use Rattle.mot_journal.proofs.NextSlot.{part_of_half, byte_of_half, half_ends, half_begins}
+use Rattle.mot_journal.proofs.NextSlot.{slot_fits, second_byte, slot_longer_than_gate}
 use Rattle.mot_journal.proofs.Parts.{half_at, HasParts}
-use Rattle.mot_journal.proofs.Records.{written_open}
+use Rattle.mot_journal.proofs.Records.{written_open, ok}
 use Rattle.mot_journal.proofs.Slots.{slots, slot_of_place, length-slots_in}
 use Rattle.mot_journal.proofs.Written.{written_gate}
-use Rattle.mot_numbers.specs.Fields.{number_in}
+use Rattle.mot_numbers.specs.Reading.{number_in}
 use Rattle.mot_numbers.specs.declared.geometry.Geometry.{Geometry}
-use Rattle.mot_numbers.specs.Geometry.{half_size, half_start, area_start, length_of}
-use Rattle.mot_numbers.specs.Geometry.{is_valid, is_within}
-use Rattle.mot_journal.proofs.Records.{ok}
-use Rattle.mot_journal.proofs.NextSlot.{slot_longer_than_gate}
+use Rattle.mot_numbers.specs.Geometry.{half_size, half_start, area_start, length_of, is_valid}
+use Rattle.mot_numbers.specs.Geometry.{is_within}
 
 -- with any selector the geometry is the same
 pub geometry_beside_selector : (a b : List ℕ) → AgreeOutside 8 1 a b → geometry_of b ≡ geometry_of a

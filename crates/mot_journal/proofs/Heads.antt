@@ -6,16 +6,14 @@ use Rattle.std.proofs.lemmas.Bool.{leb-true, le-leb, false_from_ne_true}
 use Rattle.std.proofs.lemmas.List.{length-drop, length-append, drop-append-le, take-append-le}
 use Rattle.mot_journal.specs.Faults.{HasHeadFault}
 use Rattle.mot_journal.specs.Geometry.{geometry_of, geometry_in, has_magic, head_numbers, magic}
-use Rattle.mot_journal.specs.Inner.Loading.{HasRangeFault, IsNoHead}
+use Rattle.mot_journal.specs.Geometry.{number_at}
+use Rattle.mot_journal.specs.Inner.Reading.{HasRangeFault, IsNoHead}
 use Rattle.mot_journal.specs.declared.reason.HeadFault.{HeadFault}
 use Rattle.mot_journal.specs.declared.reason.HeadFault.TheVariants.{Short, Foreign, OutOfRange, Cut}
-use Rattle.mot_journal.specs.Geometry.{number_at}
 use Rattle.mot_journal.proofs.Decoded.{columns_from, and-false}
-use Rattle.mot_numbers.specs.Fields.{number_in}
-use Rattle.mot_numbers.specs.Reading.{◌>>=◌}
+use Rattle.mot_numbers.specs.Reading.{number_in, ◌>>=◌}
 use Rattle.mot_numbers.specs.declared.geometry.Geometry.{Geometry}
-use Rattle.mot_numbers.specs.Geometry.{length_of}
-use Rattle.mot_numbers.specs.Geometry.{is_valid}
+use Rattle.mot_numbers.specs.Geometry.{length_of, is_valid}
 
 number_front : (head rest : List ℕ) (at w : ℕ) → at + w ≤ length head
     → number_at at w (head ++ rest) ≡ number_at at w head

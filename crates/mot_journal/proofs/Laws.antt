@@ -8,22 +8,18 @@ use Rattle.std.proofs.lemmas.List.{ext_get_or, length-take, length-drop, get_or-
 use Rattle.std.proofs.lemmas.List.{drop-drop}
 use Rattle.disk_model.specs.Disk.{AgreeOutside}
 use Rattle.mot_journal.specs.Geometry.{columns, geometry_in, geometry_of, magic, selected_half}
-use Rattle.mot_journal.specs.Image.{catalogue_of}
+use Rattle.mot_journal.specs.Image.{catalogue_of, half_of, journal_in_half, or_not_formatted}
+use Rattle.mot_journal.specs.Image.{records_of, slots_of, has_clean_gates, are_gates_clean}
+use Rattle.mot_journal.specs.Image.{DiskRecords, Standing, area_of, rest_of, stands_for, IsClean}
 use Rattle.mot_numbers.specs.Refusal.{◌>>=◌ as result_then}
-use Rattle.mot_journal.specs.Catalogue.{Placed, Catalogue, body_in_area}
-use Rattle.mot_journal.specs.Catalogue.{carousel_in, extents_of}
-use Rattle.mot_journal.specs.Image.{half_of, journal_in_half, or_not_formatted, records_of}
-use Rattle.mot_journal.specs.Image.{slots_of, has_clean_gates, are_gates_clean, DiskRecords}
-use Rattle.mot_journal.specs.Image.{Standing, area_of, rest_of, stands_for, IsClean}
+use Rattle.mot_journal.specs.Catalogue.{Placed, Catalogue, body_in_area, carousel_in, extents_of}
 use Rattle.mot_journal.specs.declared.layout.Layout.{Layout}
 use Rattle.mot_journal.specs.declared.record.Record.{Record}
 use Rattle.mot_journal.specs.Slot.{layout_of}
 use Rattle.mot_journal.specs.Gaps.{IsBeside, AreBeside, standing_of}
-use Rattle.mot_numbers.specs.Fields.{number_in}
-use Rattle.mot_numbers.specs.Reading.{◌>>=◌}
+use Rattle.mot_numbers.specs.Reading.{number_in, ◌>>=◌}
 use Rattle.mot_numbers.specs.declared.geometry.Geometry.{Geometry}
-use Rattle.mot_numbers.specs.Geometry.{half_size, half_start, area_start, length_of}
-use Rattle.mot_numbers.specs.Geometry.{is_valid}
+use Rattle.mot_numbers.specs.Geometry.{half_size, half_start, area_start, length_of, is_valid}
 use Rattle.mot_numbers.specs.declared.refusal.Refusal.{Refusal}
 use Rattle.mot_objects.specs.Stands.{object_of}
 use Rattle.mot_objects.specs.Carousel as whole

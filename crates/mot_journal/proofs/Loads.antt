@@ -1,18 +1,19 @@
 -- What `load` makes of two reads: of the first 64 bytes of a disk, and of the half that they
 -- select.
-use Rattle.std.proofs.Common.{◌≡◌, ℕ, ◌+◌, ◌-◌, ◌*◌, ◌≤◌, Bool, true, false, List, ◌++◌, length, take}
-use Rattle.std.proofs.Common.{drop, replicate, Option, Some, None, Result, Ok, Err, refl, sym, ◌∙◌}
-use Rattle.std.proofs.Common.{ap, subst, arith, take-append-drop}
+use Rattle.std.proofs.Common.{◌≡◌, ℕ, ◌+◌, ◌-◌, ◌*◌, ◌≤◌, Bool, true, false, List, ◌++◌, length}
+use Rattle.std.proofs.Common.{take, drop, replicate, Option, Some, None, Result, Ok, Err, refl, sym}
+use Rattle.std.proofs.Common.{◌∙◌, ap, subst, arith, take-append-drop}
 use Rattle.std.specs.Prelude.{if◌then◌else◌, nat_le, ◌==◌, slice_index, is_err, IfSome, OnOk}
-use Rattle.std.proofs.lemmas.Bool.{leb-true}
+use Rattle.std.proofs.lemmas.Bool.{leb-true, and_parts}
 use Rattle.std.proofs.lemmas.List.{length-drop, length-append, length-replicate, get_or-take}
 use Rattle.std.proofs.Math.Seq.{take-append_seam}
 use Rattle.disk_model.specs.Disk.{State}
 use Rattle.mot_journal.specs.Geometry.{geometry_of, selected_half}
 use Rattle.mot_numbers.specs.Refusal.{◌>>=◌}
 use Rattle.mot_journal.specs.Image.{DiskRecords, records_of, half_of, journal_in_half}
+use Rattle.mot_journal.specs.Image.{or_not_formatted}
 use Rattle.mot_journal.specs.Faults.{HasFieldFault}
-use Rattle.mot_journal.specs.Inner.Loading.{IsNoHead, IsSlotReason}
+use Rattle.mot_journal.specs.Inner.Reading.{IsNoHead, IsSlotReason, IsHalfRefusal}
 use Rattle.mot_journal.specs.Reason.{IsReasonOf, refusal_of, slot_of}
 use Rattle.mot_journal.specs.Slot.{layout_of, slot_size}
 use Rattle.mot_journal.specs.declared.layout.Layout.{Layout}
@@ -22,20 +23,16 @@ use Rattle.mot_journal.specs.declared.reason.Reason.TheVariants.{Formatted, Smal
 use Rattle.mot_journal.specs.declared.reason.Fault.{Fault}
 use Rattle.mot_journal.specs.declared.reason.HeadFault.{HeadFault}
 use Rattle.mot_journal.specs.declared.reason.Reason.{Reason}
-use Rattle.mot_journal.specs.Image.{or_not_formatted}
-use Rattle.mot_journal.specs.Inner.Loading.{IsHalfRefusal}
-use Rattle.mot_journal.specs.Inner.Loading.IsHalfRefusal.{no_memory as half_memory}
-use Rattle.mot_journal.specs.Inner.Loading.IsHalfRefusal.{damaged as half_damaged}
+use Rattle.mot_journal.specs.Inner.Reading.IsHalfRefusal.{no_memory as half_memory}
+use Rattle.mot_journal.specs.Inner.Reading.IsHalfRefusal.{damaged as half_damaged}
 use Rattle.mot_journal.specs.Journal.{IsLoadRefusal}
 use Rattle.mot_journal.specs.Journal.IsReadingRefusal.{no_memory, damaged}
 use Rattle.mot_numbers.specs.declared.refusal.Refusal.{Refusal}
 use Rattle.mot_numbers.specs.declared.refusal.Refusal.TheVariants.{NotFormatted}
 use Rattle.mot_numbers.specs.declared.geometry.Geometry.{Geometry}
-use Rattle.mot_numbers.specs.Geometry.{length_of, half_size, half_start}
-use Rattle.mot_numbers.specs.Geometry.{is_valid}
+use Rattle.mot_numbers.specs.Geometry.{length_of, half_size, half_start, is_valid}
 use Rattle.std.proofs.lemmas.Bool.Decides.{nat_tests}
 use Rattle.mot_journal.proofs.Heads.{geometry_if, has_geometry_if}
-use Rattle.std.proofs.lemmas.Bool.{and_parts}
 
 some-if : (g : Geometry) (x : Geometry) (b : Bool) → geometry_if x b ≡ geometry_if g true
     → (b ≡ true) × (x ≡ g)

@@ -1,6 +1,7 @@
 -- What a crash leaves while a disk is made.
-use Rattle.std.proofs.Common.{◌≡◌, ◌⊎◌, inl, inr, ⊎_elim, ℕ, zero, suc, ◌+◌, ◌-◌, ◌*◌, ◌<◌, ◌≤◌, true}
-use Rattle.std.proofs.Common.{false, List, [], ◌∷◌, length, take, slice_range, refl, sym, ◌∙◌, ap, arith}
+use Rattle.std.proofs.Common.{◌≡◌, ◌⊎◌, inl, inr, ⊎_elim, ℕ, zero, suc, ◌+◌, ◌-◌, ◌*◌, ◌<◌, ◌≤◌}
+use Rattle.std.proofs.Common.{true, false, List, [], ◌∷◌, length, take, slice_range, refl, sym, ◌∙◌}
+use Rattle.std.proofs.Common.{ap, arith}
 use Rattle.std.specs.Prelude.{bytes_eq, IsOk}
 use Rattle.std.proofs.lemmas.Bool.{cases_Bool, and_from, lt-ltb}
 use Rattle.disk_model.specs.Disk.{State, AgreeOutside, IsHonestDisk, WritesWithin, Torn, Throughout}
@@ -12,7 +13,7 @@ use Rattle.mot_journal.specs.Inner.Format.{first_record, behind_magic, HasAllBut
 use Rattle.mot_journal.specs.Inner.Steps.{ChangesWithin, HasSlots, Publishes, LeavesWritten}
 use Rattle.mot_journal.specs.Image.{catalogue_of, area_of}
 use Rattle.mot_journal.specs.Journal.{HasAreaOf}
-use Rattle.mot_journal.specs.Made.{IsMade, NoneOrMade}
+use Rattle.mot_journal.specs.Making.{IsMade, NoneOrMade}
 use Rattle.mot_journal.specs.declared.record.Record.{Record}
 use Rattle.mot_journal.proofs.Laws.{drop_behind, part}
 use Rattle.mot_journal.proofs.Fill.{unchanged, one_more, slot_ends, range_whole}

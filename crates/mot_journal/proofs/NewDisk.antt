@@ -8,15 +8,13 @@ use Rattle.std.proofs.lemmas.List.{get_or-take, get_or-drop, drop-drop, replicat
 use Rattle.std.proofs.Math.Nat.{suc-mul}
 use Rattle.std.proofs.Math.Seq.{take-add}
 use Rattle.mot_journal.specs.declared.layout.Layout.TheVariants.{Two}
-use Rattle.mot_journal.specs.Geometry.{geometry_of, has_magic}
-use Rattle.mot_journal.specs.Image.{IsSecondHalfEmpty, area_of}
-use Rattle.mot_journal.specs.Made.{IsMade}
+use Rattle.mot_journal.specs.Geometry.{geometry_of, has_magic, number_at}
+use Rattle.mot_journal.specs.Image.{IsSecondHalfEmpty, area_of, catalogue_of, fold_from}
+use Rattle.mot_journal.specs.Making.{IsMade}
 use Rattle.mot_journal.specs.declared.record.Record.{Record}
 use Rattle.mot_journal.specs.Slot.{slot_count, slot_size}
-use Rattle.mot_journal.specs.Image.{catalogue_of, fold_from}
 use Rattle.mot_journal.specs.Catalogue.{Catalogue, new_catalogue}
 use Rattle.mot_journal.specs.Inner.Format.{first_record, behind_magic, HasAllButMagic}
-use Rattle.mot_journal.specs.Geometry.{number_at}
 use Rattle.mot_journal.specs.Inner.Steps.{HasSlots}
 use Rattle.mot_journal.specs.Journal.{IsNewDisk, JournalView, with_records}
 use Rattle.mot_journal.proofs.Laws.{stands_by_parts}
@@ -25,7 +23,7 @@ use Rattle.mot_journal.proofs.Heads.{geometry_if, geometry_by_places, all_three,
 use Rattle.mot_journal.proofs.NextSlot.{part_of_half}
 use Rattle.mot_journal.proofs.Parts.{HasParts, parts_have}
 use Rattle.mot_journal.proofs.Written.{number_2, number_4}
-use Rattle.mot_numbers.specs.Fields.{number_in}
+use Rattle.mot_numbers.specs.Reading.{number_in}
 use Rattle.mot_numbers.specs.declared.geometry.Geometry.{Geometry}
 use Rattle.mot_numbers.specs.Geometry.{IsValid, length_of, half_size, half_start, area_start}
 use Rattle.mot_numbers.specs.Geometry.{is_valid}

@@ -1,8 +1,8 @@
 -- What an image has of a journal when the first closed slot of its half changes.
 use Rattle.std.proofs.Common.{◌≡◌, ◌⊎◌, inl, inr, ℕ, zero, suc, ◌+◌, ◌*◌, ◌<◌, ◌≤◌, Bool, true}
-use Rattle.std.proofs.Common.{false, ◌&&◌, ◌==◌, List, [], ◌∷◌, ◌++◌}
-use Rattle.std.proofs.Common.{length, take, drop, get_or, set, Some, Ok, refl, sym, ◌∙◌, ap, subst}
-use Rattle.std.proofs.Common.{arith, add-zero, append_assoc, if◌then◌else◌}
+use Rattle.std.proofs.Common.{false, ◌&&◌, ◌==◌, List, [], ◌∷◌, ◌++◌, length, take, drop, get_or}
+use Rattle.std.proofs.Common.{set, Some, Ok, refl, sym, ◌∙◌, ap, subst, arith, add-zero}
+use Rattle.std.proofs.Common.{append_assoc, if◌then◌else◌}
 use Rattle.std.specs.Prelude.{slice_index, take_while, IsOk}
 use Rattle.std.proofs.lemmas.Bool.{cases_eq, cases_lt}
 use Rattle.std.proofs.lemmas.List.{ext_get_or, length-take, length-drop, get_or-take, get_or-drop}
@@ -17,10 +17,9 @@ use Rattle.mot_journal.specs.declared.record.Action.TheVariants.{Nothing, Set, R
 use Rattle.mot_journal.specs.Geometry.{geometry_of, selected_half}
 use Rattle.mot_journal.specs.Slot.{is_open, layout_of, read_slot, slot_size, slot_count}
 use Rattle.mot_journal.specs.Slot.{bytes_of_slot, kind_base, action_kind}
-use Rattle.mot_journal.specs.Image.{catalogue_of}
-use Rattle.mot_journal.specs.Image.{records_in, area_of}
+use Rattle.mot_journal.specs.Image.{catalogue_of, records_in, area_of}
 use Rattle.mot_journal.specs.Journal.{JournalView}
-use Rattle.mot_journal.specs.Inner.Places.{start_of_slot}
+use Rattle.mot_journal.specs.Inner.Steps.{start_of_slot}
 use Rattle.mot_journal.proofs.Laws.{drop_behind, part, geometry_stays, half_selected_stays}
 use Rattle.mot_journal.proofs.OpenSlots.{AreShut, IsSplit, split_at, clean_of, length_read}
 use Rattle.mot_journal.proofs.OpenSlots.{shut_from}
@@ -29,8 +28,7 @@ use Rattle.mot_journal.proofs.Records.{are_open_more, records_more}
 use Rattle.mot_journal.proofs.Slots.{slot_of_place, length-slots_in}
 use Rattle.mot_journal.proofs.Written.{written_is_open}
 use Rattle.mot_numbers.specs.declared.geometry.Geometry.{Geometry}
-use Rattle.mot_numbers.specs.Geometry.{half_size, half_start, area_start}
-use Rattle.mot_numbers.specs.Geometry.{is_within}
+use Rattle.mot_numbers.specs.Geometry.{half_size, half_start, area_start, is_within}
 use Rattle.std.proofs.Math.Bool.{and-false}
 
 -- a slot of a half is a part of the image

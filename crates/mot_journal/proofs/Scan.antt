@@ -1,8 +1,8 @@
 -- The gates of a half, piece by piece, and those of a piece, one after the other.
 use Rattle.std.proofs.Common.{◌≡◌, inl, inr, ℕ, zero, suc, ◌+◌, ◌-◌, ◌*◌, ◌/◌, ◌<◌, ◌≤◌, min, Bool}
-use Rattle.std.proofs.Common.{true, false, not, ◌&&◌, ◌==◌}
-use Rattle.std.proofs.Common.{List, [], ◌∷◌, ◌++◌, length, take, drop, get_or, Option, Some, None}
-use Rattle.std.proofs.Common.{refl, sym, ◌∙◌, ap, arith, if◌then◌else◌, add-one}
+use Rattle.std.proofs.Common.{true, false, not, ◌&&◌, ◌==◌, List, [], ◌∷◌, ◌++◌, length, take, drop}
+use Rattle.std.proofs.Common.{get_or, Option, Some, None, refl, sym, ◌∙◌, ap, arith, if◌then◌else◌}
+use Rattle.std.proofs.Common.{add-one}
 use Rattle.std.specs.Prelude.{take_while, is_some, slice_range}
 use Rattle.std.specs.List.{list_all}
 use Rattle.std.proofs.lemmas.Bool.{cases_Bool}
@@ -15,7 +15,7 @@ use Rattle.mot_journal.specs.declared.layout.Layout.{Layout}
 use Rattle.mot_journal.specs.declared.layout.Layout.TheVariants.{One, Two}
 use Rattle.mot_journal.specs.Slot.{is_open, slot_size, slot_count}
 use Rattle.mot_journal.specs.Image.{are_gates_clean, gate_reads, slots_in}
-use Rattle.mot_journal.specs.Inner.Scan.{scan}
+use Rattle.mot_journal.specs.Inner.Steps.{scan}
 use Rattle.mot_journal.proofs.Fill.{range_whole}
 use Rattle.mot_journal.proofs.NextSlot.{part_of_half, gate_at, slot_longer_than_gate}
 use Rattle.mot_journal.proofs.Slots.{slot_of_place, length-slots_in, times-suc}

@@ -1,26 +1,22 @@
 -- The action of a slot that sets an object, from its parts.
-use Rattle.std.proofs.Common.{◌≡◌, ◌⊎◌, inl, inr, ℕ, ◌+◌, ◌-◌, ◌≤◌, ◌<◌, Bool, true, false, List, length}
-use Rattle.std.proofs.Common.{take, drop, Option, Some, None, sym, ◌∙◌, ap, arith}
+use Rattle.std.proofs.Common.{◌≡◌, ◌⊎◌, inl, inr, ℕ, ◌+◌, ◌-◌, ◌≤◌, ◌<◌, Bool, true, false, List}
+use Rattle.std.proofs.Common.{length, take, drop, Option, Some, None, sym, ◌∙◌, ap, arith}
 use Rattle.std.specs.Prelude.{if◌then◌else◌, nat_lt, nat_le}
 use Rattle.std.specs.Option.{option_map_or}
 use Rattle.std.proofs.Math.Seq.{take-length}
 use Rattle.std.proofs.lemmas.List.{drop-drop, length-drop, length-take}
-use Rattle.std.proofs.lemmas.Bool.{cases_Bool, cases_lt, le-leb, lt-ltb, leb-true}
-use Rattle.std.proofs.lemmas.Bool.{ltb-true, false_from_ne_true}
+use Rattle.std.proofs.lemmas.Bool.{cases_Bool, cases_lt, le-leb, lt-ltb, leb-true, ltb-true}
+use Rattle.std.proofs.lemmas.Bool.{false_from_ne_true, and_from, and_parts}
 use Rattle.mot_journal.specs.declared.layout.Layout.{Layout}
 use Rattle.mot_journal.specs.declared.layout.Layout.TheVariants.{One, Two}
 use Rattle.mot_journal.specs.declared.record.Action.TheVariants.{Set}
 use Rattle.mot_journal.specs.Slot.{short_text_in, is_sound_action, longest_name, slot_size}
-use Rattle.mot_journal.specs.Inner.Reading.{content_at, if_sound, set_in_slot, name_from}
+use Rattle.mot_journal.specs.Inner.Reading.{content_at, if_sound, set_in_slot, name_from, mime_from}
 use Rattle.mot_journal.specs.Geometry.{number_at}
-use Rattle.mot_journal.specs.Inner.Reading.{mime_from}
-use Rattle.std.proofs.lemmas.Bool.{and_from, and_parts}
 use Rattle.mot_journal.proofs.Decoded.{text, act-of, kept, and-false}
 use Rattle.mot_journal.proofs.Written.{same-set}
 use Rattle.mot_numbers.specs.declared.geometry.Geometry.{Geometry}
-use Rattle.mot_objects.specs.Content.{ContentNumbers}
-use Rattle.mot_objects.specs.Mime.{is_mime}
-use Rattle.mot_objects.specs.Name.{is_name}
+use Rattle.mot_objects.specs.Name.{ContentNumbers, is_mime, is_name}
 
 -- what follows a name of n bytes
 pub rest_is : (xs : List ℕ) (at n : ℕ)

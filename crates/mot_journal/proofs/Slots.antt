@@ -16,7 +16,7 @@ use Rattle.mot_journal.specs.Slot.{record_in, slot_columns}
 use Rattle.mot_journal.specs.Geometry.{columns}
 use Rattle.mot_numbers.specs.Refusal.{◌>>=◌ as result_then}
 use Rattle.mot_journal.specs.Image.{DiskRecords, records_in, slots_in, journal_in_half}
-use Rattle.mot_journal.specs.Inner.Loading.{HalfHas}
+use Rattle.mot_journal.specs.Inner.Reading.{HalfHas}
 use Rattle.mot_journal.proofs.Records.{AreOpen, open_front, open_then_shut, are_open_more}
 use Rattle.mot_journal.proofs.Records.{records_more, records_fault}
 use Rattle.mot_numbers.specs.declared.refusal.Refusal.{Refusal}

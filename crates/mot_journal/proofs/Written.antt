@@ -16,11 +16,10 @@ use Rattle.mot_journal.specs.declared.record.Action.TheVariants.{Nothing, Set, R
 use Rattle.mot_journal.specs.Slot.{action_bytes, action_kind, read_slot, bytes_of_slot, is_sound}
 use Rattle.mot_journal.specs.Slot.{is_sound_action, longest_name, short_text_in, mime_bytes}
 use Rattle.mot_journal.specs.Slot.{is_open, slot_size, kind_base}
-use Rattle.mot_journal.specs.Inner.Fitting.{FitsAction, FitsSlot}
-use Rattle.mot_numbers.specs.Fields.{number_in}
+use Rattle.mot_journal.specs.Inner.Steps.{FitsAction, FitsSlot}
+use Rattle.mot_numbers.specs.Reading.{number_in}
 use Rattle.mot_numbers.specs.declared.geometry.Geometry.{Geometry}
-use Rattle.mot_objects.specs.Content.{ContentNumbers}
-use Rattle.mot_objects.specs.Mime.{is_mime}
+use Rattle.mot_objects.specs.Name.{ContentNumbers, is_mime}
 use Rattle.std.proofs.lemmas.Bool.{and_parts}
 
 -- columns of one to four bytes

@@ -9,8 +9,8 @@ use Rattle.mot_journal.specs.Slot.{kind_base, longest_name, short_text_in}
 use Rattle.mot_journal.specs.declared.layout.Layout.{Layout}
 use Rattle.mot_journal.specs.declared.reason.FieldFault.{FieldFault}
 use Rattle.mot_journal.specs.declared.reason.FieldFault.TheVariants.{Directory, Last, Kind, Object}
-use Rattle.mot_journal.specs.declared.reason.FieldFault.TheVariants.{Content, Length, Extent}
-use Rattle.mot_journal.specs.declared.reason.FieldFault.TheVariants.{Name, Mime}
+use Rattle.mot_journal.specs.declared.reason.FieldFault.TheVariants.{Content, Length, Extent, Name}
+use Rattle.mot_journal.specs.declared.reason.FieldFault.TheVariants.{Mime}
 use Rattle.mot_journal.specs.declared.reason.HeadFault.{HeadFault}
 use Rattle.mot_journal.specs.declared.reason.HeadFault.TheVariants.{Short, Foreign, OutOfRange, Cut}
 use Rattle.mot_journal.specs.declared.reason.ListFault.{ListFault}
@@ -27,8 +27,7 @@ use Rattle.mot_numbers.specs.declared.geometry.Geometry.{Geometry}
 use Rattle.mot_numbers.specs.declared.geometry.TheConstants.{MAX_OBJECTS, MAX_DATA_AREA}
 use Rattle.mot_numbers.specs.declared.numbers.TheConstants.{MAX_ADDRESS, MIN_SEGMENT, MAX_SEGMENT}
 use Rattle.mot_objects.specs.Ids.{contains, is_distinct}
-use Rattle.mot_objects.specs.Mime.{is_mime}
-use Rattle.mot_objects.specs.Name.{is_name}
+use Rattle.mot_objects.specs.Name.{is_mime, is_name}
 use Rattle.mot_objects.specs.declared.body.TheConstants.{MAX_BODY}
 use Rattle.mot_objects.specs.declared.content.TheConstants.{MAX_SUBTYPE, MAX_TYPE}
 

@@ -1,12 +1,9 @@
 -- The head of a disk, and where its parts lie (own format).
-use Rattle.std.specs.Prelude.{ℕ, Bool, ◌&&◌, ◌==◌, nat_le, if◌then◌else◌, List, []}
-use Rattle.std.specs.Prelude.{◌∷◌, length, take, drop, slice_index, Option, Some}
-use Rattle.std.specs.Prelude.{None, bytes_eq, codes}
-use Rattle.mot_numbers.specs.Fields.{number_in}
-use Rattle.mot_numbers.specs.Reading.{◌>>=◌}
-use Rattle.mot_numbers.specs.Geometry.{length_of}
+use Rattle.std.specs.Prelude.{ℕ, Bool, ◌&&◌, ◌==◌, nat_le, if◌then◌else◌, List, [], ◌∷◌, length}
+use Rattle.std.specs.Prelude.{take, drop, slice_index, Option, Some, None, bytes_eq, codes}
+use Rattle.mot_numbers.specs.Reading.{number_in, ◌>>=◌}
+use Rattle.mot_numbers.specs.Geometry.{length_of, is_valid}
 use Rattle.mot_numbers.specs.declared.geometry.Geometry.{Geometry}
-use Rattle.mot_numbers.specs.Geometry.{is_valid}
 
 -- the bytes cut into columns of these widths, each read as a number; what follows the last is left
 abbrev pub columns : List ℕ → List ℕ → List ℕ

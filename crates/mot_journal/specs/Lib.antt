@@ -5,7 +5,6 @@ pub mod Geometry
 pub mod Image
 pub mod Inner
 pub mod Journal
-pub mod Made
 pub mod Making
 pub mod Reason
 pub mod Slot

@@ -1,7 +1,7 @@
 -- A slot of the journal: a gate, and the record after it (own format).
-use Rattle.std.specs.Prelude.{ℕ, ◌+◌, ◌*◌, ◌-◌, Bool, true, ◌&&◌, ◌==◌, nat_lt}
-use Rattle.std.specs.Prelude.{nat_le, if◌then◌else◌, List, [], ◌∷◌, ◌++◌, length, take, drop}
-use Rattle.std.specs.Prelude.{replicate, slice_index, Option, Some, None}
+use Rattle.std.specs.Prelude.{ℕ, ◌+◌, ◌*◌, ◌-◌, Bool, true, ◌&&◌, ◌==◌, nat_lt, nat_le}
+use Rattle.std.specs.Prelude.{if◌then◌else◌, List, [], ◌∷◌, ◌++◌, length, take, drop, replicate}
+use Rattle.std.specs.Prelude.{slice_index, Option, Some, None, ◌≡◌, All}
 use Rattle.std.specs.Int.{w16, w32, to_be_bytes, bytes_high_first}
 use Rattle.std.specs.Option.{option_map_or}
 use Rattle.mot_journal.specs.declared.layout.Layout.{Layout}
@@ -13,14 +13,10 @@ use Rattle.mot_journal.specs.Geometry.{columns}
 use Rattle.mot_numbers.specs.Reading.{◌>>=◌}
 use Rattle.mot_numbers.specs.declared.geometry.Geometry.{Geometry}
 use Rattle.mot_numbers.specs.Geometry.{is_within}
-use Rattle.mot_objects.specs.Content.{ContentNumbers}
+use Rattle.mot_objects.specs.Name.{ContentNumbers, is_name, is_mime}
 use Rattle.mot_objects.specs.declared.body.TheConstants.{MAX_BODY}
 use Rattle.mot_objects.specs.declared.content.TheConstants.{MAX_SUBTYPE, MAX_TYPE}
 use Rattle.mot_objects.specs.declared.name.TheConstants.{MAX_NAME}
-use Rattle.std.specs.Prelude.{◌≡◌}
-use Rattle.std.specs.Prelude.{All}
-use Rattle.mot_objects.specs.Name.{is_name}
-use Rattle.mot_objects.specs.Mime.{is_mime}
 
 abbrev pub slot_size : Layout → ℕ
 slot_size One = 256

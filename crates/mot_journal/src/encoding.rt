@@ -1,15 +1,11 @@
 //! The slot of a record, as it is written.
 ghost use Rattle.std.specs.Prelude.{◌≡◌, ◌+◌, ◌-◌, ◌^◌, ◌<◌, ◌≤◌, ◌++◌, length, replicate, true};
-ghost use Rattle.std.specs.Prelude.{slice_get};
+ghost use Rattle.std.specs.Prelude.{slice_get, Some};
 ghost use Rattle.std.specs.Int.{bytes_high_first};
-ghost use Rattle.std.specs.Prelude.{Some};
 ghost use Rattle.arrayvec.specs.ArrayVec.{array_vec_len};
 ghost use Rattle.mot_journal.specs.Slot.{slot_size, bytes_of_slot, read_slot, is_sound};
-ghost use Rattle.mot_journal.specs.Slot.{action_kind};
-ghost use Rattle.mot_journal.specs.Slot.{action_bytes, mime_bytes};
-ghost use Rattle.mot_journal.specs.Inner.Fitting.{FitsAction};
-ghost use Rattle.mot_journal.specs.Inner.Steps.{slot_from, IsReadable};
-ghost use Rattle.mot_journal.specs.Slot.{AreSound};
+ghost use Rattle.mot_journal.specs.Slot.{action_kind, action_bytes, mime_bytes, AreSound};
+ghost use Rattle.mot_journal.specs.Inner.Steps.{FitsAction, slot_from, IsReadable};
 ghost use Rattle.mot_numbers.specs.declared.geometry.Geometry.{Geometry as Sizes};
 
 use crate::{Action, Layout, Record};

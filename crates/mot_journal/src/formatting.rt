@@ -1,15 +1,14 @@
 //! Making a new disk.
-ghost use Rattle.std.specs.Prelude.{◌≡◌, ◌+◌, ◌-◌, ◌*◌, ◌≤◌, ◌<◌, ℕ, List, length, false, OnOk, IfOk};
+ghost use Rattle.std.specs.Prelude.{◌≡◌, ◌+◌, ◌-◌, ◌*◌, ◌≤◌, ◌<◌, ℕ, List, length, false, OnOk};
+ghost use Rattle.std.specs.Prelude.{IfOk};
 ghost use Rattle.arrayvec.specs.ArrayVec.{array_vec_len};
-ghost use Rattle.disk_model.specs.Disk.{Keeps, OnlySyncs};
+ghost use Rattle.disk_model.specs.Disk.{Keeps, OnlySyncs, Throughout, Costs, IsFirm};
 ghost use Rattle.disk_model.specs.Failures.{HasCause};
-ghost use Rattle.disk_model.specs.Disk.{Throughout, Costs, IsFirm};
 ghost use Rattle.mot_journal.specs.declared.layout.Layout.TheVariants.{Two};
 ghost use Rattle.mot_journal.specs.Geometry.{has_magic};
 ghost use Rattle.mot_journal.specs.Slot.{slot_count, AreSound};
 ghost use Rattle.mot_journal.specs.Journal.{HasAreaOf, IsNewDisk, NoneOrFrom};
-ghost use Rattle.mot_journal.specs.Made.{MakesWith};
-ghost use Rattle.mot_journal.specs.Making.{MakesDisk};
+ghost use Rattle.mot_journal.specs.Making.{MakesWith, MakesDisk};
 ghost use Rattle.mot_journal.specs.Inner.Steps.{ChangesWithin, HasCauseOf};
 ghost use Rattle.mot_journal.specs.Inner.Format.{HasAllButMagic, behind_magic};
 ghost use Rattle.mot_numbers.specs.Geometry.{IsValid, area_start, length_of};

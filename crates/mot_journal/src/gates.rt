@@ -4,8 +4,7 @@ ghost use Rattle.disk_model.specs.Disk.{OnlyReads};
 ghost use Rattle.disk_model.specs.Failures.{Rises};
 ghost use Rattle.mot_journal.specs.Image.{are_gates_clean as gates_clean, gate_reads, slots_in};
 ghost use Rattle.mot_journal.specs.Slot.{slot_size};
-ghost use Rattle.mot_journal.specs.Inner.Scan.{scan};
-ghost use Rattle.mot_journal.specs.Inner.Steps.{slots_in_half};
+ghost use Rattle.mot_journal.specs.Inner.Steps.{scan, slots_in_half};
 ghost use Rattle.mot_numbers.specs.Geometry.{length_of};
 
 use crate::encoding::OPEN;

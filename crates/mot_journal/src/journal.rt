@@ -1,24 +1,21 @@
 //! The journal of a disk that was loaded.
-ghost use Rattle.std.specs.Prelude.{◌≡◌, ◌≤◌, ◌<◌, ◌+◌, ◌^◌, ◌++◌, List, [], ◌∷◌, length, true};
-ghost use Rattle.std.specs.Prelude.{Ok, OnOk, OnErr, MatchResult};
-ghost use Rattle.std.specs.Prelude.{◌↔◌, IfOk, IfErr, IfSome, IsErr, IsTrue, IsFalse, All};
-ghost use Rattle.disk_model.specs.Disk.{Keeps, Costs, OnlyReads};
+ghost use Rattle.std.specs.Prelude.{◌≡◌, ◌≤◌, ◌<◌, ◌+◌, ◌^◌, ◌++◌, List, [], ◌∷◌, length, true, Ok};
+ghost use Rattle.std.specs.Prelude.{OnOk, OnErr, MatchResult, ◌↔◌, IfOk, IfErr, IfSome, IsErr};
+ghost use Rattle.std.specs.Prelude.{IsTrue, IsFalse, All};
+ghost use Rattle.disk_model.specs.Disk.{Keeps, Costs, OnlyReads, Throughout};
 ghost use Rattle.disk_model.specs.Failures.{HasCause, Rises};
-ghost use Rattle.disk_model.specs.Disk.{Throughout};
 ghost use Rattle.mot_journal.specs.Geometry.{geometry_of};
-ghost use Rattle.mot_journal.specs.Slot.{is_sound, slot_count};
+ghost use Rattle.mot_journal.specs.Slot.{is_sound, slot_count, AreSound};
 ghost use Rattle.mot_journal.specs.Image.{records_of, has_clean_gates, gate_reads};
-ghost use Rattle.mot_journal.specs.Journal.{JournalView, with_records, IsLoadRefusal};
-ghost use Rattle.mot_journal.specs.Inner.Places.{start_of_slot};
-ghost use Rattle.mot_journal.specs.Journal.{HoldsRecords, FoldOf, WithoutOrWith, OnlyReadArea};
-ghost use Rattle.mot_journal.specs.Journal.{StandsWhere, RewritesTo};
+ghost use Rattle.mot_journal.specs.Journal.{JournalView, with_records, IsLoadRefusal, HoldsRecords};
+ghost use Rattle.mot_journal.specs.Journal.{FoldOf, WithoutOrWith, OnlyReadArea, StandsWhere};
+ghost use Rattle.mot_journal.specs.Journal.{RewritesTo};
+ghost use Rattle.mot_journal.specs.Inner.Steps.{start_of_slot};
 ghost use Rattle.mot_journal.specs.Reason.{HasReason, IsReasonOf};
-ghost use Rattle.mot_journal.specs.Slot.{AreSound};
 ghost use Rattle.mot_journal.specs.declared.layout.Layout.TheVariants.{One, Two};
 ghost use Rattle.mot_journal.specs.declared.record.Record.{Record};
 ghost use Rattle.mot_numbers.specs.Refusal.{IsCalm};
-ghost use Rattle.mot_numbers.specs.Geometry.{length_of};
-ghost use Rattle.mot_numbers.specs.Geometry.{is_valid};
+ghost use Rattle.mot_numbers.specs.Geometry.{length_of, is_valid};
 ghost use Rattle.mot_numbers.specs.declared.refusal.Refusal.TheVariants.{DeviceFault};
 
 use crate::encoding::slot_bytes;

@@ -3,12 +3,11 @@ ghost use Rattle.std.specs.Prelude.{◌≡◌, ◌<◌, ◌≤◌, ◌+◌, ◌*
 ghost use Rattle.std.specs.Prelude.{true, false, Some, IfOk, IfErr, IfSome, All};
 ghost use Rattle.mot_journal.specs.Geometry.{geometry_of};
 ghost use Rattle.mot_journal.specs.Slot.{is_sound, slot_size, slot_count, layout_of};
-ghost use Rattle.mot_journal.specs.Inner.Loading.{HalfHas, IsHalfRefusal, IsNoHead};
-ghost use Rattle.mot_journal.specs.Inner.Loading.{HasRangeFault, IsSlotReason};
+ghost use Rattle.mot_journal.specs.Inner.Reading.{HalfHas, IsHalfRefusal, IsNoHead, HasRangeFault};
+ghost use Rattle.mot_journal.specs.Inner.Reading.{IsSlotReason};
 ghost use Rattle.mot_journal.specs.Reason.{HasReason};
-ghost use Rattle.mot_numbers.specs.Geometry.{half_size};
+ghost use Rattle.mot_numbers.specs.Geometry.{half_size, is_valid as valid};
 ghost use Rattle.mot_numbers.specs.declared.geometry.TheConstants.{MAX_OBJECTS};
-ghost use Rattle.mot_numbers.specs.Geometry.{is_valid as valid};
 
 use crate::decoding::{SlotFault, number, read_record};
 use crate::encoding::OPEN;

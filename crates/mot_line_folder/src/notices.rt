@@ -1,6 +1,6 @@
 //! What is to be told of files of lines, until it is.
 ghost use Rattle.std.specs.Prelude.{◌≡◌, ◌≢◌, IsSome, Some, [], vec_capacity};
-ghost use Rattle.mot_line_folder.specs.Inner.Notices.{Adds, IsOfFile};
+ghost use Rattle.mot_line_folder.specs.Inner.{Adds, IsOfFile};
 ghost use Rattle.mot_line_folder.specs.declared.notices.Notice.TheVariants as notice;
 
 use disk_store::OpenFault;

@@ -1,8 +1,8 @@
 //! Names in a folder about which the log has a line, so that it has one once.
-ghost use Rattle.std.specs.Prelude.{◌≡◌, ◌<◌, ◌≤◌, ◌↔◌, HoldsAt, IfNone, IfOk, IfSome, IsTrue, MatchOption};
-ghost use Rattle.std.specs.Prelude.{IsSome, length};
+ghost use Rattle.std.specs.Prelude.{◌≡◌, ◌<◌, ◌≤◌, ◌↔◌, HoldsAt, IfNone, IfOk, IfSome, IsTrue};
+ghost use Rattle.std.specs.Prelude.{MatchOption, IsSome, length};
 ghost use Rattle.mot_line_folder.specs.LineFiles.{IsStampOf};
-ghost use Rattle.mot_line_folder.specs.Inner.Said.{IsDue, IsNew, IsUnread, IsUntold, Remembers};
+ghost use Rattle.mot_line_folder.specs.Inner.{IsDue, IsNew, IsUnread, IsUntold, Remembers};
 
 use mot_files::{FileStat, Time};
 use std::alloc::{AllocError, Global};

@@ -1,24 +1,18 @@
 -- The fields of a line, and the steps by which they are read.
-use Rattle.std.proofs.Common.{◌≡◌, ℕ, true, false, List, [], ◌∷◌, Option, Some, None}
-use Rattle.std.proofs.Common.{Result, Ok, Err, refl, ap, ◌∙◌, inl, inr, arith}
-use Rattle.std.specs.Prelude.{codes, bytes_eq, is_ok, IsOk, IfOk, IfErr}
-use Rattle.std.specs.Prelude.{◌↔◌}
+use Rattle.std.proofs.Common.{◌≡◌, ℕ, true, false, List, [], ◌∷◌, Option, Some, None, Result, Ok}
+use Rattle.std.proofs.Common.{Err, refl, ap, ◌∙◌, inl, inr, arith}
+use Rattle.std.specs.Prelude.{codes, bytes_eq, is_ok, IsOk, IfOk, IfErr, ◌↔◌}
 use Rattle.std.proofs.lemmas.Bool.{false_from_ne_true}
 use Rattle.hex.specs.Hex.{decode_of}
 use Rattle.mot_objects.specs.declared.command.Item.{Item}
-use Rattle.mot_lines.specs.Fields.{name_in, content_in, mime_in, body_in}
-use Rattle.mot_lines.specs.Words.{number_of_word}
+use Rattle.mot_lines.specs.Fields.{name_in, content_in, mime_in, body_in, number_of_word}
 use Rattle.mot_lines.specs.Line.{description_of}
 use Rattle.mot_numbers.specs.Refusal.{◌>>=◌}
-use Rattle.mot_lines.specs.Inner.Words.{OrOutOfMemory}
+use Rattle.mot_lines.specs.Inner.{OrOutOfMemory}
 use Rattle.mot_numbers.specs.declared.refusal.Refusal.{Refusal}
 use Rattle.mot_numbers.specs.declared.refusal.Refusal.TheVariants.{OutOfMemory, BadName, BadMime}
-use Rattle.mot_objects.specs.Content.{ContentNumbers}
-use Rattle.mot_objects.specs.Name.{IsName}
-use Rattle.mot_objects.specs.Mime.{IsMime}
+use Rattle.mot_objects.specs.Name.{ContentNumbers, IsName, IsMime, is_mime, is_name}
 use Rattle.mot_objects.proofs.Laws.{name_true, name_is, mime_true, mime_is}
-use Rattle.mot_objects.specs.Mime.{is_mime}
-use Rattle.mot_objects.specs.Name.{is_name}
 
 -- a refusal ends the reading
 pub bound_err : {A B : Type 0} (x : Result A Refusal) (f : A → Result B Refusal) (r : Refusal)

@@ -1,8 +1,7 @@
 -- The lines that rebuild a carousel, read.
 use Rattle.std.proofs.Common.{◌≡◌, ℕ, zero, suc, ◌^◌, ◌<◌, ◌≤◌, Bool, true, false, cond, List, []}
-use Rattle.std.proofs.Common.{◌∷◌, ◌++◌, length, map}
-use Rattle.std.proofs.Common.{Option, Some, None, Result, Ok, refl, sym, ap, ◌∙◌, subst, arith}
-use Rattle.std.proofs.Common.{append_assoc, length-append, rules}
+use Rattle.std.proofs.Common.{◌∷◌, ◌++◌, length, map, Option, Some, None, Result, Ok, refl, sym, ap}
+use Rattle.std.proofs.Common.{◌∙◌, subst, arith, append_assoc, length-append, rules}
 use Rattle.std.proofs.lemmas.Bool.{le-leb, false_from_ne_true}
 use Rattle.std.proofs.lemmas.Bool.Decides.{nat_tests}
 use Rattle.std.proofs.lemmas.Fmt.{decimal_nonempty, length-decimal-le, digits_decimal}
@@ -23,22 +22,18 @@ use Rattle.mot_groups.specs.Entity.{all_but_last}
 use Rattle.mot_lines.specs.declared.line.Line.{Line}
 use Rattle.mot_lines.specs.declared.line.Line.TheVariants.{Command}
 use Rattle.mot_lines.specs.Export.{ExportsAskForTheirCommands, front_words, period_line, put_line}
-use Rattle.mot_lines.specs.Fields.{body_in, content_in, mime_in, name_in}
+use Rattle.mot_lines.specs.Fields.{body_in, content_in, mime_in, name_in, decimal_value}
+use Rattle.mot_lines.specs.Fields.{number_of_word, words_of}
 use Rattle.mot_lines.specs.Line.{description_of, line_of, period_of, put_of, request_of}
 use Rattle.mot_lines.specs.Lines.{HasNoLineEnd, last_of, lines_of, pieces_between, rest_of}
 use Rattle.mot_lines.specs.Lines.{unless_empty, whole_lines}
 use Rattle.mot_lines.specs.Listing.{mime_word}
-use Rattle.mot_lines.specs.Words.{decimal_value, number_of_word, words_of}
 use Rattle.mot_lines.proofs.Input.{some_piece}
 use Rattle.mot_lines.proofs.Numbers.{number_of_digits}
 use Rattle.mot_lines.proofs.Requests.{line_of-short, request_of-first}
 use Rattle.mot_numbers.specs.declared.refusal.Refusal.{Refusal}
-use Rattle.mot_objects.specs.Carousel.{Object}
-use Rattle.mot_objects.specs.Content.{ContentNumbers}
-use Rattle.mot_objects.specs.Mime.{IsMime}
-use Rattle.mot_objects.specs.Name.{IsName}
-use Rattle.mot_objects.specs.Rebuilding.{put_again, set_period_again}
-use Rattle.mot_objects.specs.Rules.{KeepsRules}
+use Rattle.mot_objects.specs.Carousel.{Object, put_again, set_period_again, KeepsRules}
+use Rattle.mot_objects.specs.Name.{ContentNumbers, IsMime, IsName}
 use Rattle.mot_objects.specs.declared.command.Command as command
 use Rattle.mot_objects.specs.declared.command.Command.TheVariants.{Period}
 use Rattle.mot_objects.proofs.Laws.{mime_true, name_true}

@@ -5,17 +5,16 @@ use Rattle.std.specs.Prelude.{◌&&◌, ◌==◌, nat_lt, nat_le, if◌then◌el
 use Rattle.hex.specs.Hex.{decode_of}
 use Rattle.hex.specs.declared.error.FromHexError.{FromHexError}
 use Rattle.mot_lines.specs.Fields.{kind_in, number_to, segment_in, name_in, content_in, mime_in}
-use Rattle.mot_lines.specs.Fields.{body_in, period_in}
-use Rattle.mot_lines.specs.Line.{raw_of, description_of, put_of, replace_of, withdraw_of}
+use Rattle.mot_lines.specs.Fields.{body_in, period_in, number_of_word, words_of}
+use Rattle.mot_lines.specs.Line.{raw_of, description_of, put_of, replace_of, withdraw_of, period_of}
+use Rattle.mot_lines.specs.Line.{alone_of, asked_by, next_of, request_of, line_of}
 use Rattle.mot_numbers.specs.Refusal.{◌>>=◌}
-use Rattle.mot_lines.specs.Line.{period_of, alone_of, asked_by, next_of, request_of, line_of}
 use Rattle.mot_lines.specs.Verb.{verb_of}
 use Rattle.mot_lines.specs.declared.line.Line.{Line}
 use Rattle.mot_lines.specs.declared.line.Line.TheVariants as asks
 use Rattle.mot_lines.specs.declared.line.verb.Verb.{Verb}
 use Rattle.mot_lines.specs.declared.line.verb.Verb.TheVariants as verb
 use Rattle.mot_lines.specs.declared.line.TheConstants.{MAX_LINE, MAX_PACKETS}
-use Rattle.mot_lines.specs.Words.{number_of_word, words_of}
 use Rattle.mot_numbers.specs.Reading.{is_empty}
 use Rattle.mot_numbers.specs.declared.refusal.Refusal.{Refusal}
 use Rattle.mot_numbers.specs.declared.numbers.TheConstants.{MAX_SEGMENT}
@@ -25,8 +24,7 @@ use Rattle.mot_numbers.specs.declared.refusal.Refusal.TheVariants.{EmptyBody}
 use Rattle.mot_objects.specs.declared.body.TheConstants.{MAX_BODY}
 use Rattle.mot_objects.specs.declared.content.TheConstants.{MAX_TYPE, MAX_SUBTYPE}
 use Rattle.mot_objects.specs.declared.period.TheConstants.{MAX_PERIOD}
-use Rattle.mot_objects.specs.Mime.{is_mime}
-use Rattle.mot_objects.specs.Name.{is_name}
+use Rattle.mot_objects.specs.Name.{is_mime, is_name}
 
 abbrev IsNoFault : {T : Type 0} → Result T Refusal → Type 0
 IsNoFault result = result ≡ Err DeviceFault → ⊥

@@ -1,12 +1,10 @@
 -- Which lines take memory.
 use Rattle.std.proofs.Common.{ℕ, List, [], ◌∷◌, Result, Ok, Err, inl, inr}
 use Rattle.hex.specs.Hex.{decode_of}
-use Rattle.mot_lines.specs.Fields.{kind_in, number_to, segment_in}
-use Rattle.mot_lines.specs.Line.{raw_of}
+use Rattle.mot_lines.specs.Fields.{kind_in, number_to, segment_in, number_of_word}
+use Rattle.mot_lines.specs.Line.{raw_of, NeedsMemory, IsParsed}
 use Rattle.mot_numbers.specs.Refusal.{◌>>=◌}
-use Rattle.mot_lines.specs.Line.{NeedsMemory, IsParsed}
-use Rattle.mot_lines.specs.Inner.Words.{OrOutOfMemory}
-use Rattle.mot_lines.specs.Words.{number_of_word}
+use Rattle.mot_lines.specs.Inner.{OrOutOfMemory}
 use Rattle.mot_lines.specs.declared.line.Line.{Line}
 use Rattle.mot_numbers.specs.declared.refusal.Refusal.{Refusal}
 

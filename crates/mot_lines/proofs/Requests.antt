@@ -5,11 +5,10 @@ use Rattle.std.specs.Prelude.{nat_le}
 use Rattle.std.proofs.lemmas.Bool.{lt-leb, le-leb, leb-true, leb-false}
 use Rattle.std.proofs.lemmas.List.{length-take, take_all}
 use Rattle.mot_lines.specs.declared.line.TheConstants.{MAX_LINE}
-use Rattle.mot_lines.specs.Hand.{bytes_in_hand}
+use Rattle.mot_lines.specs.Lines.{bytes_in_hand}
 use Rattle.hex.specs.Hex.{decode_of}
 use Rattle.mot_lines.specs.declared.line.Line.TheVariants.{Raw}
-use Rattle.mot_lines.specs.Fields.{kind_in, number_to, segment_in}
-use Rattle.mot_lines.specs.Words.{number_of_word, words_of}
+use Rattle.mot_lines.specs.Fields.{kind_in, number_to, segment_in, number_of_word, words_of}
 use Rattle.mot_lines.specs.Line.{asked_by, line_of, raw_of, request_of}
 use Rattle.mot_lines.specs.Verb.{verb_of}
 use Rattle.mot_numbers.specs.declared.group_kind.GroupKind.{GroupKind}

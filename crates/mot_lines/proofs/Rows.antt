@@ -7,11 +7,10 @@ use Rattle.mot_lines.specs.declared.line.Line.TheVariants.{Raw}
 use Rattle.mot_lines.specs.declared.line.Line.TheVariants as asks
 use Rattle.mot_lines.specs.declared.line.TheConstants.{MAX_LINE, MAX_PACKETS}
 use Rattle.mot_lines.specs.Export.{export_text}
-use Rattle.mot_lines.specs.Hand.{bytes_in_hand}
+use Rattle.mot_lines.specs.Lines.{bytes_in_hand, whole_lines, rest_of, lines_of}
 use Rattle.mot_lines.specs.Line.{raw_of, request_of, line_of}
-use Rattle.mot_lines.specs.Lines.{whole_lines, rest_of, lines_of}
 use Rattle.mot_lines.specs.Text.{refusal_line}
-use Rattle.mot_lines.specs.Words.{number_of_word}
+use Rattle.mot_lines.specs.Fields.{number_of_word}
 use Rattle.mot_numbers.specs.declared.group_kind.GroupKind.TheVariants.{Body}
 use Rattle.mot_numbers.specs.declared.refusal.Refusal.TheVariants.{BadLine, BadType, BadNumber}
 use Rattle.mot_numbers.specs.declared.refusal.Refusal.TheVariants.{BadBody, EmptyBody}

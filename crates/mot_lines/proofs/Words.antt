@@ -4,8 +4,7 @@ use Rattle.std.proofs.Common.{Option, None, Some, refl, sym, ap, ◌∙◌, subs
 use Rattle.std.specs.Prelude.{nat_eq, is_some}
 use Rattle.std.specs.Borrow.{Bor}
 use Rattle.std.specs.List.{onto_first}
-use Rattle.mot_lines.specs.Words.{words_after}
-use Rattle.mot_lines.specs.Words.{words_of}
+use Rattle.mot_lines.specs.Fields.{words_after, words_of}
 use Rattle.mot_lines.specs.Line.{raw_of, alone_of, description_of}
 use Rattle.mot_lines.specs.declared.line.Line.{Line}
 use Rattle.mot_numbers.specs.declared.refusal.Refusal.TheVariants.{BadLine}

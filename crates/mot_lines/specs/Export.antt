@@ -9,10 +9,8 @@ use Rattle.mot_lines.specs.Lines.{lines_of}
 use Rattle.mot_lines.specs.Listing.{mime_word}
 use Rattle.mot_lines.specs.Text.{field}
 use Rattle.mot_lines.specs.declared.line.Line.TheVariants.{Command}
-use Rattle.mot_objects.specs.Carousel.{Carousel, Object}
-use Rattle.mot_objects.specs.Content.{ContentNumbers}
-use Rattle.mot_objects.specs.Rebuilding.{rebuilding}
-use Rattle.mot_objects.specs.Rules.{AllKeepRules}
+use Rattle.mot_objects.specs.Carousel.{Carousel, Object, rebuilding, AllKeepRules}
+use Rattle.mot_objects.specs.Name.{ContentNumbers}
 use Rattle.mot_objects.specs.declared.command.Command as command
 
 -- the first word of a `put` line, and its name

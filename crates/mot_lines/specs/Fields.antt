@@ -1,6 +1,7 @@
 -- The fields of lines, each by its word.
-use Rattle.std.specs.Prelude.{ℕ, ◌&&◌, ◌==◌, nat_lt, nat_le, if◌then◌else◌, List, length}
-use Rattle.std.specs.Prelude.{Option, Some, None, Result, Ok, Err, codes, bytes_eq}
+use Rattle.std.specs.Prelude.{ℕ, ◌&&◌, ◌==◌, nat_lt, nat_le, if◌then◌else◌, List, length, Option}
+use Rattle.std.specs.Prelude.{Some, None, Result, Ok, Err, codes, bytes_eq, ◌+◌, ◌-◌, ◌*◌, ◌^◌, []}
+use Rattle.std.specs.Prelude.{◌∷◌}
 use Rattle.hex.specs.declared.error.FromHexError.{FromHexError}
 use Rattle.mot_groups.specs.SegmentBytes.{segment_of_bytes}
 use Rattle.mot_numbers.specs.Reading.{is_empty}
@@ -10,13 +11,14 @@ use Rattle.mot_numbers.specs.declared.refusal.Refusal.{Refusal}
 use Rattle.mot_numbers.specs.declared.refusal.Refusal.TheVariants.{BadName, BadType, BadMime}
 use Rattle.mot_numbers.specs.declared.refusal.Refusal.TheVariants.{BadNumber, BadBody, EmptyBody}
 use Rattle.mot_numbers.specs.declared.refusal.Refusal.TheVariants.{BodyTooLong}
-use Rattle.mot_objects.specs.Content.{ContentNumbers}
+use Rattle.mot_objects.specs.Name.{ContentNumbers, is_name, is_mime}
 use Rattle.mot_objects.specs.declared.body.TheConstants.{MAX_BODY}
 use Rattle.mot_objects.specs.declared.content.TheConstants.{MAX_TYPE, MAX_SUBTYPE}
 use Rattle.mot_objects.specs.declared.period.TheConstants.{MAX_PERIOD}
-use Rattle.mot_objects.specs.Name.{is_name}
-use Rattle.mot_objects.specs.Mime.{is_mime}
 use Rattle.mot_objects.specs.declared.name.TheConstants.{MAX_NAME}
+use Rattle.std.specs.Borrow.{Bor}
+use Rattle.std.specs.Char.{is_ascii_digit}
+use Rattle.std.specs.List.{slice_split, list_all}
 
 -- TYPE of a `raw` line: 4 is a body, 6 a directory
 abbrev pub kind_in : Option ℕ → Result GroupKind Refusal
@@ -62,3 +64,25 @@ body_in (Ok bytes) =
 abbrev pub period_in : Option ℕ → Result ℕ Refusal
 period_in None = Err BadNumber
 period_in (Some n) = if nat_le n MAX_PERIOD then Ok n else Err BadNumber
+
+-- The words of a line, and the numbers that they write.
+
+-- words are what stands between single spaces
+abbrev pub words_of : List ℕ → List (List ℕ)
+words_of bytes = slice_split (λ b. b == 32) bytes
+
+-- the words of what follows a word, if something does
+abbrev pub words_after : Option (Bor (List ℕ)) → List (List ℕ)
+words_after None = []
+words_after (Some rest) = words_of rest.now
+
+-- the number that decimal digits write
+abbrev pub decimal_value : List ℕ → ℕ
+decimal_value [] = 0
+decimal_value (d ∷ ds) = (d - 48) * 10 ^ length ds + decimal_value ds
+
+-- a number has 1 to 10 digits; leading zeros are allowed
+unfoldable pub number_of_word : List ℕ → Option ℕ
+number_of_word word =
+    if nat_lt 0 (length word) && nat_le (length word) 10 && list_all is_ascii_digit word
+    then Some (decimal_value word) else None

@@ -1,10 +1,8 @@
 pub mod Export
 pub mod Fields
-pub mod Hand
 pub mod Inner
 pub mod Line
 pub mod Lines
 pub mod Listing
 pub mod Text
 pub mod Verb
-pub mod Words

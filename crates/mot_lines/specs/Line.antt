@@ -3,9 +3,8 @@ use Rattle.std.specs.Prelude.{⊤, ℕ, ◌≡◌, ◌⊎◌, nat_le, if◌then�
 use Rattle.std.specs.Prelude.{Ok, Err, Option, Some, None}
 use Rattle.hex.specs.Hex.{decode_of}
 use Rattle.mot_lines.specs.Fields.{kind_in, number_to, segment_in, name_in, content_in, mime_in}
-use Rattle.mot_lines.specs.Fields.{body_in, period_in}
+use Rattle.mot_lines.specs.Fields.{body_in, period_in, words_of, number_of_word}
 use Rattle.mot_lines.specs.Verb.{verb_of}
-use Rattle.mot_lines.specs.Words.{words_of, number_of_word}
 use Rattle.mot_lines.specs.declared.line.TheConstants.{MAX_LINE, MAX_PACKETS}
 use Rattle.mot_objects.specs.declared.command.Item.{Item}
 use Rattle.mot_lines.specs.declared.line.Line.{Line}

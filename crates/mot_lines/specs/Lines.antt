@@ -1,9 +1,9 @@
 -- The lines of an input: each ends with 0x0A, and what follows the last 0x0A is one, too, unless it
 -- is empty.
-use Rattle.std.specs.Prelude.{ℕ, ◌==◌, List, [], ◌∷◌, ◌++◌}
+use Rattle.std.specs.Prelude.{ℕ, ◌==◌, List, [], ◌∷◌, ◌++◌, ◌≡◌, false, nat_eq, All, ◌+◌, take}
 use Rattle.std.specs.List.{slice_split}
-use Rattle.std.specs.Prelude.{◌≡◌, false, nat_eq, All}
 use Rattle.mot_groups.specs.Entity.{all_but_last}
+use Rattle.mot_lines.specs.declared.line.TheConstants.{MAX_LINE}
 
 -- what stands between line ends; an input with none is one piece
 abbrev pub pieces_between : List ℕ → List (List ℕ)
@@ -34,3 +34,9 @@ lines_of input = whole_lines input ++ unless_empty (rest_of input)
 -- no byte ends a line
 abbrev pub HasNoLineEnd : List ℕ → Type 0
 HasNoLineEnd bytes = All (λ b. nat_eq b 10 ≡ false) bytes
+
+-- The line in hand.
+
+-- what the hand has of a line: as many of its first bytes as show whether it is too long
+abbrev pub bytes_in_hand : List ℕ → List ℕ
+bytes_in_hand line = take (MAX_LINE + 1) line

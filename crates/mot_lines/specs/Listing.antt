@@ -4,7 +4,7 @@ use Rattle.std.specs.List.{flat_map}
 use Rattle.std.specs.Fmt.{decimal}
 use Rattle.mot_lines.specs.Text.{field}
 use Rattle.mot_objects.specs.Carousel.{Object, Carousel}
-use Rattle.mot_objects.specs.Content.{ContentNumbers}
+use Rattle.mot_objects.specs.Name.{ContentNumbers}
 use Rattle.mot_objects.specs.declared.carousel.Carousel as kept
 use Rattle.mot_objects.specs.declared.object.Object as one
 

@@ -28,7 +28,7 @@ impl Model for Hand {
 }
 
 impl Hand {
-    ghost use Rattle.mot_lines.specs.Hand.{bytes_in_hand};
+    ghost use Rattle.mot_lines.specs.Lines.{bytes_in_hand};
     ghost use Rattle.mot_lines.specs.Line.{line_of};
 
     /// An empty line. It takes the memory for the longest one.

@@ -1,10 +1,9 @@
 //! A line of the input, read.
 ghost use Rattle.std.specs.Prelude.{◌≡◌};
-ghost use Rattle.mot_lines.specs.Line.{raw_of, withdraw_of, period_of};
-ghost use Rattle.mot_lines.specs.Line.{alone_of, asked_by, next_of, line_of};
-ghost use Rattle.mot_lines.specs.Line.{IsParsed};
-ghost use Rattle.mot_lines.specs.Inner.Words.{OrOutOfMemory};
-ghost use Rattle.mot_lines.specs.Words.{words_after};
+ghost use Rattle.mot_lines.specs.Line.{raw_of, withdraw_of, period_of, alone_of, asked_by, next_of};
+ghost use Rattle.mot_lines.specs.Line.{line_of, IsParsed};
+ghost use Rattle.mot_lines.specs.Inner.{OrOutOfMemory};
+ghost use Rattle.mot_lines.specs.Fields.{words_after};
 
 mod description;
 mod fields;

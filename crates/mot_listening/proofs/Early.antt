@@ -1,8 +1,7 @@
 -- What comes early of a place on air: of at most so many bodies, and of one that is begun.
 use Rattle.std.proofs.Common.{◌≡◌, ◌⊎◌, ℕ, zero, suc, ◌+◌, ◌*◌, ◌-◌, ◌<◌, ◌≤◌, List, [], ◌∷◌, ◌++◌}
 use Rattle.std.proofs.Common.{Bool, true, false, Option, Some, None, inl, inr, refl, sym, subst}
-use Rattle.std.proofs.Common.{length, take, ap, ◌∙◌, arith, append-nil, eq-eqb}
-use Rattle.std.proofs.Common.{map}
+use Rattle.std.proofs.Common.{length, take, ap, ◌∙◌, arith, append-nil, eq-eqb, map}
 use Rattle.std.proofs.lemmas.Option.{none-some, same_Some, some_pair_parts}
 use Rattle.std.specs.Prelude.{◌==◌, if◌then◌else◌, is_some, unwrap_or}
 use Rattle.std.specs.List.{AllByRecursion}
@@ -11,21 +10,20 @@ use Rattle.mot_groups.specs.Group.{GroupFields, Segment, bytes_of_group}
 use Rattle.mot_numbers.specs.Reading.{is_empty}
 use Rattle.mot_objects.specs.Carousel.{Carousel, Object}
 use Rattle.mot_objects.specs.Ids.{contains, is_distinct}
-use Rattle.mot_player.specs.Followable.{IsFollowable, IsOneChange, put, replaced, same, withdrawn}
+use Rattle.mot_player.specs.Turn.{IsFollowable, IsOneChange, put, replaced, same, withdrawn, Turn}
+use Rattle.mot_player.specs.Turn.{bodies_with_ids, turn_of_carousel}
 use Rattle.mot_player.specs.Place.{Change, Place, Put, Replaced, Same, Sent, Step, UnderWay}
-use Rattle.mot_player.specs.Place.{Withdrawn, bodies_not_begun, change_between, change_turn, changed}
-use Rattle.mot_player.specs.Place.{early_of, first_sent, follow, fresh_segments, goes_early}
-use Rattle.mot_player.specs.Place.{group_for, hear_directory, left_of, left_with, most_early}
-use Rattle.mot_player.specs.Place.{next_sent, of_bodies, opened_place, packet_sent}
-use Rattle.mot_player.specs.Place.{Directory, Follow, NewTurn, Request}
-use Rattle.mot_player.specs.Place.{request, sent_by, that_stay, to_send, with_begun, without}
+use Rattle.mot_player.specs.Place.{Withdrawn, bodies_not_begun, change_between, change_turn}
+use Rattle.mot_player.specs.Place.{changed, early_of, first_sent, follow, fresh_segments}
+use Rattle.mot_player.specs.Place.{goes_early, group_for, hear_directory, left_of, left_with}
+use Rattle.mot_player.specs.Place.{most_early, next_sent, of_bodies, opened_place, packet_sent}
+use Rattle.mot_player.specs.Place.{Directory, Follow, NewTurn, Request, request, sent_by, that_stay}
+use Rattle.mot_player.specs.Place.{to_send, with_begun, without}
 use Rattle.mot_player.specs.Staying.{AreFewEarly, HasDirectory}
-use Rattle.mot_player.specs.Turn.{Turn, bodies_with_ids, turn_of_carousel}
 use Rattle.mot_player.proofs.Laws.{changes-go-early, few-changed, few-followed, few-heard}
-use Rattle.mot_player.proofs.Laws.{few-opened, few-sent, few-steps}
-use Rattle.mot_player.proofs.Laws.{AreKinds-turn, FirstRequest, IsKind, between-put}
-use Rattle.mot_player.proofs.Laws.{between-replaced, between-same, between-withdrawn}
-use Rattle.mot_player.proofs.Laws.{changes-come-next, first_request, others-both}
+use Rattle.mot_player.proofs.Laws.{few-opened, few-sent, few-steps, AreKinds-turn, FirstRequest}
+use Rattle.mot_player.proofs.Laws.{IsKind, between-put, between-replaced, between-same}
+use Rattle.mot_player.proofs.Laws.{between-withdrawn, changes-come-next, first_request, others-both}
 use Rattle.mot_listening.proofs.Collected.{had-holds}
 use Rattle.mot_listening.proofs.Counts.{packets-are, packets_for}
 use Rattle.mot_listening.proofs.EarlyBodies.{AreOthersOf, ComesEarly, IsOneOf, Pair, Stay, Widens}

@@ -11,23 +11,21 @@ use Rattle.mot_groups.specs.Entity.{numbered_segments, pieces, segments_of}
 use Rattle.mot_groups.specs.Group.{GroupFields, Segment, bytes_of_group}
 use Rattle.mot_numbers.specs.Reading.{is_empty}
 use Rattle.mot_objects.specs.Ids.{is_distinct}
-use Rattle.mot_player.specs.Followable.{IsFollowable, IsOneChange, put, replaced, same, withdrawn}
+use Rattle.mot_player.specs.Turn.{IsFollowable, IsOneChange, put, replaced, same, withdrawn, Turn}
+use Rattle.mot_player.specs.Turn.{segments_of_bodies, segments_of_turn}
 use Rattle.mot_player.specs.Place.{Change, Place, Put, Replaced, Same, Sent, Step, UnderWay}
-use Rattle.mot_player.specs.Place.{Withdrawn}
-use Rattle.mot_player.specs.Place.{Directory, Follow, NewTurn, Request, change_between}
+use Rattle.mot_player.specs.Place.{Withdrawn, Directory, Follow, NewTurn, Request, change_between}
 use Rattle.mot_player.specs.Place.{directory_segments, early_after, early_of, first_sent, follow}
 use Rattle.mot_player.specs.Place.{fresh_segments, goes_early, group_for, hear_directory}
-use Rattle.mot_player.specs.Place.{in_its_place, left_of}
-use Rattle.mot_player.specs.Place.{left_with, next_sent, of_bodies, opened_place, packet_sent}
-use Rattle.mot_player.specs.Place.{request}
-use Rattle.mot_player.specs.Place.{rest_after, rest_of, sent_by, that_stay, to_send, with_begun}
+use Rattle.mot_player.specs.Place.{in_its_place, left_of, left_with, next_sent, of_bodies}
+use Rattle.mot_player.specs.Place.{opened_place, packet_sent, request, rest_after, rest_of, sent_by}
+use Rattle.mot_player.specs.Place.{that_stay, to_send, with_begun}
 use Rattle.mot_player.specs.Start.{start_place}
 use Rattle.mot_player.specs.Staying.{HasDirectory, none_ends}
-use Rattle.mot_player.specs.Turn.{Turn, segments_of_bodies, segments_of_turn}
 use Rattle.mot_player.proofs.Laws.{AreOthers, FirstRequest, between-put, between-replaced}
-use Rattle.mot_player.proofs.Laws.{changes-come-next}
-use Rattle.mot_player.proofs.Laws.{between-same, between-withdrawn, first_request, followed-left}
-use Rattle.mot_player.proofs.Laws.{heard-left, others-both, renewed, without-place}
+use Rattle.mot_player.proofs.Laws.{changes-come-next, between-same, between-withdrawn}
+use Rattle.mot_player.proofs.Laws.{first_request, followed-left, heard-left, others-both, renewed}
+use Rattle.mot_player.proofs.Laws.{without-place}
 use Rattle.mot_listening.proofs.Counts.{packets-append, packets-are, packets-bodies, packets_for}
 use Rattle.mot_listening.proofs.DirectoryNext.{asked-next, first-leaves, group-fewer, group-leaves}
 use Rattle.mot_listening.proofs.DirectoryNext.{group_left, room-kept}

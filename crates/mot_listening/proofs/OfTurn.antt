@@ -10,14 +10,14 @@ use Rattle.mot_groups.specs.Entity.{numbered_segments, pieces, segments_of}
 use Rattle.mot_groups.specs.Group.{Segment}
 use Rattle.mot_numbers.specs.Reading.{is_empty}
 use Rattle.mot_objects.specs.Ids.{is_distinct}
-use Rattle.mot_player.specs.Followable.{IsFollowable, IsOneChange, put, replaced, same, withdrawn}
+use Rattle.mot_player.specs.Turn.{IsFollowable, IsOneChange, put, replaced, same, withdrawn, Turn}
+use Rattle.mot_player.specs.Turn.{segments_of_bodies, segments_of_turn}
 use Rattle.mot_player.specs.Place.{Change, Place, Put, Replaced, Same, Withdrawn, change_between}
 use Rattle.mot_player.specs.Place.{change_turn, changed, directory_segments, early_after, early_of}
-use Rattle.mot_player.specs.Place.{follow, goes_early, in_its_place, left_of}
-use Rattle.mot_player.specs.Place.{of_bodies, rest_of, without}
+use Rattle.mot_player.specs.Place.{follow, goes_early, in_its_place, left_of, of_bodies, rest_of}
+use Rattle.mot_player.specs.Place.{without}
 use Rattle.mot_player.specs.Repeats.{is_same_segment}
 use Rattle.mot_player.specs.Staying.{HasDirectory}
-use Rattle.mot_player.specs.Turn.{Turn, segments_of_bodies, segments_of_turn}
 use Rattle.mot_listening.proofs.Collected.{all-had, filter-had, kind-respects, same-is}
 use Rattle.mot_player.proofs.Laws.{IsHad, all-append, all-behind, all-front, between-put}
 use Rattle.mot_player.proofs.Laws.{between-replaced, between-same, between-withdrawn, bodies-bodies}

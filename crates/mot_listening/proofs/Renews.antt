@@ -1,7 +1,6 @@
 -- What a change leaves of the rest of a turn: the end of the new turn's bodies.
-use Rattle.std.proofs.Common.{◌≡◌, ℕ, ◌+◌, ◌<◌, List, [], ◌∷◌, ◌++◌, Bool, true}
-use Rattle.std.proofs.Common.{false, refl, sym, subst, map, length, ap, ◌∙◌, append-nil}
-use Rattle.std.proofs.Common.{append_assoc}
+use Rattle.std.proofs.Common.{◌≡◌, ℕ, ◌+◌, ◌<◌, List, [], ◌∷◌, ◌++◌, Bool, true, false, refl, sym}
+use Rattle.std.proofs.Common.{subst, map, length, ap, ◌∙◌, append-nil, append_assoc}
 use Rattle.std.proofs.lemmas.Grind.{flat_map-append}
 use Rattle.std.specs.Prelude.{◌==◌, ◌&&◌, flat_map, if◌then◌else◌}
 use Rattle.std.specs.List.{AllByRecursion}
@@ -9,10 +8,8 @@ use Rattle.mot_groups.specs.Entity.{numbered_segments, pieces, segments_of}
 use Rattle.mot_groups.specs.Group.{Segment}
 use Rattle.mot_numbers.specs.Reading.{is_empty}
 use Rattle.mot_objects.specs.Ids.{is_distinct}
-use Rattle.mot_player.specs.Followable.{IsOneChange, put, replaced, same, withdrawn}
-use Rattle.mot_player.specs.Place.{Change, change_between}
-use Rattle.mot_player.specs.Place.{fresh_segments, in_its_place, rest_after}
-use Rattle.mot_player.specs.Turn.{segments_of_bodies}
+use Rattle.mot_player.specs.Turn.{IsOneChange, put, replaced, same, withdrawn, segments_of_bodies}
+use Rattle.mot_player.specs.Place.{Change, change_between, fresh_segments, in_its_place, rest_after}
 use Rattle.mot_player.proofs.Laws.{AreOthers, between-put, between-replaced, between-same}
 use Rattle.mot_player.proofs.Laws.{between-withdrawn, others-both, place-of_gone, without-place}
 

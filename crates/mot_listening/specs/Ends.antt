@@ -1,19 +1,18 @@
 -- However many changes are followed, a turn ends, and each body that stays is sent in it.
-use Rattle.std.specs.Prelude.{◌≡◌, ℕ, ◌+◌, ◌*◌, ◌<◌, ◌≤◌, Bool, true, List, [], ◌∷◌, Some, length, map}
-use Rattle.std.specs.Prelude.{⊤}
+use Rattle.std.specs.Prelude.{◌≡◌, ℕ, ◌+◌, ◌*◌, ◌<◌, ◌≤◌, Bool, true, List, [], ◌∷◌, Some, length}
+use Rattle.std.specs.Prelude.{map, ⊤}
 use Rattle.std.specs.List.{AllByRecursion}
 use Rattle.mot_groups.specs.Entity.{own_segments}
 use Rattle.mot_groups.specs.Group.{Segment}
 use Rattle.mot_listening.specs.Waits.{early_packets, left_packets, longest_body, longest_group}
 use Rattle.mot_objects.specs.Ids.{is_distinct}
-use Rattle.mot_player.specs.Followable.{IsOneChange}
+use Rattle.mot_player.specs.Turn.{IsOneChange, Turn}
 use Rattle.mot_player.specs.Place.{Place, Sent, Step, Request, NewTurn, Directory, Follow}
 use Rattle.mot_player.specs.Place.{change_between, directory_segments, fresh_segments, opened_place}
 use Rattle.mot_player.specs.Place.{left_of, packets_of_segments, sent_by}
 use Rattle.mot_player.specs.Repeats.{ends_at_last}
 use Rattle.mot_player.specs.Start.{start_place}
 use Rattle.mot_player.specs.Staying.{HasDirectory, Stays, begun_by, none_ends}
-use Rattle.mot_player.specs.Turn.{Turn}
 
 -- a turn with a directory, whose bodies all have bytes, and no two of them one id
 pub record HasBodies (turn : Turn) : Type 0 where

@@ -4,6 +4,9 @@ use Rattle.mot_groups.specs.Group.{Segment}
 use Rattle.mot_packets.specs.Cut.{pieces_of}
 use Rattle.mot_packets.specs.Packet.{PacketFields}
 use Rattle.mot_player.specs.Turn.{Turn, segments_of_turn}
+use Rattle.std.specs.List.{sum}
+use Rattle.mot_base.specs.Checksum.{crc_of}
+use Rattle.mot_listening.specs.declared.turn.TurnSize.{TurnSize}
 
 -- the bytes of a logical frame of 24 ms, at so many kbit/s
 abbrev pub frame_size : ℕ → ℕ
@@ -27,3 +30,14 @@ lengths_of_segments room segments =
 -- those of a turn
 abbrev pub lengths_of_turn : (room size : ℕ) → Turn → List ℕ
 lengths_of_turn room size turn = lengths_of_segments room (segments_of_turn turn size)
+
+-- How many packets a turn has, and how many bytes these; and the checksum of its directory.
+
+-- of packets of these lengths
+abbrev pub size_of : (checksum : ℕ) → List ℕ → TurnSize
+size_of checksum lengths =
+    record { packets = length lengths; bytes = sum lengths; checksum = checksum }
+
+-- of the packets of a turn; the checksum is that of the bytes of its directory
+abbrev pub size_of_turn : (room segment : ℕ) → Turn → TurnSize
+size_of_turn room segment turn = size_of (crc_of turn.directory) (lengths_of_turn room segment turn)

@@ -2,5 +2,4 @@ pub mod Ends
 pub mod Entities
 pub mod Lengths
 pub mod Listening
-pub mod TurnSize
 pub mod Waits

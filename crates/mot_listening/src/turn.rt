@@ -2,7 +2,7 @@
 ghost use Rattle.std.specs.Prelude.{◌≡◌, ◌+◌, ◌<◌, ◌≤◌, ◌^◌, IfErr, IfOk, List, [], ℕ, length};
 ghost use Rattle.std.specs.List.{sum};
 ghost use Rattle.mot_listening.specs.Entities.{entity_lengths, group_lengths};
-ghost use Rattle.mot_listening.specs.TurnSize.{size_of, size_of_turn};
+ghost use Rattle.mot_listening.specs.Lengths.{size_of, size_of_turn};
 ghost use Rattle.mot_numbers.specs.PacketLength.{room_of};
 ghost use Rattle.mot_numbers.specs.declared.refusal.Refusal.TheVariants.{OutOfMemory};
 ghost use Rattle.mot_objects.specs.Stands.{AreBodiesOf, carousel_of};

@@ -1,5 +1,4 @@
 pub mod Counters
 pub mod Look
-pub mod Shown
 pub mod EventClass
 pub mod Text

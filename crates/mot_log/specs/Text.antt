@@ -1,8 +1,8 @@
 -- The line of what a look met of a name: of a command, what came of it; of a file, why it was not taken; or a note.
-use Rattle.std.specs.Prelude.{ℕ, List, [], ◌∷◌, ◌++◌, None, Option, Some, codes}
+use Rattle.std.specs.Prelude.{ℕ, List, [], ◌∷◌, ◌++◌, None, Option, Some, codes, ◌&&◌, nat_le}
+use Rattle.std.specs.Prelude.{nat_lt, if◌then◌else◌, map}
 use Rattle.std.specs.Fmt.{decimal}
 use Rattle.mot_events.specs.Events.{step_word, skip_word}
-use Rattle.mot_log.specs.Shown.{shown_name}
 use Rattle.mot_events.specs.declared.event.LookStep.{LookStep}
 use Rattle.mot_events.specs.declared.event.LookEvent.{LookEvent}
 use Rattle.mot_events.specs.declared.event.LookResult.{LookResult}
@@ -17,6 +17,18 @@ use Rattle.mot_objects.specs.declared.command.Done.{Done}
 use Rattle.mot_suffixes.specs.declared.images.ImageType.{ImageType}
 use Rattle.mot_suffixes.specs.declared.images.ImageType.TheVariants.{Bmp, Gif, Jpeg, Png}
 use Rattle.mot_suffixes.specs.declared.images.OtherImage.{OtherImage}
+use Rattle.std.specs.Str.{is_utf8}
+use Rattle.mot_suffixes.specs.Shown.{shown}
+
+-- How a line shows a name of any bytes.
+
+-- a byte of a name that is not UTF-8: `?` for each that is no printed one of ASCII
+abbrev pub ascii_byte : ℕ → ℕ
+ascii_byte byte = if nat_le 32 byte && nat_lt byte 127 then byte else 63
+
+-- a name of any bytes
+abbrev pub shown_name : List ℕ → List ℕ
+shown_name name = if is_utf8 name then shown name else map ascii_byte name
 
 -- the ids that a command took
 abbrev pub done_words : Done → List ℕ

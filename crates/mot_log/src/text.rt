@@ -1,9 +1,8 @@
 //! The text of an event.
 ghost use Rattle.std.specs.Prelude.{◌≡◌, ◌++◌, OnOk, map, codes};
 ghost use Rattle.std.specs.Fmt.{decimal};
-ghost use Rattle.mot_log.specs.Shown.{ascii_byte, shown_name};
-ghost use Rattle.mot_log.specs.Text.{step_words, done_words, look_line, result_text, note_words};
-ghost use Rattle.mot_log.specs.Text.{image_word, image_words};
+ghost use Rattle.mot_log.specs.Text.{ascii_byte, shown_name, step_words, done_words, look_line};
+ghost use Rattle.mot_log.specs.Text.{result_text, note_words, image_word, image_words};
 ghost use Rattle.mot_log.specs.Text.{reason_words, refusal_words, refused_words, why_words};
 ghost use Rattle.mot_lines.specs.Text.{taken_words};
 ghost use Rattle.mot_suffixes.specs.Shown.{shown};

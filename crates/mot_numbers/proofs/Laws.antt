@@ -1,9 +1,8 @@
 -- What holds of the definitions, for the crates above.
-use Rattle.std.proofs.Common.{◌≡◌, ℕ, zero, suc, ◌+◌, ◌*◌, ◌/◌, ◌%◌, ◌^◌, ◌<◌, ◌≤◌, List, []}
-use Rattle.std.proofs.Common.{◌∷◌, ◌++◌, false, refl, sym, length, drop, min, sum, arith}
-use Rattle.std.proofs.Common.{ap, ◌∙◌, eq-eqb, Option, Some, None, Result, Ok, Err}
+use Rattle.std.proofs.Common.{◌≡◌, ℕ, zero, suc, ◌+◌, ◌*◌, ◌/◌, ◌%◌, ◌^◌, ◌<◌, ◌≤◌, List, [], ◌∷◌}
+use Rattle.std.proofs.Common.{◌++◌, false, refl, sym, length, drop, min, sum, arith, ap, ◌∙◌}
+use Rattle.std.proofs.Common.{eq-eqb, Option, Some, None, Result, Ok, Err, inl, inr}
 use Rattle.std.proofs.Math.Nat.{add-mul, mul-le-mul_right, pow-suc}
-use Rattle.std.proofs.Common.{inl, inr}
 use Rattle.std.proofs.lemmas.Bool.{cases_eq, ne_eqb}
 use Rattle.std.proofs.lemmas.List.Elements.{All-append, All-cons, All-head, All-nil, All-tail}
 use Rattle.std.proofs.lemmas.List.Sums.{sum_by-cons}
@@ -11,11 +10,9 @@ use Rattle.std.proofs.lemmas.Nat.{div-mul-add, mod-pow-add}
 use Rattle.std.proofs.lemmas.Option.{none-some, same_Some}
 use Rattle.std.specs.Int.{div_ceil, from_bool, w16, to_be_bytes}
 use Rattle.std.specs.Prelude.{IsErrAnd, ◌==◌}
-use Rattle.mot_numbers.specs.Bytes.{IsByte, AreBytes}
-use Rattle.mot_numbers.specs.Fields.{number_in, fields}
-use Rattle.mot_numbers.specs.GroupKind.{kind_number}
-use Rattle.mot_numbers.specs.PacketLength.{room_of, code_of}
-use Rattle.mot_numbers.specs.Reading.{◌>>=◌, is_empty, read_each}
+use Rattle.mot_numbers.specs.Reading.{IsByte, AreBytes, number_in, fields, ◌>>=◌, is_empty}
+use Rattle.mot_numbers.specs.Reading.{read_each}
+use Rattle.mot_numbers.specs.PacketLength.{kind_number, room_of, code_of}
 use Rattle.mot_numbers.specs.declared.group_kind.GroupKind.{GroupKind}
 use Rattle.mot_numbers.specs.declared.group_kind.GroupKind.TheVariants.{Body, Directory}
 use Rattle.mot_numbers.specs.declared.packet_length.PacketLength.{PacketLength}

@@ -2,6 +2,8 @@
 use Rattle.std.specs.Prelude.{ℕ, ◌≡◌, ◌⊎◌, nat_le, if◌then◌else◌}
 use Rattle.mot_numbers.specs.declared.packet_length.PacketLength.{PacketLength}
 use Rattle.mot_numbers.specs.declared.packet_length.PacketLength.TheVariants.{P24, P48, P72, P96}
+use Rattle.mot_numbers.specs.declared.group_kind.GroupKind.{GroupKind}
+use Rattle.mot_numbers.specs.declared.group_kind.GroupKind.TheVariants.{Body, Directory}
 
 -- header, data field and checksum
 abbrev pub bytes_of : PacketLength → ℕ
@@ -33,3 +35,9 @@ abbrev pub shortest_room : ℕ → ℕ
 shortest_room n =
     if nat_le n 19 then 19
     else (if nat_le n 43 then 43 else (if nat_le n 67 then 67 else 91))
+
+-- The data group types (EN 300 401, clause 5.3.3; EN 301 234).
+
+abbrev pub kind_number : GroupKind → ℕ
+kind_number Body = 4
+kind_number Directory = 6

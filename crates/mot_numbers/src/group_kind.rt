@@ -12,7 +12,7 @@ pub enum GroupKind {
 }
 
 impl GroupKind {
-    ghost use Rattle.mot_numbers.specs.GroupKind.{kind_number};
+    ghost use Rattle.mot_numbers.specs.PacketLength.{kind_number};
 
     /// The data group type: 4 for a body, 6 for a directory.
     pub fn number(self) -> u8

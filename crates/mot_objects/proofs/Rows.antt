@@ -4,7 +4,7 @@ use Rattle.mot_numbers.specs.declared.refusal.Refusal.TheVariants.{NameTaken, No
 use Rattle.mot_numbers.specs.declared.refusal.Refusal.TheVariants.{TooManyObjects}
 use Rattle.mot_objects.specs.declared.command.Command.{Command}
 use Rattle.mot_objects.specs.declared.command.Command.TheVariants.{Put, Replace, Withdraw, Period}
-use Rattle.mot_objects.specs.Content.{ContentNumbers}
+use Rattle.mot_objects.specs.Name.{ContentNumbers}
 use Rattle.mot_objects.specs.Carousel.{Carousel, new_carousel, change, carousel_after}
 use Rattle.mot_objects.specs.Ids.{next_free_id}
 use Rattle.mot_objects.specs.declared.mime.TheConstants.{MAX_MIME}

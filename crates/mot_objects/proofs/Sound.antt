@@ -15,7 +15,7 @@ use Rattle.mot_numbers.specs.Reading.{◌>>=◌}
 use Rattle.mot_objects.specs.declared.command.Command.{Command}
 use Rattle.mot_objects.specs.declared.command.Command.TheVariants.{Put, Replace, Withdraw, Period}
 use Rattle.mot_objects.specs.declared.command.Done.{Done}
-use Rattle.mot_objects.specs.Content.{ContentNumbers}
+use Rattle.mot_objects.specs.Name.{ContentNumbers}
 use Rattle.mot_objects.specs.Carousel.{Object, Carousel, has_name, objects_with, objects_without}
 use Rattle.mot_objects.specs.Carousel.{renewed_object, used_ids, free_object_id, free_directory_id}
 use Rattle.mot_objects.specs.Carousel.{change_to, change_if_named, change, are_names_distinct}

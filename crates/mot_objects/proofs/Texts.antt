@@ -10,8 +10,7 @@ use Rattle.std.proofs.lemmas.Bool.{and_from, and_parts, leb-true, le-leb, ltb-tr
 use Rattle.std.proofs.lemmas.Bool.{false_from_ne_true}
 use Rattle.std.proofs.lemmas.Slice.Eq.{bytes_eq-Decides}
 use Rattle.mot_numbers.specs.Geometry.{is_within}
-use Rattle.mot_objects.specs.Mime.{IsMime, is_mime}
-use Rattle.mot_objects.specs.Name.{IsName, is_name}
+use Rattle.mot_objects.specs.Name.{IsMime, is_mime, IsName, is_name}
 
 -- bytes that keep a name's rule, and are not too long, pass its test
 pub name_true : (longest : ℕ) (bytes : List ℕ) → IsName bytes → length bytes ≤ longest

@@ -1,7 +1,8 @@
 -- The carousel with its bodies, and what commands make of it (own rules).
 use Rattle.std.specs.Prelude.{◌≡◌, ℕ, ◌+◌, ◌%◌, ◌≤◌, Bool, true, not, ◌&&◌, nat_le, if◌then◌else◌}
 use Rattle.std.specs.Prelude.{List, [], ◌∷◌, ◌++◌, length, map, Option, Some, None, unwrap_or}
-use Rattle.std.specs.Prelude.{option_map, option_to_list, Result, Ok, Err, bytes_eq}
+use Rattle.std.specs.Prelude.{option_map, option_to_list, Result, Ok, Err, bytes_eq, ⊤, ◌<◌, All}
+use Rattle.std.specs.Prelude.{MatchOption, ◌==◌}
 use Rattle.std.specs.List.{list_any, AllByRecursion}
 use Rattle.mot_numbers.specs.Reading.{◌>>=◌}
 use Rattle.mot_numbers.specs.declared.geometry.TheConstants.{MAX_OBJECTS}
@@ -11,8 +12,11 @@ use Rattle.mot_numbers.specs.declared.refusal.Refusal.TheVariants.{TooManyObject
 use Rattle.mot_objects.specs.declared.command.Command.{Command}
 use Rattle.mot_objects.specs.declared.command.Command.TheVariants.{Put, Replace, Withdraw, Period}
 use Rattle.mot_objects.specs.declared.command.Done.{Done}
-use Rattle.mot_objects.specs.Content.{ContentNumbers}
+use Rattle.mot_objects.specs.Name.{ContentNumbers, IsMime, IsName}
 use Rattle.mot_objects.specs.Ids.{is_distinct, next_free_id}
+use Rattle.mot_objects.specs.declared.body.TheConstants.{MAX_BODY}
+use Rattle.mot_objects.specs.declared.content.TheConstants.{MAX_TYPE, MAX_SUBTYPE}
+use Rattle.mot_objects.specs.declared.period.TheConstants.{MAX_PERIOD}
 
 pub record Object : Type 0 where
   pub name : List ℕ
@@ -131,3 +135,31 @@ pub record IsSound (c : Carousel) : Type 0 where
   pub range : AllByRecursion (λ id. (1 ≤ id) × (id ≤ 65535)) (used_ids c)
   pub cursor : (1 ≤ c.cursor) × (c.cursor ≤ 65535)
   pub few : length c.objects ≤ MAX_OBJECTS
+
+-- The rules of the fields of objects, and of a carousel (own profile).
+
+-- each field of an object keeps its rule
+pub record KeepsRules (o : Object) : Type 0 where
+  pub name : IsName o.name
+  pub content : (o.content.content_type ≤ MAX_TYPE) × (o.content.subtype ≤ MAX_SUBTYPE)
+  pub mime : MatchOption o.mime ⊤ IsMime
+  pub size : (1 ≤ length o.body) × (length o.body ≤ MAX_BODY)
+  pub bytes : All (λ b. b < 256) o.body
+
+-- and so does the period
+pub record AllKeepRules (c : Carousel) : Type 0 where
+  pub objects : AllByRecursion KeepsRules c.objects
+  pub period : c.period ≤ MAX_PERIOD
+
+-- The commands that rebuild a carousel: a backup, and a way to a larger disk (own rule).
+
+abbrev pub put_again : Object → Command
+put_again o = Put o.name o.content o.mime o.body
+
+-- a new carousel has the period 0
+abbrev pub set_period_again : ℕ → List Command
+set_period_again n = if n == 0 then [] else Period n ∷ []
+
+-- a put for each object, in order, and the period
+abbrev pub rebuilding : Carousel → List Command
+rebuilding c = map put_again c.objects ++ set_period_again c.period

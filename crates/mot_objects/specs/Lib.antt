@@ -1,10 +1,5 @@
 pub mod Carousel
-pub mod Content
 pub mod Ids
 pub mod Laws
-pub mod Mime
 pub mod Name
-pub mod Rebuilding
-pub mod Rules
 pub mod Stands
-pub mod Text

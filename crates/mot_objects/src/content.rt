@@ -1,7 +1,7 @@
 //! The type of an object's content.
 ghost use Rattle.std.specs.Prelude.{◌≡◌, ◌↔◌, ◌≤◌, IsOk, IfOk, IfErr};
 ghost use Rattle.mot_numbers.specs.declared.refusal.Refusal.TheVariants.{BadType};
-ghost use Rattle.mot_objects.specs.Content.{ContentNumbers};
+ghost use Rattle.mot_objects.specs.Name.{ContentNumbers};
 ghost use Rattle.mot_objects.specs.declared.content.TheConstants.{MAX_SUBTYPE, MAX_TYPE};
 
 use mot_numbers::Refusal;

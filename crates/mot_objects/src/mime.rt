@@ -1,8 +1,7 @@
 //! The MIME type of an object.
 ghost use Rattle.std.specs.Prelude.{◌≡◌, ◌↔◌, ℕ, List, IsOk, IfOk, IfErr, IsTrue};
 ghost use Rattle.mot_numbers.specs.declared.refusal.Refusal.TheVariants.{BadMime};
-ghost use Rattle.mot_objects.specs.Mime.{IsMime};
-ghost use Rattle.mot_objects.specs.Text.{text_bytes};
+ghost use Rattle.mot_objects.specs.Name.{IsMime, text_bytes};
 
 use crate::text::Text;
 use mot_numbers::Refusal;

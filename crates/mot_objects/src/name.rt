@@ -1,8 +1,7 @@
 //! The name of an object.
 ghost use Rattle.std.specs.Prelude.{◌≡◌, ◌↔◌, ℕ, List, IsOk, IfOk, IfErr, IsTrue};
 ghost use Rattle.mot_numbers.specs.declared.refusal.Refusal.TheVariants.{BadName};
-ghost use Rattle.mot_objects.specs.Name.{IsName};
-ghost use Rattle.mot_objects.specs.Text.{text_bytes};
+ghost use Rattle.mot_objects.specs.Name.{IsName, text_bytes};
 
 use crate::text::Text;
 use mot_numbers::Refusal;

@@ -1,6 +1,6 @@
 //! The bytes of a name or a MIME type, which its copies share.
 ghost use Rattle.std.specs.Prelude.{◌≡◌};
-ghost use Rattle.mot_objects.specs.Text.{text_bytes};
+ghost use Rattle.mot_objects.specs.Name.{text_bytes};
 
 use std::alloc::AllocError;
 use std::rc::Rc;

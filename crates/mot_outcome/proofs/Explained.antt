@@ -15,7 +15,7 @@ use Rattle.mot_outcome.specs.declared.exit.Exit.{Exit}
 use Rattle.mot_outcome.specs.declared.used.UsedDisk.{UsedDisk}
 use Rattle.mot_outcome.specs.declared.used.UsedDisk.TheVariants.{Untouched}
 use Rattle.mot_cli.proofs.Laws.{AreWrong-fault, AskForHelp-shown}
-use Rattle.mot_cli.specs.Asked.{AreWrong}
+use Rattle.mot_cli.specs.Given.{AreWrong}
 use Rattle.mot_cli.specs.Command.{motcar_app}
 
 -- words with a fault are wrong, or ask for help; or there was no memory

@@ -1,18 +1,16 @@
 -- What a run of the program comes to, whatever its tasks are.
 use Rattle.std.specs.declared.io.Error.{Error}
-use Rattle.std.specs.Prelude.{ℕ, ◌≡◌, ◌++◌, ◌∷◌, [], Bool, true, List, Option, Some, None}
-use Rattle.std.specs.Prelude.{◌⊎◌, Err, IsErrAnd, IsSomeAnd, IsTrue, Ok, Result, false, option_map}
+use Rattle.std.specs.Prelude.{ℕ, ◌≡◌, ◌++◌, ◌∷◌, [], Bool, true, List, Option, Some, None, ◌⊎◌, Err}
+use Rattle.std.specs.Prelude.{IsErrAnd, IsSomeAnd, IsTrue, Ok, Result, false, option_map}
 use Rattle.std.specs.Fmt.{decimal}
 use Rattle.std.specs.Io.KnownBytes.{Appends, Keeps}
 use Rattle.std.specs.Result.{result_unwrap_or}
 use Rattle.clap.specs.Words.{Row, Text}
 use Rattle.disk_store.specs.declared.file.start.Start.{Ghosts}
 use Rattle.disk_store.specs.declared.file.FileDiskFrom.{FileDiskFrom}
-use Rattle.mot_endpoints.specs.Copies.{IsReadAlike, TriesReads}
-use Rattle.mot_endpoints.specs.Opened.{AreMet, BeginsTo, Need, is_fault}
+use Rattle.mot_endpoints.specs.Opened.{IsReadAlike, TriesReads, AreMet, BeginsTo, Need, is_fault}
 use Rattle.mot_files.specs.Call.{Call, opened_disk}
-use Rattle.disk_store.specs.File.{fault_on}
-use Rattle.disk_store.specs.Ram.{ram_state}
+use Rattle.disk_store.specs.File.{fault_on, ram_state}
 use Rattle.disk_store.specs.Second.{second_fault}
 use Rattle.disk_store.specs.declared.file.fault.OpenFault.TheVariants.{System}
 use Rattle.mot_endpoints.specs.declared.fault.Cause.{Cause}
@@ -25,10 +23,11 @@ use Rattle.mot_outcome.specs.declared.exit.Exit.{Exit}
 use Rattle.mot_outcome.specs.declared.used.TaskCalls.{TaskCalls}
 use Rattle.mot_outcome.specs.declared.used.TaskEnd.{TaskEnd}
 use Rattle.mot_outcome.specs.declared.used.UsedDisk.{UsedDisk}
-use Rattle.mot_outcome.specs.declared.used.UsedDisk.TheVariants.{InMemory, OfCopy, OfFile, Untouched}
+use Rattle.mot_outcome.specs.declared.used.UsedDisk.TheVariants.{InMemory, OfCopy, OfFile}
+use Rattle.mot_outcome.specs.declared.used.UsedDisk.TheVariants.{Untouched}
 use Rattle.mot_playout.specs.Attempts.{fault_of}
 use Rattle.mot_session.specs.Served.{WritesFront}
-use Rattle.mot_cli.specs.Asked.{AskFor, AskForHelp}
+use Rattle.mot_cli.specs.Given.{AskFor, AskForHelp}
 use Rattle.mot_cli.specs.Command.{motcar_app}
 
 -- How printing a text ended: all of it was printed; or it was refused, and some first bytes were.

@@ -2,7 +2,7 @@
 use Rattle.std.proofs.Common.{◌≡◌, ℕ, zero, suc, ◌+◌, ◌*◌, ◌/◌, ◌%◌, ◌<◌, Bool, true, false, []}
 use Rattle.std.proofs.Common.{◌∷◌, refl, arith, inl, inr}
 use Rattle.std.specs.Int.{from_bool}
-use Rattle.mot_numbers.specs.Fields.{number_in, fields}
+use Rattle.mot_numbers.specs.Reading.{number_in, fields}
 use Rattle.mot_numbers.specs.PacketLength.{IsLength, room_of, code_of}
 use Rattle.mot_numbers.specs.declared.packet_length.PacketLength.{PacketLength}
 use Rattle.mot_numbers.specs.declared.packet_length.PacketLength.TheVariants.{P24, P48, P72, P96}

@@ -1,7 +1,7 @@
 -- Only a packet's own bytes read as it.
 use Rattle.std.proofs.Common.{◌≡◌, ℕ, ◌+◌, ◌-◌, ◌*◌, ◌%◌, ◌^◌, ◌<◌, ◌≤◌, List, [], ◌∷◌, ◌++◌, true}
-use Rattle.std.proofs.Common.{refl, sym, length, take, drop, replicate, arith, ap, subst}
-use Rattle.std.proofs.Common.{◌∙◌, length-take, length-drop, Some}
+use Rattle.std.proofs.Common.{refl, sym, length, take, drop, replicate, arith, ap, subst, ◌∙◌}
+use Rattle.std.proofs.Common.{length-take, length-drop, Some}
 use Rattle.std.proofs.Math.Nat.{mod-eq_of_lt}
 use Rattle.std.proofs.lemmas.Bool.{and_parts, eqb-true, leb-true, ltb-true}
 use Rattle.std.proofs.lemmas.List.{take-append-drop, take-take}
@@ -12,11 +12,9 @@ use Rattle.std.specs.Int.{w16, to_be_bytes, from_bool}
 use Rattle.std.specs.List.{list_all}
 use Rattle.mot_base.specs.Checksum.{crc_of, without_crc, ends_in_crc}
 use Rattle.mot_base.proofs.Laws.{append-without_crc}
-use Rattle.mot_numbers.specs.Bytes.{IsByte, AreBytes}
-use Rattle.mot_numbers.specs.Fields.{number_in, fields}
-use Rattle.mot_numbers.proofs.Laws.{AreBytes-append, AreBytes-cons, AreBytes-to_be_bytes}
-use Rattle.mot_numbers.proofs.Laws.{cons_eq, fields-injective, number_in-fits}
-use Rattle.mot_numbers.proofs.Laws.{number_in-injective}
+use Rattle.mot_numbers.specs.Reading.{IsByte, AreBytes, number_in, fields}
+use Rattle.mot_numbers.proofs.Laws.{AreBytes-append, AreBytes-cons, AreBytes-to_be_bytes, cons_eq}
+use Rattle.mot_numbers.proofs.Laws.{fields-injective, number_in-fits, number_in-injective}
 use Rattle.mot_numbers.proofs.Laws.{one_or_zero}
 use Rattle.mot_packets.specs.Packet.{PacketFields, packet_with, read_packet}
 use Rattle.mot_packets.specs.Written.{IsPacket, header_word, code_of_room, covered_bytes}

@@ -11,7 +11,7 @@ use Rattle.std.specs.List.{list_all}
 use Rattle.std.specs.Int.{w16, to_be_bytes, from_bool}
 use Rattle.mot_base.specs.Checksum.{crc_of, without_crc, ends_in_crc}
 use Rattle.mot_base.proofs.Laws.{without_crc-append, ends_in_crc-append}
-use Rattle.mot_numbers.specs.Bytes.{IsByte, AreBytes}
+use Rattle.mot_numbers.specs.Reading.{IsByte, AreBytes}
 use Rattle.mot_numbers.proofs.Laws.{AreBytes-append, AreBytes-cons, AreBytes-to_be_bytes}
 use Rattle.mot_packets.specs.Packet.{PacketFields, packet_with, read_packet}
 use Rattle.mot_packets.specs.Written.{IsPacket, header_word, code_of_room, covered_bytes}

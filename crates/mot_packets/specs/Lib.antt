@@ -1,6 +1,5 @@
 pub mod Cut
 pub mod Gather
 pub mod Inner
-pub mod Outlet
 pub mod Packet
 pub mod Written

@@ -3,7 +3,7 @@ use Rattle.std.specs.Prelude.{ℕ, ◌+◌, ◌*◌, Bool, ◌&&◌, ◌==◌, n
 use Rattle.std.specs.Prelude.{[], ◌∷◌, length, drop, take, Option, Some, None}
 use Rattle.std.specs.List.{list_all}
 use Rattle.mot_base.specs.Checksum.{without_crc, ends_in_crc}
-use Rattle.mot_numbers.specs.Fields.{number_in, fields}
+use Rattle.mot_numbers.specs.Reading.{number_in, fields}
 
 -- a packet: the length of its data field, its header, and the part of the data field in use
 pub record PacketFields : Type 0 where

@@ -1,6 +1,6 @@
 -- The bytes of a packet, and of all packets of a group.
 use Rattle.std.specs.Prelude.{ℕ, ◌+◌, ◌-◌, ◌*◌, ◌/◌, ◌<◌, ◌≤◌, Bool, List, ◌∷◌, ◌++◌, length, map}
-use Rattle.std.specs.Prelude.{replicate}
+use Rattle.std.specs.Prelude.{replicate, ◌≡◌, Option, Some, None, ⊤}
 use Rattle.std.specs.Int.{w16, to_be_bytes, from_bool}
 use Rattle.mot_base.specs.Checksum.{crc_of}
 use Rattle.mot_numbers.specs.PacketLength.{IsLength}
@@ -37,3 +37,11 @@ bytes_of_packet p = covered_bytes p ++ to_be_bytes w16 (crc_of (covered_bytes p)
 abbrev pub packets_of_group : ℕ → ℕ → ℕ → List ℕ → List (List ℕ)
 packets_of_group room address index group =
     map bytes_of_packet (pieces_of room address index group)
+
+-- What an outlet is known to have taken.
+
+-- what is known goes on by these
+abbrev pub Grows : {A : Type 0} → Option (List A) → Option (List A) → List A → Type 0
+Grows None new more = ⊤
+Grows (Some known) None more = ⊥
+Grows (Some known) (Some new) more = new ≡ known ++ more

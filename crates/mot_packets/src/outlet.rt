@@ -1,7 +1,7 @@
 //! Outlets: where packets go.
 ghost use Rattle.std.specs.Prelude.{◌≤◌, ◌∷◌, ℕ, List, [], None, Option, length, take, IfOk};
 ghost use Rattle.std.specs.Prelude.{MatchResult};
-ghost use Rattle.mot_packets.specs.Outlet.{Grows};
+ghost use Rattle.mot_packets.specs.Written.{Grows};
 
 use std::io;
 

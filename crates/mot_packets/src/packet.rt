@@ -3,11 +3,10 @@ ghost use Rattle.std.specs.Prelude.{◌≡◌, ℕ, ◌+◌, ◌<◌, ◌≤◌,
 ghost use Rattle.std.specs.Prelude.{Some, true};
 ghost use Rattle.std.specs.Int.{div_ceil};
 ghost use Rattle.arrayvec.specs.ArrayVec.{array_vec_len};
-ghost use Rattle.mot_numbers.specs.Bytes.{AreBytes};
+ghost use Rattle.mot_numbers.specs.Reading.{AreBytes, read_each};
 ghost use Rattle.mot_numbers.specs.PacketLength.{bytes_of, room_of};
-ghost use Rattle.mot_numbers.specs.Reading.{read_each};
 ghost use Rattle.mot_packets.specs.Cut.{piece_at, pieces_of};
-ghost use Rattle.mot_packets.specs.Inner.Header.{fields_of};
+ghost use Rattle.mot_packets.specs.Inner.{fields_of};
 ghost use Rattle.mot_packets.specs.Gather.{gather, have_address};
 ghost use Rattle.mot_packets.specs.Packet.{PacketFields, read_packet};
 ghost use Rattle.mot_packets.specs.Written.{IsPacket, bytes_of_packet, packets_of_group};

@@ -9,9 +9,8 @@ use Rattle.mot_packets.specs.Written.{bytes_of_packet}
 use Rattle.mot_numbers.proofs.Laws.{room_of-some}
 use Rattle.mot_player.specs.declared.state.State.{State}
 use Rattle.mot_player.specs.declared.groups.LastGroup.{LastGroup}
-use Rattle.mot_player.specs.LastGroup.{kept_last}
+use Rattle.mot_player.specs.PlayerView.{kept_last, AreBodiesFor, PlayerView, place_of}
 use Rattle.mot_player.specs.Laws.{IsPlace, IsStep}
-use Rattle.mot_player.specs.PlayerView.{AreBodiesFor, PlayerView, place_of}
 use Rattle.mot_player.specs.Place.{Last, Place, Sent, UnderWay, first_sent, group_for, next_sent}
 use Rattle.mot_player.specs.Place.{packet_sent, request, with_begun}
 use Rattle.mot_player.specs.Inner.Ready.{HasBegun, IsFitted, IsReady, place_with}

@@ -12,15 +12,14 @@ use Rattle.mot_player.specs.Course.{waiting_of}
 use Rattle.mot_player.specs.Inner.Course.{followed, fresh_of, has_ended, has_ended_with, is_queued}
 use Rattle.mot_player.specs.Inner.Course.{kept_of, left_course, one_more, whole_course}
 use Rattle.mot_player.specs.Inner.Difference.{difference_from, difference_in}
-use Rattle.mot_player.specs.PlayerView.{AreBodiesFor, BodyPlan, PlayerView, TurnPlan}
-use Rattle.mot_player.specs.PlayerView.{place_of, turn_with, with_bodies}
-use Rattle.mot_player.specs.Followable.{IsFollowable}
+use Rattle.mot_player.specs.PlayerView.{AreBodiesFor, BodyPlan, PlayerView, TurnPlan, place_of}
+use Rattle.mot_player.specs.PlayerView.{turn_with, with_bodies}
+use Rattle.mot_player.specs.Turn.{IsFollowable, Turn}
 use Rattle.mot_player.specs.Inner.Entities.{IsInside, IsOnCourse, IsPlannable, IsWithinTurn}
 use Rattle.mot_player.specs.Place.{Change, Place, UnderWay, bodies_not_begun, change_between}
-use Rattle.mot_player.specs.Place.{directory_segments, goes_early}
-use Rattle.mot_player.specs.Place.{early_after, early_of, follow, fresh_segments, left_of, left_with, of_bodies}
-use Rattle.mot_player.specs.Place.{rest_after, rest_of, that_stay}
-use Rattle.mot_player.specs.Turn.{Turn}
+use Rattle.mot_player.specs.Place.{directory_segments, goes_early, early_after, early_of, follow}
+use Rattle.mot_player.specs.Place.{fresh_segments, left_of, left_with, of_bodies, rest_after}
+use Rattle.mot_player.specs.Place.{rest_of, that_stay}
 use Rattle.mot_player.specs.declared.course.Waiting.{Waiting}
 use Rattle.mot_player.specs.declared.difference.Difference.{Difference}
 use Rattle.mot_player.proofs.Followed.{renewed}

@@ -9,14 +9,14 @@ use Rattle.mot_objects.specs.Ids.{contains, is_distinct}
 use Rattle.mot_player.specs.Course.{Entity}
 use Rattle.mot_player.specs.Inner.Difference.{are_alike, difference_from, is_same}
 use Rattle.mot_player.specs.PlayerView.{BodyPlan}
-use Rattle.mot_player.specs.Followable.{IsOneChange, put, replaced, same, withdrawn}
+use Rattle.mot_player.specs.Turn.{IsOneChange, put, replaced, same, withdrawn}
 use Rattle.mot_player.specs.Place.{Same, Put, Replaced, Withdrawn, change_between}
 use Rattle.mot_player.specs.declared.difference.Difference.{Difference}
 use Rattle.mot_player.specs.declared.difference.Difference.TheVariants.{Nothing, Added, Changed}
 use Rattle.mot_player.specs.declared.difference.Difference.TheVariants.{Removed}
 use Rattle.mot_player.proofs.Differences.{other-length}
-use Rattle.mot_player.proofs.FollowedCourse.{GoesOn, goes_on-put, goes_on-replaced}
-use Rattle.mot_player.proofs.FollowedCourse.{goes_on-same, goes_on-withdrawn}
+use Rattle.mot_player.proofs.FollowedCourse.{GoesOn, goes_on-put, goes_on-replaced, goes_on-same}
+use Rattle.mot_player.proofs.FollowedCourse.{goes_on-withdrawn}
 use Rattle.mot_player.proofs.Renewed.{AreOthers, IsGoing}
 
 -- what a turn plans of a body

@@ -17,7 +17,9 @@ use Rattle.mot_numbers.specs.declared.numbers.TheConstants.{MAX_SEGMENT}
 use Rattle.mot_objects.specs.Carousel.{Carousel, IsSound}
 use Rattle.mot_objects.specs.Ids.{contains, is_distinct}
 use Rattle.mot_packets.specs.Gather.{gather, gather_front, groups_after}
-use Rattle.mot_player.specs.Followable.{IsFollowable, IsOneChange, put, replaced, same, withdrawn}
+use Rattle.mot_player.specs.Turn.{IsFollowable, IsOneChange, put, replaced, same, withdrawn}
+use Rattle.mot_player.specs.Turn.{IsPlayable, IsTurnOf, Turn, segments_of_bodies, segments_of_turn}
+use Rattle.mot_player.specs.Turn.{turn_of_carousel}
 use Rattle.mot_player.specs.Laws.{AreSent, IsPlace}
 use Rattle.mot_player.specs.Place.{Change, Place, Put, Replaced, Same, Sent, Step, UnderWay}
 use Rattle.mot_player.specs.Place.{Withdrawn, bodies_not_begun, change_between, change_turn}
@@ -28,8 +30,6 @@ use Rattle.mot_player.specs.Place.{rest_of, sent_by, without}
 use Rattle.mot_player.specs.Reading.{read_segments}
 use Rattle.mot_player.specs.Repeats.{ReadsOnceAs, ends_at_last, read_turn_once, received}
 use Rattle.mot_player.specs.Staying.{AreFewEarly, HasDirectory, touches}
-use Rattle.mot_player.specs.Turn.{IsPlayable, IsTurnOf, Turn, segments_of_bodies, segments_of_turn}
-use Rattle.mot_player.specs.Turn.{turn_of_carousel}
 use Rattle.mot_player.proofs.Asked.{keep_turn}
 use Rattle.mot_player.proofs.Addresses.{one_address, steps-address}
 use Rattle.mot_player.proofs.Beginnings.{StandsAt}
@@ -37,11 +37,11 @@ use Rattle.mot_player.proofs.FewEarly.{both-counted}
 use Rattle.mot_player.proofs.Followed.{AreBodies, bodies-append, bodies-early_after, takes_away}
 use Rattle.mot_player.proofs.Followed.{bodies-renewed, followed-bodies, gone-none, followed-left}
 use Rattle.mot_player.proofs.Followed.{own-followed, renewed, of_bodies-directory}
-use Rattle.mot_player.proofs.FollowedTurn.{between-put, between-replaced, between-same}
-use Rattle.mot_player.proofs.FollowedTurn.{AreSome, between-withdrawn, ids, other-inside}
-use Rattle.mot_player.proofs.FollowedTurn.{others-both, some-inside}
-use Rattle.mot_player.proofs.FreshReads.{IsOwn, all-again, body-absent, body_of, copies}
-use Rattle.mot_player.proofs.FreshReads.{map-ids, own-whole, reads-again}
+use Rattle.mot_player.proofs.FollowedTurn.{between-put, between-replaced, between-same, AreSome}
+use Rattle.mot_player.proofs.FollowedTurn.{between-withdrawn, ids, other-inside, others-both}
+use Rattle.mot_player.proofs.FollowedTurn.{some-inside}
+use Rattle.mot_player.proofs.FreshReads.{IsOwn, all-again, body-absent, body_of, copies, map-ids}
+use Rattle.mot_player.proofs.FreshReads.{own-whole, reads-again}
 use Rattle.mot_player.proofs.Left.{filter-within, own, own-directory, own-of_bodies}
 use Rattle.mot_player.proofs.Repeated.{heard-left, none-behind, of_bodies-all}
 use Rattle.mot_player.proofs.Requests.{packets_of}

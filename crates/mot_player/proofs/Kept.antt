@@ -4,7 +4,7 @@ use Rattle.std.proofs.Common.{refl, arith}
 use Rattle.std.proofs.lemmas.Bool.{eqb-false}
 use Rattle.std.specs.Prelude.{◌==◌, bytes_eq, vec_len}
 use Rattle.mot_numbers.proofs.Laws.{is_empty-some}
-use Rattle.mot_player.specs.LastGroup.{kept_last}
+use Rattle.mot_player.specs.PlayerView.{kept_last}
 use Rattle.mot_player.specs.Place.{next_index}
 use Rattle.mot_player.specs.declared.groups.LastGroup.{LastGroup}
 

@@ -13,7 +13,7 @@ use Rattle.mot_groups.specs.Entity.{first_pieces, numbered_segments}
 use Rattle.mot_groups.specs.Group.{Segment}
 use Rattle.mot_numbers.specs.Reading.{is_empty}
 use Rattle.mot_groups.proofs.Laws.{length-first_pieces}
-use Rattle.mot_player.specs.Bodies.{body_at}
+use Rattle.mot_player.specs.Turn.{body_at}
 use Rattle.mot_player.specs.Course.{Entity, entities_of, segments_from, segments_in}
 use Rattle.mot_player.specs.PlayerView.{AreBodiesFor, BodyPlan, TurnPlan, turn_with, with_bodies}
 use Rattle.mot_player.specs.Inner.Entities.{IsPlannable, IsWithinTurn, entity_bytes, entity_length}

@@ -5,8 +5,7 @@ use Rattle.std.specs.List.{AllByRecursion}
 use Rattle.mot_directory.specs.Entries.{HasDirectory, IsWithinLimits}
 use Rattle.mot_directory.proofs.Laws.{length-directory_of, read_directory-directory_of}
 use Rattle.mot_numbers.specs.declared.numbers.TheConstants.{MAX_SEGMENT, MIN_SEGMENT}
-use Rattle.mot_objects.specs.Carousel.{Carousel, IsSound, Object}
-use Rattle.mot_objects.specs.Rules.{AllKeepRules, KeepsRules}
+use Rattle.mot_objects.specs.Carousel.{Carousel, IsSound, Object, AllKeepRules, KeepsRules}
 use Rattle.mot_player.specs.Turn.{IsPlayable, IsSendable, IsTurnOf, bodies_with_ids}
 use Rattle.mot_player.specs.Turn.{turn_of_carousel}
 use Rattle.mot_player.proofs.WholeTurn.{IsId}

@@ -1,10 +1,10 @@
 -- There are bodies of a turn's lengths with given bytes at a place of one of them.
-use Rattle.std.proofs.Common.{◌≡◌, ℕ, zero, suc, ◌+◌, ◌-◌, ◌<◌, ◌≤◌, List, [], ◌∷◌, ◌++◌, refl}
-use Rattle.std.proofs.Common.{sym, ap, ◌∙◌, arith, length, length-append, map, take, drop}
+use Rattle.std.proofs.Common.{◌≡◌, ℕ, zero, suc, ◌+◌, ◌-◌, ◌<◌, ◌≤◌, List, [], ◌∷◌, ◌++◌, refl, sym}
+use Rattle.std.proofs.Common.{ap, ◌∙◌, arith, length, length-append, map, take, drop}
 use Rattle.std.proofs.lemmas.Bool.{ne_eqb}
 use Rattle.std.proofs.lemmas.List.{length-replicate}
 use Rattle.std.specs.Prelude.{replicate, slice_index}
-use Rattle.mot_player.specs.Bodies.{body_at}
+use Rattle.mot_player.specs.Turn.{body_at}
 use Rattle.mot_player.specs.Laws.{blank_bodies}
 use Rattle.mot_player.specs.PlayerView.{AreBodiesFor, BodyPlan, TurnPlan}
 use Rattle.mot_player.specs.Inner.Entities.{entity_bytes, entity_length}

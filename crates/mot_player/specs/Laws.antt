@@ -1,6 +1,6 @@
 -- Laws of whole turns and of whole streams.
-use Rattle.std.specs.Prelude.{◌≡◌, ◌⊎◌, ℕ, ◌+◌, ◌-◌, length, Bool, ◌≤◌, ◌<◌, List, []}
-use Rattle.std.specs.Prelude.{◌∷◌, ◌++◌, map, replicate, Option, Some, None, IfSome}
+use Rattle.std.specs.Prelude.{◌≡◌, ◌⊎◌, ℕ, ◌+◌, ◌-◌, length, Bool, ◌≤◌, ◌<◌, List, [], ◌∷◌, ◌++◌}
+use Rattle.std.specs.Prelude.{map, replicate, Option, Some, None, IfSome}
 use Rattle.std.specs.Option.{option_map_or}
 use Rattle.mot_groups.specs.Group.{Segment}
 use Rattle.mot_numbers.specs.Reading.{read_each}
@@ -8,8 +8,8 @@ use Rattle.mot_numbers.specs.declared.numbers.TheConstants.{MAX_SEGMENT}
 use Rattle.mot_packets.specs.Packet.{read_packet}
 use Rattle.mot_packets.specs.Written.{bytes_of_packet}
 use Rattle.mot_player.specs.Continuity.{IsContinuous}
-use Rattle.mot_player.specs.Place.{Last, UnderWay, Place, Sent, Step, left_of, opened_place, request}
-use Rattle.mot_player.specs.Place.{sent_by}
+use Rattle.mot_player.specs.Place.{Last, UnderWay, Place, Sent, Step, left_of, opened_place}
+use Rattle.mot_player.specs.Place.{request, sent_by, Request}
 use Rattle.mot_player.specs.PlayerView.{BodyPlan, PlayerView, TurnPlan, place_of}
 use Rattle.mot_player.specs.Turn.{Turn, IsPlayable, segments_of_turn}
 
@@ -76,3 +76,14 @@ StepsGoOn =
     (steps more : List Step) (place mid new : Place) (sents others : List Sent) →
     sent_by place steps ≡ Some (sents, mid) → sent_by mid more ≡ Some (others, new) →
     sent_by place (steps ++ more) ≡ Some (sents ++ others, new)
+
+-- What requests send.
+
+-- the bytes of the packets that were sent
+abbrev pub packets_sent : List Sent → List (List ℕ)
+packets_sent sents = map (λ (s : Sent). bytes_of_packet s.packet) sents
+
+-- so many requests sent these packets, each of which reads as what was sent
+pub record HasSent (old : Place) (count : ℕ) (sents : List Sent) (new : Place) : Type 0 where
+  pub steps : sent_by old (replicate count Request) ≡ Some (sents, new)
+  pub read : AreSent sents (packets_sent sents)

@@ -1,8 +1,11 @@
 -- Where a player stands but for the bodies, which stand elsewhere.
-use Rattle.std.specs.Prelude.{◌≡◌, ℕ, List, [], ◌∷◌, length, map, Option}
+use Rattle.std.specs.Prelude.{◌≡◌, ℕ, List, [], ◌∷◌, length, map, Option, if◌then◌else◌, ◌++◌, Some}
+use Rattle.std.specs.Prelude.{None}
 use Rattle.mot_player.specs.Course.{CourseView, entities_of, queued, waiting_of}
 use Rattle.mot_player.specs.Place.{Last, UnderWay, Place}
 use Rattle.mot_player.specs.Turn.{Turn}
+use Rattle.mot_numbers.specs.Reading.{is_empty}
+use Rattle.mot_player.specs.declared.groups.LastGroup.{LastGroup}
 
 -- of a body that a turn plays: its transport id and its length
 pub record BodyPlan : Type 0 where
@@ -57,3 +60,11 @@ place_of s bodies = record {
   last_directory = s.last_directory;
   last_body = s.last_body;
 }
+
+-- What the program keeps of the group of a type that was begun last.
+
+-- none where there is no segment
+abbrev pub kept_last : LastGroup → Option Last
+kept_last kept =
+    if is_empty kept.segment.items then None
+    else Some (record { index = kept.index; content = kept.front ++ kept.segment.items })

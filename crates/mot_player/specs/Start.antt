@@ -3,6 +3,9 @@ use Rattle.std.specs.Prelude.{ℕ, ◌+◌, ◌-◌, ◌%◌, Bool, true, false,
 use Rattle.std.specs.Prelude.{List, [], ◌∷◌, ◌++◌, Option, Some, None, length, map}
 use Rattle.mot_player.specs.Place.{Place, directory_segments, opened_place}
 use Rattle.mot_player.specs.Turn.{Turn, segments_of_bodies}
+use Rattle.mot_player.specs.declared.planned_body.PlannedBody.{PlannedBody}
+use Rattle.mot_player.specs.declared.turn.Turn.TheInside.{Inside}
+use Rattle.mot_player.specs.PlayerView.{TurnPlan}
 
 -- how old an id is: how far it lies behind the one that was taken last, on the circle of 65,535
 abbrev pub age : (cursor id : ℕ) → ℕ
@@ -51,3 +54,12 @@ start_place address room size turn cursor (Some most) false =
 start_place address room size turn cursor (Some most) true =
     begin_with (newest (most - 1) cursor turn.bodies)
     (record (opened_place address room size turn) { follows = Some most })
+
+-- What a turn of the program stands for.
+
+abbrev pub plan_of : Inside → TurnPlan
+plan_of turn = record {
+  tid = turn.tid;
+  directory = turn.directory.items;
+  bodies = map (λ (b : PlannedBody). record { tid = b.tid; length = b.length }) turn.bodies.items;
+}

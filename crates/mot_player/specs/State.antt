@@ -3,8 +3,7 @@ use Rattle.std.specs.Prelude.{◌==◌, if◌then◌else◌, Some, None}
 use Rattle.mot_numbers.specs.PacketLength.{room_of}
 use Rattle.mot_player.specs.Course.{course_of}
 use Rattle.mot_player.specs.declared.state.State.{State}
-use Rattle.mot_player.specs.LastGroup.{kept_last}
-use Rattle.mot_player.specs.PlayerView.{PlayerView}
+use Rattle.mot_player.specs.PlayerView.{kept_last, PlayerView}
 
 abbrev pub view_of : State → PlayerView
 view_of p = record {

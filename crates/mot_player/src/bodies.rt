@@ -3,7 +3,7 @@ ghost use Rattle.std.specs.Prelude.{◌≡◌, ◌+◌, ◌<◌, ◌≤◌, List
 ghost use Rattle.std.specs.Prelude.{OnOk, IfErr};
 ghost use Rattle.disk_model.specs.Failures.{HasCause};
 ghost use Rattle.mot_numbers.specs.declared.refusal.Refusal.TheVariants.{DeviceFault};
-ghost use Rattle.mot_player.specs.Bodies.{body_at};
+ghost use Rattle.mot_player.specs.Turn.{body_at};
 
 use mot_numbers::Refusal;
 use mot_objects::Body;

@@ -18,12 +18,11 @@ pub(crate) struct LastGroup {
 
 impl LastGroup {
     ghost use Rattle.std.specs.Prelude.{◌+◌, ◌^◌, [], ◌++◌, Some, None, IfOk};
-    ghost use Rattle.mot_numbers.specs.GroupKind.{kind_number};
+    ghost use Rattle.mot_numbers.specs.PacketLength.{kind_number};
     ghost use Rattle.mot_numbers.specs.declared.numbers.TheConstants.{MAX_SEGMENT};
     ghost use Rattle.mot_groups.specs.Group.{GroupFields, IsGroup, content_of, bytes_of_group};
-    ghost use Rattle.mot_groups.specs.Group.{group_of};
-    ghost use Rattle.mot_groups.specs.Group.{read_group, segment_content};
-    ghost use Rattle.mot_player.specs.LastGroup.{kept_last};
+    ghost use Rattle.mot_groups.specs.Group.{group_of, read_group, segment_content};
+    ghost use Rattle.mot_player.specs.PlayerView.{kept_last};
     ghost use Rattle.mot_player.specs.Place.{Last, next_index};
 
     /// None was begun. There is room for segments of so many bytes.

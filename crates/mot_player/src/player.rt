@@ -4,14 +4,12 @@ ghost use Rattle.std.specs.Prelude.{None, IfOk, IfErr, IfSome, IsOk, OnOk, OnErr
 ghost use Rattle.mot_numbers.specs.PacketLength.{room_of};
 ghost use Rattle.mot_numbers.specs.declared.refusal.Refusal.TheVariants.{OutOfMemory};
 ghost use Rattle.mot_packets.specs.Packet.{read_packet};
-ghost use Rattle.mot_player.specs.Bodies.{ReadsBodies};
+ghost use Rattle.mot_player.specs.Turn.{ReadsBodies, IsFollowable};
 ghost use Rattle.mot_player.specs.PlayerView.{AreBodiesFor, place_of, turn_with};
 ghost use Rattle.mot_player.specs.AnyBodies.{IsStepOfSome};
-ghost use Rattle.mot_player.specs.Laws.{IsPlace, IsStep, StepsAreContinuous, StepsGoOn};
-ghost use Rattle.mot_player.specs.Laws.{bytes_left};
-ghost use Rattle.mot_player.specs.Followable.{IsFollowable};
-ghost use Rattle.mot_player.specs.Place.{Sent, change_turn, changed, directory_packets};
-ghost use Rattle.mot_player.specs.Place.{following, hear_directory, opened_place, request};
+ghost use Rattle.mot_player.specs.Laws.{IsPlace, IsStep, StepsAreContinuous, StepsGoOn, bytes_left};
+ghost use Rattle.mot_player.specs.Place.{Sent, change_turn, changed, directory_packets, following};
+ghost use Rattle.mot_player.specs.Place.{hear_directory, opened_place, request};
 ghost use Rattle.mot_player.specs.Staying.{BodiesGoOn, ChangesComeNext, ChangesGoEarly};
 ghost use Rattle.mot_player.specs.Staying.{DirectoryComes, FewGoEarly, ReplacedKeepsItsPlace};
 ghost use Rattle.mot_player.specs.Staying.{RequestsTakeInOrder};

@@ -1,7 +1,7 @@
 //! Reading the bytes of an entity.
-ghost use Rattle.std.specs.Prelude.{◌≡◌, ◌+◌, ◌<◌, ◌≤◌, length, take, drop, vec_len};
-ghost use Rattle.std.specs.Prelude.{slice_range, OnOk};
-ghost use Rattle.mot_player.specs.Bodies.{ReadsBodies};
+ghost use Rattle.std.specs.Prelude.{◌≡◌, ◌+◌, ◌<◌, ◌≤◌, length, take, drop, vec_len, slice_range};
+ghost use Rattle.std.specs.Prelude.{OnOk};
+ghost use Rattle.mot_player.specs.Turn.{ReadsBodies};
 ghost use Rattle.mot_player.specs.PlayerView.{AreBodiesFor};
 ghost use Rattle.mot_player.specs.Inner.Entities.{entity_bytes, entity_length};
 

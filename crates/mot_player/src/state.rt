@@ -48,21 +48,18 @@ impl State {
     ghost use Rattle.mot_numbers.specs.PacketLength.{room_of};
     ghost use Rattle.mot_packets.specs.Packet.{read_packet};
     ghost use Rattle.mot_packets.specs.Written.{bytes_of_packet};
-    ghost use Rattle.mot_player.specs.Bodies.{ReadsBodies};
-    ghost use Rattle.mot_player.specs.Place.{packet_sent};
+    ghost use Rattle.mot_player.specs.Turn.{ReadsBodies, IsFollowable};
+    ghost use Rattle.mot_player.specs.Place.{packet_sent, change_turn, follow};
     ghost use Rattle.mot_player.specs.Inner.Ready.{HasBegun, HasTaken, IsFitted, IsReady};
     ghost use Rattle.mot_player.specs.Inner.Ready.{place_with};
     ghost use Rattle.mot_player.specs.State.{view_of};
     ghost use Rattle.mot_player.specs.Inner.Next.{IsNext, TakesEarly};
-    ghost use Rattle.mot_player.specs.PlayerView.{AreBodiesFor};
+    ghost use Rattle.mot_player.specs.PlayerView.{AreBodiesFor, turn_with};
     ghost use Rattle.mot_player.specs.Course.{course_of};
     ghost use Rattle.mot_player.specs.Inner.Course.{ended_course, passed};
     ghost use Rattle.mot_player.specs.Inner.Entities.{IsOnCourse, entity_bytes, entity_length};
     ghost use Rattle.mot_player.specs.Inner.Difference.{difference_in};
-    ghost use Rattle.mot_player.specs.Followable.{IsFollowable};
-    ghost use Rattle.mot_player.specs.Place.{change_turn, follow};
     ghost use Rattle.mot_player.specs.Start.{begin_with, newest};
-    ghost use Rattle.mot_player.specs.PlayerView.{turn_with};
 
     /// The state of a player of a turn, with nothing begun, and room for the largest group.
     pub fn open(

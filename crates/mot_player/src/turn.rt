@@ -30,7 +30,7 @@ impl Model for Turn {
 
     ghost Value = { TurnPlan };
 
-    ghost use Rattle.mot_player.specs.Planned.{plan_of};
+    ghost use Rattle.mot_player.specs.Start.{plan_of};
 
     ghost view = { plan_of };
 

@@ -1,14 +1,14 @@
 -- The bodies that lie on a disk.
-use Rattle.std.proofs.Common.{◌≡◌, ℕ, ◌+◌, ◌<◌, List, [], ◌∷◌, ◌++◌, length, map, take}
-use Rattle.std.proofs.Common.{replicate, refl, sym, ap, ◌∙◌, arith, slice_range, length-take}
-use Rattle.std.proofs.Common.{length-append, length-drop, drop, ◌-◌, ◌≤◌}
+use Rattle.std.proofs.Common.{◌≡◌, ℕ, ◌+◌, ◌<◌, List, [], ◌∷◌, ◌++◌, length, map, take, replicate}
+use Rattle.std.proofs.Common.{refl, sym, ap, ◌∙◌, arith, slice_range, length-take, length-append}
+use Rattle.std.proofs.Common.{length-drop, drop, ◌-◌, ◌≤◌}
 use Rattle.std.proofs.lemmas.List.{get_or-map, length-replicate}
 use Rattle.std.proofs.Math.Seq.{take-append_seam}
 use Rattle.mot_numbers.specs.Geometry.{area_start}
 use Rattle.mot_numbers.specs.declared.geometry.Geometry.{Geometry}
-use Rattle.mot_player.specs.Bodies.{body_at}
+use Rattle.mot_player.specs.Turn.{body_at}
 use Rattle.mot_repository.specs.OnDisk.{extent_at, body_on}
-use Rattle.mot_playout.specs.Inner.Bodies.{filled_up, bytes_in, bodies_on}
+use Rattle.mot_playout.specs.Inner.{filled_up, bytes_in, bodies_on}
 
 pub filled_up-length : (n : ℕ) (xs : List ℕ) → length (filled_up n xs) ≡ n
 filled_up-length n xs = omega (

@@ -1,7 +1,7 @@
 -- Playing, request by request.
 use Rattle.std.proofs.Common.{◌≡◌, ℕ, suc, zero, Bool, true, false, List, [], ◌∷◌, ◌++◌, length}
-use Rattle.std.proofs.Common.{map, replicate, Option, Some}
-use Rattle.std.proofs.Common.{refl, sym, ap, ◌∙◌, subst, inl, inr, ◌+◌, add-one}
+use Rattle.std.proofs.Common.{map, replicate, Option, Some, refl, sym, ap, ◌∙◌, subst, inl, inr}
+use Rattle.std.proofs.Common.{◌+◌, add-one}
 use Rattle.std.proofs.lemmas.Bool.{false≢true}
 use Rattle.std.proofs.lemmas.List.{map-append}
 use Rattle.std.specs.Prelude.{◌⊎◌, Result, Ok, Err, OnErr, IsErr, MatchResult}
@@ -11,13 +11,11 @@ use Rattle.mot_numbers.proofs.Laws.{read_each-append}
 use Rattle.mot_packets.specs.Packet.{PacketFields, read_packet}
 use Rattle.mot_packets.specs.Written.{bytes_of_packet}
 use Rattle.mot_player.specs.AnyBodies.{IsStepOfSome, PlaysOn, PlaysToTheEnd}
-use Rattle.mot_player.specs.Laws.{AreSent, IsStep}
+use Rattle.mot_player.specs.Laws.{AreSent, IsStep, HasSent}
 use Rattle.mot_player.specs.Place.{Place, Sent, Request, sent_by}
 use Rattle.mot_player.specs.PlayerView as player
-use Rattle.mot_player.specs.Sending.{HasSent}
 use Rattle.mot_player.proofs.Laws.{requests-go_on}
-use Rattle.mot_playout.specs.Playing.{IsGoing}
-use Rattle.mot_playout.specs.Playing.{HasPlayed, HasPlayedTurn, bytes_of_packets}
+use Rattle.mot_playout.specs.Playing.{IsGoing, HasPlayed, HasPlayedTurn, bytes_of_packets}
 
 -- one more at the end is one more at the beginning
 replicate-more : {A : Type 0} (n : ℕ) (x : A) → replicate n x ++ x ∷ [] ≡ x ∷ replicate n x

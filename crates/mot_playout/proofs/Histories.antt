@@ -9,12 +9,11 @@ use Rattle.mot_journal.specs.Journal.{standing_from, with_records}
 use Rattle.mot_journal.proofs.Laws.{geometry_read}
 use Rattle.mot_numbers.specs.declared.geometry.Geometry.{Geometry}
 use Rattle.mot_numbers.specs.Reading.{◌>>=◌}
-use Rattle.mot_numbers.specs.Geometry.{length_of}
-use Rattle.mot_numbers.specs.Geometry.{is_valid}
+use Rattle.mot_numbers.specs.Geometry.{length_of, is_valid}
 use Rattle.mot_objects.specs.declared.command.Command.{Command}
 use Rattle.mot_repository.specs.Repository.{RepositoryView}
 use Rattle.mot_repository.specs.Opening.{IsOpened}
-use Rattle.mot_playout.specs.History.{IsHistory, HistoriesAreCommands, new, one_more}
+use Rattle.mot_playout.specs.Lives.{IsHistory, HistoriesAreCommands, new, one_more}
 use Rattle.mot_playout.specs.Runs.{IsAfter, IsAfterSome}
 use Rattle.mot_playout.proofs.Runs.{after_both, after_none}
 

@@ -11,8 +11,7 @@ use Rattle.mot_numbers.specs.declared.geometry.Geometry.{Geometry}
 use Rattle.mot_numbers.specs.declared.refusal.Refusal.{Refusal}
 use Rattle.mot_objects.specs.declared.command.Command.{Command}
 use Rattle.mot_repository.specs.Repository.{RepositoryView, Holds}
-use Rattle.mot_playout.specs.Marks.{AreMarks}
-use Rattle.mot_playout.specs.RunEnds.{RulesAlong, RunLeaves}
+use Rattle.mot_playout.specs.RunEnds.{AreMarks, RulesAlong, RunLeaves}
 use Rattle.mot_playout.specs.Runs.{accepted_commands, commands_in_flight, IsAfter, StandsAfterSome}
 use Rattle.std.specs.Option.{option_map_or}
 use Rattle.mot_numbers.specs.Refusal.{is_device_fault}

@@ -8,7 +8,7 @@ use Rattle.mot_objects.specs.declared.command.Command.TheVariants.{Put, Period}
 use Rattle.mot_numbers.specs.declared.refusal.Refusal.TheVariants.{TooManyObjects}
 use Rattle.mot_objects.specs.Carousel.{Carousel, carousel_if_accepted, change}
 use Rattle.mot_objects.specs.declared.command.Done.{Done}
-use Rattle.mot_objects.specs.Content.{ContentNumbers}
+use Rattle.mot_objects.specs.Name.{ContentNumbers}
 use Rattle.mot_playout.specs.Life.{AreMarksOf, carousel_from}
 
 some-carousel : (c : Carousel) → Some c ≡ None → ⊥

@@ -17,7 +17,7 @@ use Rattle.mot_objects.specs.declared.command.Done.{Done}
 use Rattle.mot_objects.specs.Carousel.{Carousel, Object, carousel_if_accepted, change, change_to}
 use Rattle.mot_objects.specs.Carousel.{change_if_named, free_object_id, has_name, new_object}
 use Rattle.mot_objects.specs.Carousel.{objects_with, objects_without, renewed_object}
-use Rattle.mot_objects.specs.Content.{ContentNumbers}
+use Rattle.mot_objects.specs.Name.{ContentNumbers}
 use Rattle.mot_numbers.specs.declared.refusal.Refusal.TheVariants.{BadName, NameTaken, NoRoom}
 use Rattle.mot_numbers.specs.declared.refusal.Refusal.TheVariants.{TooManyObjects}
 use Rattle.mot_journal.specs.Journal.{standing_from}
@@ -28,7 +28,7 @@ use Rattle.mot_repository.proofs.Laws.{IsAccepted, accepted_of, accepted_parts}
 use Rattle.mot_playout.specs.Life.{AreMarksOf, LacksRoom, MayLackRoom, carousel_from}
 use Rattle.mot_playout.proofs.Room.{AreAsLong, full, long-put, long-with, long-without, total-long}
 use Rattle.mot_playout.proofs.Sizes.{long_standing}
-use Rattle.mot_playout.specs.Marks.{AreMarks}
+use Rattle.mot_playout.specs.RunEnds.{AreMarks}
 
 nothing-met : (extents : List (ℕ × ℕ)) → is_free extents 0 0 ≡ true
 nothing-met [] = refl

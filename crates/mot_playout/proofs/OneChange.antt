@@ -1,7 +1,6 @@
 -- What a command makes of the bodies of a carousel: one change at most.
 use Rattle.std.proofs.Common.{◌≡◌, ℕ, Bool, true, false, cond, not, List, [], ◌∷◌, ◌++◌, length}
-use Rattle.std.proofs.Common.{map, Option, Some, None, Ok, Err, refl, sym, ap, ◌∙◌, subst}
-use Rattle.std.proofs.Common.{arith}
+use Rattle.std.proofs.Common.{map, Option, Some, None, Ok, Err, refl, sym, ap, ◌∙◌, subst, arith}
 use Rattle.std.proofs.lemmas.Bool.{and_parts, eqb-false, ne_eqb, or_parts}
 use Rattle.std.proofs.lemmas.List.{map-append}
 use Rattle.std.specs.Prelude.{◌==◌, nat_eq, nat_le, option_map}
@@ -11,11 +10,11 @@ use Rattle.mot_objects.specs.declared.command.Command.{Command}
 use Rattle.mot_objects.specs.declared.command.Command.TheVariants.{Put, Replace, Withdraw, Period}
 use Rattle.mot_objects.specs.declared.command.Done.{Done}
 use Rattle.mot_objects.specs.Carousel.{Carousel, IsSound, Object, change, change_if_named}
-use Rattle.mot_objects.specs.Carousel.{change_to, free_object_id, has_name, new_object, objects_with}
-use Rattle.mot_objects.specs.Carousel.{objects_without, renewed_object, used_ids}
+use Rattle.mot_objects.specs.Carousel.{change_to, free_object_id, has_name, new_object}
+use Rattle.mot_objects.specs.Carousel.{objects_with, objects_without, renewed_object, used_ids}
 use Rattle.mot_objects.specs.Ids.{contains, is_distinct}
 use Rattle.mot_objects.proofs.Laws.{next_free_id-nearest}
-use Rattle.mot_player.specs.Followable.{IsFollowable, IsOneChange, put, replaced, same, withdrawn}
+use Rattle.mot_player.specs.Turn.{IsFollowable, IsOneChange, put, replaced, same, withdrawn}
 use Rattle.mot_player.specs.Turn.{bodies_with_ids, turn_of_carousel}
 
 -- bodies, each behind its id

@@ -14,11 +14,10 @@ use Rattle.mot_journal.specs.Journal.{HasRecords, with_records}
 use Rattle.mot_journal.proofs.Laws.{geometry_read}
 use Rattle.mot_numbers.specs.declared.geometry.Geometry.{Geometry}
 use Rattle.mot_numbers.specs.declared.refusal.Refusal.{Refusal}
-use Rattle.mot_numbers.specs.Geometry.{packet_room, length_of}
+use Rattle.mot_numbers.specs.Geometry.{packet_room, length_of, is_valid}
 use Rattle.mot_numbers.specs.PacketLength.{IsLength}
 use Rattle.mot_numbers.proofs.Laws.{valid_is}
 use Rattle.mot_numbers.specs.Reading.{◌>>=◌}
-use Rattle.mot_numbers.specs.Geometry.{is_valid}
 use Rattle.mot_player.specs.Continuity.{IsContinuous}
 use Rattle.mot_player.specs.Laws.{IsAtTurnsBeginning, StepsAreContinuous}
 use Rattle.mot_player.specs.Place.{Place, Request, opened_place}
@@ -28,7 +27,7 @@ use Rattle.mot_repository.specs.Opening.{IsOpened, IsOpeningRefusal}
 use Rattle.mot_journal.specs.Journal as openings
 use Rattle.mot_playout.specs.Playing.{HasPlayedTurn, IsTurnRefusal, halted, no_memory, failed}
 use Rattle.mot_playout.proofs.Going.{HasPlayedTurn-read}
-use Rattle.mot_playout.specs.Server.{ServerView}
+use Rattle.mot_playout.specs.Runs.{ServerView}
 use Rattle.mot_playout.proofs.Read.{rises_on}
 
 -- time in which no image comes, and then more of it

@@ -1,6 +1,6 @@
 -- What a run makes of the player's place.
-use Rattle.std.proofs.Common.{◌≡◌, ℕ, Bool, List, [], ◌∷◌, ◌++◌, Option, Some, None, Ok}
-use Rattle.std.proofs.Common.{Result, refl, sym, ◌∙◌, ap, subst}
+use Rattle.std.proofs.Common.{◌≡◌, ℕ, Bool, List, [], ◌∷◌, ◌++◌, Option, Some, None, Ok, Result}
+use Rattle.std.proofs.Common.{refl, sym, ◌∙◌, ap, subst}
 use Rattle.std.specs.Option.{option_map_or}
 use Rattle.mot_journal.specs.declared.layout.Layout.{Layout}
 use Rattle.mot_journal.specs.Image.{Standing}
@@ -16,9 +16,8 @@ use Rattle.mot_player.specs.Turn.{Turn, turn_of_carousel}
 use Rattle.mot_repository.specs.Outcome.{after_command}
 use Rattle.mot_repository.proofs.Laws.{accepted_parts}
 use Rattle.mot_playout.specs.RunEnds.{TurnsBeginAnew, place_after, place_anew, place_behind}
-use Rattle.mot_playout.specs.Runs.{accepted_commands, IsAfter}
+use Rattle.mot_playout.specs.Runs.{accepted_commands, IsAfter, ServerView, bodies_of, place_in}
 use Rattle.mot_playout.proofs.Runs.{after_none, after_one}
-use Rattle.mot_playout.specs.Server.{ServerView, bodies_of, place_in}
 
 same-carousel : (c d : Carousel) → Some c ≡ Some d → c ≡ d
 same-carousel c d e = cc

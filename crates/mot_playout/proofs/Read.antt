@@ -10,12 +10,11 @@ use Rattle.mot_journal.specs.Journal.{with_records}
 use Rattle.mot_numbers.specs.declared.geometry.Geometry.{Geometry}
 use Rattle.mot_objects.specs.Carousel as whole
 use Rattle.mot_objects.specs.Stands.{AreBodiesOf}
-use Rattle.mot_repository.specs.Extents.{ArePaired}
-use Rattle.mot_repository.specs.OnDisk.{extent_at, body_on}
+use Rattle.mot_repository.specs.OnDisk.{ArePaired, extent_at, body_on}
 use Rattle.mot_repository.specs.Repository.{RepositoryView, Agrees, HasStanding, Holds, object_body}
 use Rattle.mot_repository.proofs.Laws.{body_held}
-use Rattle.mot_playout.specs.Inner.Bodies.{bodies_on}
-use Rattle.mot_playout.specs.Server.{bodies_of}
+use Rattle.mot_playout.specs.Inner.{bodies_on}
+use Rattle.mot_playout.specs.Runs.{bodies_of}
 use Rattle.mot_playout.proofs.Extents.{bodies_on-lengths, body_at-filled, filled_up-whole}
 use Rattle.mot_playout.proofs.Turns.{bodies_kept}
 

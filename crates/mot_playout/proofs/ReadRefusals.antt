@@ -7,7 +7,7 @@ use Rattle.mot_numbers.specs.declared.refusal.Refusal.TheVariants.{DeviceFault}
 use Rattle.mot_repository.specs.Repository.{RepositoryView}
 use Rattle.mot_playout.specs.Playing.{IsReadRefusal, IsTurnRefusal}
 use Rattle.mot_playout.specs.Playing.IsReadRefusal.{halted, failed}
-use Rattle.mot_playout.specs.Server.{ServerView}
+use Rattle.mot_playout.specs.Runs.{ServerView}
 
 -- what is kept goes on where it stays as it was
 no_halt : (v w : RepositoryView) → IsFalse v.halted → w ≡ v → IsTrue w.halted → ⊥

@@ -18,7 +18,7 @@ use Rattle.mot_numbers.specs.declared.geometry.Geometry.{Geometry}
 use Rattle.mot_objects.specs.declared.command.Command.{Command}
 use Rattle.mot_objects.specs.declared.command.Done.{Done}
 use Rattle.mot_objects.specs.Carousel.{Carousel, change, carousel_after, carousel_if_accepted}
-use Rattle.mot_objects.specs.Rules.{AllKeepRules}
+use Rattle.mot_objects.specs.Carousel.{AllKeepRules}
 use Rattle.mot_objects.specs.declared.carousel.Carousel as kept
 use Rattle.mot_objects.specs.Stands.{carousel_of, AreBodiesOf}
 use Rattle.mot_repository.specs.Answers.{IsHalted}
@@ -27,8 +27,7 @@ use Rattle.mot_repository.specs.Outcome.{after_command, has_long_name}
 use Rattle.mot_repository.specs.Repository.{RepositoryView, IsOf, Agrees, Holds, IsBeforeOrAfter}
 use Rattle.mot_repository.proofs.Laws.{accepted_parts, rules_kept}
 use Rattle.mot_playout.specs.Runs.{accepted_commands, commands_in_flight, IsAfter, StandsAfterSome}
-use Rattle.mot_playout.specs.Marks.{AreMarks}
-use Rattle.mot_playout.specs.RunEnds.{RulesAlong, RunLeaves}
+use Rattle.mot_playout.specs.RunEnds.{AreMarks, RulesAlong, RunLeaves}
 use Rattle.mot_playout.proofs.Read.{holds_still}
 
 abbrev Missing : Option Command → Type 0

@@ -8,13 +8,12 @@ use Rattle.mot_objects.specs.Carousel as whole
 use Rattle.mot_objects.specs.Stands.{AreBodiesOf, carousel_of, objects_of}
 use Rattle.mot_objects.specs.declared.carousel.Carousel.{Carousel}
 use Rattle.mot_objects.specs.declared.object.Object.{Object}
-use Rattle.mot_player.specs.Followable.{IsFollowable}
+use Rattle.mot_player.specs.Turn.{IsFollowable, IsTurnOf, Turn, turn_of_carousel}
 use Rattle.mot_player.specs.Place.{change_turn, changed, opened_place}
 use Rattle.mot_player.specs.PlayerView.{AreBodiesFor, PlayerView, TurnPlan, place_of, turn_with}
-use Rattle.mot_player.specs.Turn.{IsTurnOf, Turn, turn_of_carousel}
 use Rattle.mot_repository.specs.Repository.{Agrees, RepositoryView}
-use Rattle.mot_playout.specs.Inner.Plays.{PlaysCarousel}
-use Rattle.mot_playout.specs.Server.{bodies_of}
+use Rattle.mot_playout.specs.Inner.{PlaysCarousel}
+use Rattle.mot_playout.specs.Runs.{bodies_of}
 
 -- from two facts of an Ok a third
 pub if_ok_both : {A E : Type 0} (r : Result A E) (P Q R : A → Type 0) → ((a : A) → P a → Q a → R a)

@@ -13,9 +13,9 @@ use Rattle.mot_player.specs.Turn.{IsTurnOf}
 use Rattle.mot_player.proofs.Laws.{turns_read_as_their_carousels}
 use Rattle.mot_repository.specs.Repository.{RepositoryView, Holds}
 use Rattle.mot_repository.proofs.Laws.{standings-are_sound}
-use Rattle.mot_playout.specs.Inner.Plays.{PlaysCarousel}
+use Rattle.mot_playout.specs.Inner.{PlaysCarousel}
 use Rattle.mot_playout.specs.Playing.{HasPlayedTurn}
-use Rattle.mot_playout.specs.Server.{bodies_of}
+use Rattle.mot_playout.specs.Runs.{bodies_of}
 use Rattle.mot_playout.proofs.Going.{HasPlayedTurn-read, HasPlayedTurn-steps}
 use Rattle.mot_playout.proofs.Turns.{bodies_kept}
 

@@ -1,12 +1,9 @@
 pub mod Attempts
-pub mod History
 pub mod Inner
 pub mod Life
 pub mod Lives
-pub mod Marks
 pub mod Playing
 pub mod Run
 pub mod RunAnswers
 pub mod RunEnds
 pub mod Runs
-pub mod Server

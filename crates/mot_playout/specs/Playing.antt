@@ -1,13 +1,13 @@
 -- What a server plays.
-use Rattle.std.specs.Prelude.{ℕ, ◌≡◌, ◌+◌, true, false, List, [], ◌∷◌, ◌++◌, length, map}
-use Rattle.std.specs.Prelude.{replicate, IsTrue, IsFalse}
+use Rattle.std.specs.Prelude.{ℕ, ◌≡◌, ◌+◌, true, false, List, [], ◌∷◌, ◌++◌, length, map, replicate}
+use Rattle.std.specs.Prelude.{IsTrue, IsFalse}
 use Rattle.arrayvec.specs.ArrayVec.{ArrayVec}
 use Rattle.disk_model.specs.Failures.{Rises}
 use Rattle.mot_numbers.specs.declared.refusal.Refusal.{Refusal}
 use Rattle.mot_numbers.specs.declared.refusal.Refusal.TheVariants.{OutOfMemory, DeviceFault, Halted}
 use Rattle.mot_player.specs.Place.{Place, Sent}
-use Rattle.mot_player.specs.Sending.{HasSent, packets_sent}
-use Rattle.mot_playout.specs.Server.{ServerView}
+use Rattle.mot_player.specs.Laws.{HasSent, packets_sent}
+use Rattle.mot_playout.specs.Runs.{ServerView}
 
 -- the bytes of packets of the program
 abbrev pub bytes_of_packets : List (ArrayVec ℕ) → List (List ℕ)

@@ -1,22 +1,38 @@
 -- How a run of commands ends, and what it leaves.
 use Rattle.std.specs.Prelude.{◌≡◌, ℕ, Bool, true, false, List, [], ◌∷◌, ◌++◌, Option, IsTrue}
-use Rattle.std.specs.Prelude.{IsFalse, None, Some, ⊤}
+use Rattle.std.specs.Prelude.{IsFalse, None, Some, ⊤, Ok, Err}
 use Rattle.disk_model.specs.Disk.{State, Throughout}
 use Rattle.disk_model.specs.Failures.{Rises}
 use Rattle.mot_journal.specs.Image.{Standing}
 use Rattle.mot_numbers.specs.declared.refusal.Refusal.{Refusal}
 use Rattle.mot_numbers.specs.declared.refusal.Refusal.TheVariants.{OutOfMemory, DeviceFault, Halted}
 use Rattle.mot_objects.specs.declared.command.Command.{Command}
-use Rattle.mot_objects.specs.Carousel.{Carousel, carousel_if_accepted, change}
-use Rattle.mot_objects.specs.Rules.{AllKeepRules}
+use Rattle.mot_objects.specs.Carousel.{Carousel, carousel_if_accepted, change, AllKeepRules}
 use Rattle.mot_player.specs.Place.{Place, change_turn, changed}
 use Rattle.mot_player.specs.Turn.{turn_of_carousel}
 use Rattle.mot_repository.specs.Repository.{RepositoryView, Agrees, Holds}
-use Rattle.mot_playout.specs.Marks.{AreMarks}
-use Rattle.mot_playout.specs.Runs.{accepted_commands, commands_in_flight}
+use Rattle.mot_playout.specs.Runs.{accepted_commands, commands_in_flight, IsAfter, StandsAfterSome}
 use Rattle.std.specs.Option.{option_map_or}
 use Rattle.mot_numbers.specs.Refusal.{is_device_fault}
-use Rattle.mot_playout.specs.Runs.{IsAfter, StandsAfterSome}
+use Rattle.mot_journal.specs.declared.layout.Layout.{Layout}
+use Rattle.mot_journal.specs.declared.layout.Layout.TheVariants.{Two}
+use Rattle.mot_objects.specs.declared.command.Done.{Done}
+use Rattle.mot_repository.specs.Outcome.{after_command, has_long_name}
+
+-- What the marks of a run say of its commands.
+
+-- Each mark is right where it stands, behind those before it, and the last one leaves this. No name
+-- is too long for layout 2.
+abbrev pub AreMarks : Layout → Standing → List Command → List Bool → Standing → Type 0
+AreMarks layout s commands [] last = last ≡ s
+AreMarks layout s [] (mark ∷ marks) last = ⊥
+AreMarks layout s (command ∷ commands) (true ∷ marks) last =
+    (done : Done) × (next : Standing) × (after_command layout s command ≡ Ok (next, done))
+    × AreMarks layout next commands marks last
+AreMarks layout s (command ∷ commands) (false ∷ marks) last =
+    (refusal : Refusal)
+    × ((after_command layout s command ≡ Err refusal) × (has_long_name Two command ≡ false))
+    × AreMarks layout s commands marks last
 
 -- the refusals that end a run; every other one marks its command false
 abbrev pub is_run_ending : Refusal → Bool

@@ -1,14 +1,17 @@
 -- The words of the headline: which commands of a run were accepted, which one was in flight, and
 -- what a carousel is after commands.
-use Rattle.std.specs.Prelude.{◌≡◌, ℕ, ◌≤◌, Bool, true, false, List, [], ◌∷◌, ◌++◌, length}
-use Rattle.std.specs.Prelude.{take, drop, Option, Some, if◌then◌else◌}
+use Rattle.std.specs.Prelude.{◌≡◌, ℕ, ◌≤◌, Bool, true, false, List, [], ◌∷◌, ◌++◌, length, take}
+use Rattle.std.specs.Prelude.{drop, Option, Some, if◌then◌else◌, map}
 use Rattle.mot_journal.specs.Image.{Standing}
 use Rattle.mot_numbers.specs.declared.refusal.Refusal.{Refusal}
 use Rattle.mot_objects.specs.declared.command.Command.{Command}
-use Rattle.mot_objects.specs.Carousel.{carousel_after}
-use Rattle.mot_repository.specs.Repository.{IsOf}
+use Rattle.mot_objects.specs.Carousel.{carousel_after, Carousel, Object}
+use Rattle.mot_repository.specs.Repository.{IsOf, RepositoryView}
 use Rattle.std.specs.Option.{option_map_or}
 use Rattle.mot_numbers.specs.Refusal.{is_device_fault}
+use Rattle.mot_journal.specs.Image as journal
+use Rattle.mot_player.specs.Place.{Place}
+use Rattle.mot_player.specs.PlayerView.{PlayerView, place_of}
 
 -- the commands that were marked true
 abbrev pub accepted_commands : List Command → List Bool → List Command
@@ -42,3 +45,18 @@ pub record StandsAfterSome (s : Standing) (sure others : List Command)
   pub last : Standing
   pub after : IsAfterSome s sure others last
   pub image_is : IsOf last image
+
+-- What contracts see of a server.
+
+-- what its repository keeps in memory, its disk, and where its player stands but for the bodies
+pub record ServerView (D : Type 0) : Type 0 where
+  pub view : RepositoryView
+  pub disk : D
+  pub player : PlayerView
+
+abbrev pub bodies_of : Carousel → List (List ℕ)
+bodies_of c = map (λ (o : Object). o.body) c.objects
+
+-- where it stands in playing what the disk stands for
+abbrev pub place_in : {D : Type 0} → ServerView D → journal.Standing → Place
+place_in server s = place_of server.player (bodies_of s.carousel)

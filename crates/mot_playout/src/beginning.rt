@@ -8,7 +8,7 @@ ghost use Rattle.mot_journal.specs.Making.{MakesDisk};
 ghost use Rattle.mot_player.specs.Reading.{ReadsAs};
 ghost use Rattle.mot_repository.specs.Opening.{IsPassing};
 ghost use Rattle.mot_repository.specs.Repository.{Holds};
-ghost use Rattle.mot_playout.specs.History.{HistoriesAreCommands};
+ghost use Rattle.mot_playout.specs.Lives.{HistoriesAreCommands};
 ghost use Rattle.mot_playout.specs.Life.{carousel_from};
 ghost use Rattle.mot_playout.specs.Playing.{bytes_of_packets};
 

@@ -1,6 +1,5 @@
 //! The bodies that a repository keeps on its disk, for the player to read.
-ghost use Rattle.mot_playout.specs.Inner.Bodies.{bodies_on, HasRead};
-ghost use Rattle.mot_playout.specs.Inner.Unread.{unread};
+ghost use Rattle.mot_playout.specs.Inner.{bodies_on, HasRead, unread};
 
 use disk_model::Disk;
 use mot_numbers::Refusal;

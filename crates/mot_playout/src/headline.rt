@@ -6,11 +6,11 @@ ghost use Rattle.mot_numbers.specs.declared.geometry.Geometry.{Geometry};
 ghost use Rattle.mot_player.specs.Reading.{ReadsAs};
 ghost use Rattle.mot_repository.specs.Opening.{IsPassing};
 ghost use Rattle.mot_repository.specs.Repository.{IsOf, Holds};
-ghost use Rattle.mot_playout.specs.History.{IsHistory};
+ghost use Rattle.mot_playout.specs.Lives.{IsHistory};
 ghost use Rattle.mot_playout.specs.Playing.{bytes_of_packets};
 ghost use Rattle.mot_playout.specs.Run.{IsRun};
-ghost use Rattle.mot_playout.specs.Runs.{accepted_commands, commands_in_flight};
-ghost use Rattle.mot_playout.specs.Runs.{IsAfter, IsAfterSome};
+ghost use Rattle.mot_playout.specs.Runs.{accepted_commands, commands_in_flight, IsAfter};
+ghost use Rattle.mot_playout.specs.Runs.{IsAfterSome};
 
 use crate::{Refused, Restarted, RunEnd, Server, restart};
 use disk_model::Disk;

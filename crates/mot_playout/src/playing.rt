@@ -6,7 +6,7 @@ ghost use Rattle.mot_objects.specs.Stands.{AreBodiesOf, carousel_of};
 ghost use Rattle.mot_player.specs.Place.{opened_place};
 ghost use Rattle.mot_player.specs.PlayerView.{PlayerView, place_of};
 ghost use Rattle.mot_player.specs.Turn.{turn_of_carousel};
-ghost use Rattle.mot_playout.specs.Inner.Plays.{PlaysCarousel};
+ghost use Rattle.mot_playout.specs.Inner.{PlaysCarousel};
 
 use disk_model::Disk;
 use mot_numbers::Refusal;

@@ -13,7 +13,7 @@ ghost use Rattle.mot_repository.specs.Opening.{IsOpened, IsOpeningRefusal};
 ghost use Rattle.mot_repository.specs.Repository.{IsOf, Holds};
 ghost use Rattle.mot_playout.specs.Life.{AreNumbered};
 ghost use Rattle.mot_playout.specs.Playing.{HasPlayedTurn, bytes_of_packets};
-ghost use Rattle.mot_playout.specs.Server.{place_in};
+ghost use Rattle.mot_playout.specs.Runs.{place_in};
 
 use crate::{Refused, Server};
 use disk_model::Disk;

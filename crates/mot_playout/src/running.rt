@@ -34,14 +34,14 @@ impl<D: Disk> Server<D> {
     ghost use Rattle.mot_journal.specs.Image.{Standing};
     ghost use Rattle.mot_player.specs.Place.{change_turn};
     ghost use Rattle.mot_player.specs.Turn.{turn_of_carousel};
-    ghost use Rattle.mot_repository.specs.Cost.{calls_of_command};
+    ghost use Rattle.mot_repository.specs.Outcome.{calls_of_command};
     ghost use Rattle.mot_repository.specs.Repository.{Agrees, Holds};
     ghost use Rattle.mot_repository.specs.Answers.{IsAnswered};
     ghost use Rattle.mot_playout.specs.Attempts.{answer_of, fault_of, marks_of};
     ghost use Rattle.mot_playout.specs.Run.{IsRun};
-    ghost use Rattle.mot_playout.specs.RunEnds.{IsRunFault, RunLeaves, TurnsBeginAnew, place_behind};
-    ghost use Rattle.mot_playout.specs.Runs.{accepted_commands, IsAfter};
-    ghost use Rattle.mot_playout.specs.Server.{place_in};
+    ghost use Rattle.mot_playout.specs.RunEnds.{IsRunFault, RunLeaves, TurnsBeginAnew};
+    ghost use Rattle.mot_playout.specs.RunEnds.{place_behind};
+    ghost use Rattle.mot_playout.specs.Runs.{accepted_commands, IsAfter, place_in};
 
     /// Does the commands in order. A command that the carousel's rules refuse is marked false, as
     /// is one whose body finds no room, or whose name is too long for layout 1, and the run goes

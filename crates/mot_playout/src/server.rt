@@ -40,8 +40,8 @@ pub struct Server<D: Disk> {
 }
 
 impl<D: Disk> Model for Server<D> {
-    ghost use Rattle.mot_playout.specs.Inner.Plays.{PlaysCarousel};
-    ghost use Rattle.mot_playout.specs.Server.{ServerView};
+    ghost use Rattle.mot_playout.specs.Inner.{PlaysCarousel};
+    ghost use Rattle.mot_playout.specs.Runs.{ServerView};
 
     ghost Value = { ServerView D };
 
@@ -67,13 +67,13 @@ impl<D: Disk> Server<D> {
     ghost use Rattle.mot_player.specs.PlayerView.{AreBodiesFor, place_of};
     ghost use Rattle.mot_repository.specs.Answers.{IsAnswered, IsMigrationRefusal};
     ghost use Rattle.mot_journal.specs.Slot.{slot_count};
-    ghost use Rattle.mot_repository.specs.Cost.{calls_of_command};
+    ghost use Rattle.mot_repository.specs.Outcome.{calls_of_command};
     ghost use Rattle.mot_carousel.specs.Gap.{IsLongestGap};
     ghost use Rattle.mot_repository.specs.Opening.{IsOpened, IsOpeningRefusal};
-    ghost use Rattle.mot_playout.specs.Inner.Plays.{PlaysCarousel};
+    ghost use Rattle.mot_playout.specs.Inner.{PlaysCarousel};
     ghost use Rattle.mot_playout.specs.Playing.{HasPlayed, HasPlayedTurn, bytes_of_packets};
     ghost use Rattle.mot_playout.specs.Playing.{IsReadRefusal, IsTurnRefusal};
-    ghost use Rattle.mot_playout.specs.Server.{place_in};
+    ghost use Rattle.mot_playout.specs.Runs.{place_in};
 
     /// Opens a disk, to play its carousel from the beginning. It syncs the disk first, and changes
     /// nothing on it but that. It takes memory for the records of one half, the objects and one

@@ -1,7 +1,7 @@
 -- Where on the disk a body lies, and what is read there.
 use Rattle.std.proofs.Common.{◌≡◌, ℕ, zero, suc, ◌+◌, ◌-◌, ◌<◌, ◌≤◌, true, ◌&&◌, List, [], ◌∷◌}
-use Rattle.std.proofs.Common.{length, map, take, drop, slice_range, refl, sym, ap, ◌∙◌}
-use Rattle.std.proofs.Common.{subst, arith}
+use Rattle.std.proofs.Common.{length, map, take, drop, slice_range, refl, sym, ap, ◌∙◌, subst}
+use Rattle.std.proofs.Common.{arith}
 use Rattle.std.proofs.lemmas.List.{take-take, drop-take, drop-drop}
 use Rattle.std.proofs.lemmas.Bool.{and_parts, leb-true}
 use Rattle.std.specs.Prelude.{nat_le}
@@ -14,18 +14,15 @@ use Rattle.mot_journal.specs.Image.{Standing, area_of}
 use Rattle.mot_journal.specs.Journal.{with_records}
 use Rattle.mot_journal.proofs.Laws.{stands_by_parts}
 use Rattle.mot_numbers.specs.declared.geometry.Geometry.{Geometry}
-use Rattle.mot_numbers.specs.Geometry.{area_start}
-use Rattle.mot_numbers.specs.Geometry.{is_valid, is_within, is_packet_length}
+use Rattle.mot_numbers.specs.Geometry.{area_start, is_valid, is_within, is_packet_length}
 use Rattle.mot_objects.specs.declared.carousel.Carousel.{Carousel}
 use Rattle.mot_objects.specs.declared.object.Object.{Object}
 use Rattle.mot_repository.specs.Inner.Extents.{objects_in, catalogue_with}
-use Rattle.mot_repository.specs.Extents.{ArePaired}
-use Rattle.mot_repository.specs.OnDisk.{extent_at, body_on}
+use Rattle.mot_repository.specs.OnDisk.{ArePaired, extent_at, body_on}
 use Rattle.mot_repository.specs.Repository.{RepositoryView, object_body, HasStanding}
 use Rattle.mot_repository.specs.Inner.Whole.{IsSoundPlaced, IsWhole}
 use Rattle.mot_repository.proofs.Preparing.{kept_standing, same-standing, wholes}
-use Rattle.mot_repository.proofs.Soundness.{placed_in}
-use Rattle.mot_repository.proofs.Soundness.{extents-in}
+use Rattle.mot_repository.proofs.Soundness.{placed_in, extents-in}
 
 -- a part of a part
 pub part_of_part : (xs : List ℕ) (at size from n : ℕ) → from + n ≤ size

@@ -1,8 +1,8 @@
 -- The records of a copy have no fault, and a disk that has them and its bodies in a row stands for
 -- the same carousel.
-use Rattle.std.proofs.Common.{◌≡◌, ℕ, zero, suc, ◌+◌, ◌-◌, ◌<◌, ◌≤◌, Bool, true, ◌&&◌}
-use Rattle.std.proofs.Common.{List, [], ◌∷◌, ◌++◌, length, map, take, drop, get_or, slice_range}
-use Rattle.std.proofs.Common.{Option, Ok, Result, refl, sym, ap, ◌∙◌, subst, arith, add-zero}
+use Rattle.std.proofs.Common.{◌≡◌, ℕ, zero, suc, ◌+◌, ◌-◌, ◌<◌, ◌≤◌, Bool, true, ◌&&◌, List, []}
+use Rattle.std.proofs.Common.{◌∷◌, ◌++◌, length, map, take, drop, get_or, slice_range, Option, Ok}
+use Rattle.std.proofs.Common.{Result, refl, sym, ap, ◌∙◌, subst, arith, add-zero}
 use Rattle.std.proofs.lemmas.Bool.{and_parts, and_from, le-leb, lt-ltb}
 use Rattle.std.proofs.lemmas.List.{drop-take, drop-drop, length-take-le, length-drop, take-take}
 use Rattle.std.proofs.lemmas.List.{length-map}
@@ -16,10 +16,10 @@ use Rattle.disk_model.specs.Disk.{State, IsHonestDisk}
 use Rattle.mot_journal.specs.declared.layout.Layout.{Layout}
 use Rattle.mot_journal.specs.declared.layout.Layout.TheVariants.{One, Two}
 use Rattle.mot_journal.specs.declared.record.Record.{Record}
-use Rattle.mot_journal.specs.Catalogue.{Placed, Catalogue, are_apart, are_all_apart}
-use Rattle.mot_journal.specs.Catalogue.{extents_of}
+use Rattle.mot_journal.specs.Catalogue.{Placed, Catalogue, are_apart, are_all_apart, extents_of}
 use Rattle.mot_journal.specs.Gaps.{standing_of}
-use Rattle.mot_journal.specs.Image.{catalogue_of, Standing, records_of, stands_for, area_of, rest_of}
+use Rattle.mot_journal.specs.Image.{catalogue_of, Standing, records_of, stands_for, area_of}
+use Rattle.mot_journal.specs.Image.{rest_of}
 use Rattle.mot_journal.specs.Journal.{with_records}
 use Rattle.mot_journal.specs.Slot.{is_sound, longest_name}
 use Rattle.mot_journal.proofs.Laws.{stands_by_parts}
@@ -30,19 +30,18 @@ use Rattle.mot_objects.specs.declared.object.Object.{Object}
 use Rattle.mot_objects.specs.Carousel as whole
 use Rattle.mot_objects.specs.Carousel.{are_names_distinct}
 use Rattle.mot_objects.specs.Ids.{is_distinct}
-use Rattle.mot_objects.specs.Mime.{is_mime}
-use Rattle.mot_objects.specs.Name.{is_name}
+use Rattle.mot_objects.specs.Name.{is_mime, is_name}
 use Rattle.mot_objects.specs.Stands.{object_of}
 use Rattle.mot_carousel.proofs.Laws.{head, tail}
-use Rattle.mot_repository.specs.Copy.{copied_ids, is_segment_resized, packed_from}
-use Rattle.mot_repository.specs.Copy.{copy_of, bytes_in_row, packed_objects, packed_catalogue}
+use Rattle.mot_repository.specs.Copy.{copied_ids, is_segment_resized, packed_from, copy_of}
+use Rattle.mot_repository.specs.Copy.{bytes_in_row, packed_objects, packed_catalogue}
 use Rattle.mot_repository.specs.Copy.{bytes_of_extents, ids_of_copy, renumbered, AreOfCopy}
-use Rattle.mot_repository.specs.Extents.{ArePaired}
+use Rattle.mot_repository.specs.OnDisk.{ArePaired}
 use Rattle.mot_repository.specs.Inner.Extents.{with_extent, objects_in, catalogue_in}
 use Rattle.mot_repository.specs.Inner.Extents.{bytes_of_bodies}
 use Rattle.mot_repository.specs.Inner.Fold.{HaveLengths}
 use Rattle.mot_repository.specs.Records.{records_of_objects, records_of_catalogue}
-use Rattle.mot_repository.specs.Inner.Planned.{IsId}
+use Rattle.mot_repository.specs.Inner.Prepared.{IsId}
 use Rattle.mot_repository.specs.Inner.Whole.{placed_names, placed_tids, IsSoundPlaced, IsWhole}
 use Rattle.mot_repository.specs.Repository.{RepositoryView, HasStanding}
 use Rattle.mot_repository.proofs.Layouts.{longer_name}

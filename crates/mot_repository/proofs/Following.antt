@@ -1,9 +1,9 @@
 -- The record of an accepted command makes of the catalogue what the command makes of the carousel.
-use Rattle.std.proofs.Common.{◌≡◌, ℕ, ◌+◌, Bool, true, false, cond, not, List, []}
-use Rattle.std.proofs.Common.{◌∷◌, ◌++◌, length, map, slice_range, Option, Some, None, Ok}
-use Rattle.std.proofs.Common.{refl, sym, ap, ◌∙◌, subst, arith}
-use Rattle.std.proofs.lemmas.Bool.{and_parts, and_from, or_left, or_right, or_parts}
-use Rattle.std.proofs.lemmas.Bool.{not-true, false≢true, eq-eqb, ne_eqb, leb-false, lt-ltb}
+use Rattle.std.proofs.Common.{◌≡◌, ℕ, ◌+◌, Bool, true, false, cond, not, List, [], ◌∷◌, ◌++◌}
+use Rattle.std.proofs.Common.{length, map, slice_range, Option, Some, None, Ok, refl, sym, ap, ◌∙◌}
+use Rattle.std.proofs.Common.{subst, arith}
+use Rattle.std.proofs.lemmas.Bool.{and_parts, and_from, or_left, or_right, or_parts, not-true}
+use Rattle.std.proofs.lemmas.Bool.{false≢true, eq-eqb, ne_eqb, leb-false, lt-ltb}
 use Rattle.std.proofs.lemmas.List.{map-append, length-map}
 use Rattle.std.proofs.lemmas.Slice.Eq.{bytes_eq-Decides}
 use Rattle.std.specs.Prelude.{nat_eq, nat_le, bytes_eq, option_map}
@@ -18,9 +18,9 @@ use Rattle.mot_journal.specs.Catalogue.{extents_of}
 use Rattle.mot_objects.specs.declared.command.Command.{Command}
 use Rattle.mot_objects.specs.declared.command.Command.TheVariants.{Put, Replace, Withdraw, Period}
 use Rattle.mot_objects.specs.declared.command.Done.{Done}
-use Rattle.mot_objects.specs.Content.{ContentNumbers}
-use Rattle.mot_objects.specs.Carousel.{Object, Carousel, change, change_to}
-use Rattle.mot_objects.specs.Carousel.{has_name, objects_with as whole_objects_with}
+use Rattle.mot_objects.specs.Name.{ContentNumbers}
+use Rattle.mot_objects.specs.Carousel.{Object, Carousel, change, change_to, has_name}
+use Rattle.mot_objects.specs.Carousel.{objects_with as whole_objects_with}
 use Rattle.mot_objects.specs.Carousel.{objects_without as whole_objects_without, renewed_object}
 use Rattle.mot_objects.specs.Carousel.{used_ids, free_object_id, IsSound}
 use Rattle.mot_objects.specs.Ids.{contains, is_distinct}
@@ -31,8 +31,8 @@ use Rattle.mot_repository.specs.Inner.Following.{extent_of, extents_with, extent
 use Rattle.mot_repository.specs.Inner.Following.{placed_extents_after, object_named, set_action}
 use Rattle.mot_repository.specs.Inner.Following.{remove_action, record_of, IsPlaced}
 use Rattle.mot_repository.specs.Inner.Following.{RecordsFollowCommands}
-use Rattle.mot_repository.proofs.Folding.{numbered, step_from, is_put, put_apart, push_apart, or-comm}
-use Rattle.mot_repository.proofs.Folding.{are_beside, is_gone, apart_without_one}
+use Rattle.mot_repository.proofs.Folding.{numbered, step_from, is_put, put_apart, push_apart}
+use Rattle.mot_repository.proofs.Folding.{or-comm, are_beside, is_gone, apart_without_one}
 use Rattle.mot_repository.specs.Inner.Whole.{placed_tids}
 
 abbrev whole : List ℕ → Placed → Object

@@ -13,8 +13,7 @@ use Rattle.mot_journal.specs.Slot.{is_sound, slot_count}
 use Rattle.mot_journal.specs.Catalogue.{Placed, Catalogue}
 use Rattle.mot_numbers.specs.declared.geometry.Geometry.{Geometry}
 use Rattle.mot_numbers.specs.Geometry.{is_within}
-use Rattle.mot_objects.specs.Mime.{is_mime}
-use Rattle.mot_objects.specs.Name.{is_name}
+use Rattle.mot_objects.specs.Name.{is_mime, is_name}
 use Rattle.mot_repository.specs.Records.{records_of_catalogue}
 use Rattle.mot_repository.specs.Inner.Whole.{IsSoundPlaced, IsWhole}
 use Rattle.mot_repository.proofs.Soundness.{is_rewriting}

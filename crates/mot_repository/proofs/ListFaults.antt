@@ -1,16 +1,15 @@
 -- Faults of the list, from what the code that folds records says of its lists.
-use Rattle.std.proofs.Common.{◌≡◌, ℕ, List, Option, Some}
-use Rattle.std.proofs.Common.{Result, Ok, Err, refl, sym, ap, ◌∙◌, subst}
+use Rattle.std.proofs.Common.{◌≡◌, ℕ, List, Option, Some, Result, Ok, Err, refl, sym, ap, ◌∙◌}
+use Rattle.std.proofs.Common.{subst}
 use Rattle.std.specs.Prelude.{IfErr, is_ok}
-use Rattle.mot_journal.specs.Catalogue.{Placed, objects_after}
-use Rattle.mot_journal.specs.Catalogue.{placed_without}
+use Rattle.mot_journal.specs.Catalogue.{Placed, objects_after, placed_without}
 use Rattle.mot_journal.specs.Faults.{HasActionFault}
 use Rattle.mot_journal.specs.declared.record.Action.{Action}
 use Rattle.mot_journal.specs.declared.record.Action.TheVariants.{Set, Remove}
 use Rattle.mot_journal.specs.declared.reason.ListFault.{ListFault}
 use Rattle.mot_journal.specs.declared.reason.ListFault.TheVariants.{Missing, TooMany, SameId}
 use Rattle.mot_journal.specs.declared.reason.ListFault.TheVariants.{DirectoryId, Meets}
-use Rattle.mot_objects.specs.Content.{ContentNumbers}
+use Rattle.mot_objects.specs.Name.{ContentNumbers}
 use Rattle.mot_objects.specs.Ids.{is_distinct}
 use Rattle.mot_objects.specs.declared.object.Object.{Object}
 use Rattle.mot_repository.specs.Inner.Extents.{objects_in}

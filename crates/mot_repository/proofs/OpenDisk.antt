@@ -4,38 +4,34 @@ use Rattle.std.proofs.Common.{Ok, Err, All, refl, sym, ap, ◌∙◌, subst, ari
 use Rattle.std.specs.Prelude.{IsFalse, Result, IsErr, IfSome, OnOk, Option, Some, None, is_err}
 use Rattle.std.proofs.Math.Nat.{eq-or-lt_of_le}
 use Rattle.std.specs.List.{AllByRecursion}
-use Rattle.disk_model.specs.Disk.{State, IsStill, IsUnchanged, IsFirm, IsHonestDisk}
-use Rattle.disk_model.specs.Disk.{KeepsLength, OnlyReads, OnlySyncs}
+use Rattle.disk_model.specs.Disk.{State, IsStill, IsUnchanged, IsFirm, IsHonestDisk, KeepsLength}
+use Rattle.disk_model.specs.Disk.{OnlyReads, OnlySyncs}
 use Rattle.disk_model.proofs.Laws.{keeps_on}
 use Rattle.disk_model.specs.Failures.{Rises, HasCause}
 use Rattle.mot_journal.specs.declared.layout.Layout.{Layout}
 use Rattle.mot_journal.specs.declared.record.Record.{Record}
 use Rattle.mot_journal.specs.Slot.{is_sound}
-use Rattle.mot_journal.specs.Image.{catalogue_of}
+use Rattle.mot_journal.specs.Image.{catalogue_of, DiskRecords, records_of, stands_for, area_of}
+use Rattle.mot_journal.specs.Image.{rest_of}
 use Rattle.mot_numbers.specs.Refusal.{◌>>=◌}
 use Rattle.mot_journal.specs.Catalogue.{Placed, carousel_in, extents_of}
-use Rattle.mot_journal.specs.Image.{DiskRecords, records_of, stands_for, area_of, rest_of}
 use Rattle.mot_journal.specs.Journal.{JournalView, with_records, IsLoadRefusal}
 use Rattle.mot_journal.specs.Reason.{BreaksList, IsReasonOf}
 use Rattle.mot_journal.specs.declared.reason.Reason.{Reason}
 use Rattle.mot_journal.specs.declared.reason.Reason.TheVariants.{Head, Field, List as InList}
 use Rattle.mot_journal.specs.declared.reason.Reason.TheVariants.{Formatted, Small}
 use Rattle.mot_repository.specs.Inner.Faults.{IsFoldReason}
-use Rattle.mot_numbers.specs.Geometry.{length_of}
+use Rattle.mot_numbers.specs.Geometry.{length_of, is_valid}
 use Rattle.mot_numbers.specs.declared.geometry.Geometry.{Geometry}
 use Rattle.mot_numbers.specs.declared.refusal.Refusal.{Refusal}
-use Rattle.mot_numbers.specs.Geometry.{is_valid}
 use Rattle.mot_objects.specs.declared.carousel.Carousel.{Carousel}
 use Rattle.mot_objects.specs.declared.object.Object.{Object}
-use Rattle.mot_repository.specs.Extents.{ArePaired}
-use Rattle.mot_repository.specs.Inner.Extents.{catalogue_with, objects_in}
-use Rattle.mot_repository.specs.Inner.Fold.{HaveLengths, IsFoldRefusal}
-use Rattle.mot_repository.specs.Inner.Planned.{IsTyped}
-use Rattle.mot_repository.specs.Inner.InOrder.{IsInOrder}
-use Rattle.mot_repository.specs.Inner.Loaded.{IsLoaded}
+use Rattle.mot_repository.specs.OnDisk.{ArePaired}
+use Rattle.mot_repository.specs.Inner.Extents.{catalogue_with, objects_in, IsLoaded}
+use Rattle.mot_repository.specs.Inner.Fold.{HaveLengths, IsFoldRefusal, IsInOrder, view_with}
+use Rattle.mot_repository.specs.Inner.Prepared.{IsTyped}
 use Rattle.mot_repository.specs.Opening.{IsOpened, IsOpeningRefusal}
 use Rattle.mot_journal.specs.Journal.IsReadingRefusal.{not_formatted, damaged, no_memory, device}
-use Rattle.mot_repository.specs.Inner.InOrder.{view_with}
 use Rattle.mot_repository.specs.Repository.{RepositoryView}
 use Rattle.mot_repository.proofs.Planned.{short-id}
 use Rattle.mot_repository.proofs.Preparing.{opened}

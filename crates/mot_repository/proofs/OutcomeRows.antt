@@ -6,7 +6,7 @@ use Rattle.mot_numbers.specs.declared.geometry.Geometry.{Geometry}
 use Rattle.mot_numbers.specs.declared.refusal.Refusal.TheVariants.{BadName, NameTaken, NoSuchName}
 use Rattle.mot_numbers.specs.declared.refusal.Refusal.TheVariants.{TooManyObjects, NoRoom}
 use Rattle.mot_objects.specs.declared.command.Command.TheVariants.{Put, Replace, Withdraw, Period}
-use Rattle.mot_objects.specs.Content.{ContentNumbers}
+use Rattle.mot_objects.specs.Name.{ContentNumbers}
 use Rattle.mot_objects.specs.Carousel.{Object, Carousel, change}
 use Rattle.mot_objects.specs.Ids.{next_free_id}
 use Rattle.mot_carousel.specs.Gap.{least_gap}

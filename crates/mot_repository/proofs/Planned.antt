@@ -15,14 +15,13 @@ use Rattle.mot_journal.specs.declared.layout.Layout.TheVariants.{One, Two}
 use Rattle.mot_journal.specs.declared.record.Action.{Action}
 use Rattle.mot_journal.specs.declared.record.Action.TheVariants.{Nothing, Set, Remove}
 use Rattle.mot_journal.specs.declared.record.Record.{Record}
-use Rattle.mot_numbers.specs.Geometry.{area_start}
+use Rattle.mot_numbers.specs.Geometry.{area_start, is_valid}
 use Rattle.mot_numbers.specs.declared.geometry.Geometry.{Geometry}
 use Rattle.mot_numbers.specs.declared.refusal.Refusal.{Refusal}
 use Rattle.mot_numbers.specs.declared.refusal.Refusal.TheVariants.{BadName, NoRoom, OutOfMemory}
-use Rattle.mot_numbers.specs.Geometry.{is_valid}
 use Rattle.mot_objects.specs.Carousel.{change}
 use Rattle.mot_objects.specs.Carousel as whole
-use Rattle.mot_objects.specs.Mime.{IsMime}
+use Rattle.mot_objects.specs.Name.{IsMime, is_mime}
 use Rattle.mot_objects.proofs.Laws.{name_true, mime_true}
 use Rattle.mot_objects.specs.Stands.{object_of, objects_of, carousel_of, bodies_after, IsPlan}
 use Rattle.mot_objects.specs.declared.carousel.Carousel.{Carousel}
@@ -30,25 +29,22 @@ use Rattle.mot_objects.specs.declared.command.Command.{Command}
 use Rattle.mot_objects.specs.declared.command.Command.TheVariants.{Put, Replace, Withdraw, Period}
 use Rattle.mot_objects.specs.declared.command.Done.{Done}
 use Rattle.mot_objects.specs.declared.object.Object.{Object}
-use Rattle.mot_objects.specs.Mime.{is_mime}
 use Rattle.mot_repository.specs.Answers.{IsRefusal}
 use Rattle.mot_repository.specs.Inner.Extents.{objects_in, catalogue_in, catalogue_with, names_kept}
-use Rattle.mot_repository.specs.Extents.{ArePaired}
+use Rattle.mot_repository.specs.Inner.Extents.{with_extent}
+use Rattle.mot_repository.specs.OnDisk.{ArePaired}
 use Rattle.mot_repository.specs.Outcome.{body_of, has_long_name, start_of, extents_after}
-use Rattle.mot_repository.specs.Inner.Planned.{HasFields, IsTyped}
+use Rattle.mot_repository.specs.Inner.Prepared.{HasFields, IsTyped, ChangesTo, CanBeGiven, IsFull}
+use Rattle.mot_repository.specs.Inner.Prepared.{IsPreparedFor, kept_object_named, kept_set}
+use Rattle.mot_repository.specs.Inner.Prepared.{kept_remove, kept_action, kept_record}
 use Rattle.mot_repository.specs.Inner.Whole.{IsWhole}
 use Rattle.mot_repository.specs.Records.{records_of_catalogue}
-use Rattle.mot_repository.specs.Inner.Prepared.{ChangesTo, CanBeGiven, IsFull, IsPreparedFor}
-use Rattle.mot_repository.specs.Inner.Prepared.{kept_object_named, kept_set, kept_remove}
-use Rattle.mot_repository.specs.Inner.Prepared.{kept_action}
-use Rattle.mot_repository.specs.Inner.Prepared.{kept_record}
 use Rattle.mot_repository.specs.Inner.Ready.{IsPrepared}
 use Rattle.mot_repository.specs.Repository.{RepositoryView}
 use Rattle.mot_repository.proofs.Outcomes.{refused_name, refused_rules, refused_room, same_rules}
 use Rattle.mot_repository.proofs.Outcomes.{same_start}
 use Rattle.mot_repository.specs.declared.prepared.Prepared.{Prepared}
-use Rattle.mot_repository.proofs.Extents.{extents-objects_in, kept_object_named-name}
-use Rattle.mot_repository.proofs.Extents.{placed-names}
+use Rattle.mot_repository.proofs.Extents.{extents-objects_in, kept_object_named-name, placed-names}
 use Rattle.mot_repository.proofs.Preparing.{IsMatched, matched, IsKept, all-within, body-length}
 use Rattle.mot_repository.proofs.Preparing.{same-catalogue, same-change, made, Made, sizes-of}
 use Rattle.mot_repository.proofs.Preparing.{some-area, some-slice, some-length, gap-fits}
@@ -57,7 +53,6 @@ use Rattle.mot_repository.proofs.Rewriting.{fold-all}
 use Rattle.mot_repository.proofs.Soundness.{whole-step, is_rewriting}
 use Rattle.mot_carousel.proofs.Laws.{head, tail}
 use Rattle.mot_repository.specs.Inner.Fold.{HasShortId, HaveLengths}
-use Rattle.mot_repository.specs.Inner.Extents.{with_extent}
 
 -- ---- what is kept in memory, as the catalogue of records
 

@@ -2,25 +2,24 @@
 use Rattle.std.proofs.Common.{◌≡◌, ℕ, ◌+◌, ◌-◌, ◌<◌, ◌≤◌, Bool, true, false, List, [], ◌∷◌, ◌++◌}
 use Rattle.std.proofs.Common.{length, map, take, drop, replicate, slice_range, Option, Some, None}
 use Rattle.std.proofs.Common.{Result, Ok, refl, sym, ap, ◌∙◌, subst, arith, length-append}
-use Rattle.std.proofs.lemmas.List.{length-take-le, length-drop, length-replicate}
-use Rattle.std.proofs.lemmas.List.{take-append-le, drop-append-le, drop_all, take_all, drop-drop}
+use Rattle.std.proofs.lemmas.List.{length-take-le, length-drop, length-replicate, take-append-le}
+use Rattle.std.proofs.lemmas.List.{drop-append-le, drop_all, take_all, drop-drop}
 use Rattle.std.specs.Prelude.{IsFalse, bytes_eq, if◌then◌else◌}
 use Rattle.std.specs.List.{AllByRecursion, list_all}
 use Rattle.disk_model.specs.Disk.{State, IsHonestDisk, IsFirm}
 use Rattle.mot_journal.specs.declared.record.Record.{Record}
 use Rattle.mot_journal.specs.declared.record.Action.{Action}
-use Rattle.mot_journal.specs.Image.{catalogue_of, fold_from, or_damaged}
+use Rattle.mot_journal.specs.Image.{catalogue_of, fold_from, or_damaged, DiskRecords, Standing}
+use Rattle.mot_journal.specs.Image.{records_of, stands_for, area_of}
 use Rattle.mot_numbers.specs.Refusal.{◌>>=◌}
-use Rattle.mot_journal.specs.Catalogue.{Placed, Catalogue, catalogue_after}
-use Rattle.mot_journal.specs.Catalogue.{body_in_area, carousel_in, extents_of}
+use Rattle.mot_journal.specs.Catalogue.{Placed, Catalogue, catalogue_after, body_in_area}
+use Rattle.mot_journal.specs.Catalogue.{carousel_in, extents_of}
 use Rattle.mot_journal.specs.Gaps.{AreBeside, standing_of}
-use Rattle.mot_journal.specs.Image.{DiskRecords, Standing, records_of, stands_for, area_of}
 use Rattle.mot_journal.specs.Journal.{JournalView, with_records, HasRecords}
 use Rattle.mot_journal.proofs.Laws.{stands_by_parts, geometry_read}
 use Rattle.mot_numbers.specs.declared.refusal.Refusal.{Refusal}
 use Rattle.mot_numbers.specs.declared.geometry.Geometry.{Geometry}
-use Rattle.mot_numbers.specs.Geometry.{area_start}
-use Rattle.mot_numbers.specs.Geometry.{is_valid}
+use Rattle.mot_numbers.specs.Geometry.{area_start, is_valid}
 use Rattle.mot_objects.specs.declared.carousel.Carousel.{Carousel}
 use Rattle.mot_objects.specs.declared.object.Object.{Object}
 use Rattle.mot_objects.specs.declared.command.Command.{Command}
@@ -29,13 +28,12 @@ use Rattle.mot_objects.specs.declared.command.Done.{Done}
 use Rattle.mot_objects.specs.Carousel.{change}
 use Rattle.mot_objects.specs.Carousel as whole
 use Rattle.mot_objects.specs.Stands.{object_of, objects_of, carousel_of, bodies_after, AreBodiesOf}
-use Rattle.mot_carousel.specs.Gap.{is_beside, is_free, least_gap}
-use Rattle.mot_carousel.specs.Gap.{IsLeastGap}
+use Rattle.mot_carousel.specs.Gap.{is_beside, is_free, least_gap, IsLeastGap}
 use Rattle.mot_repository.specs.Records.{records_of_catalogue}
 use Rattle.mot_repository.specs.Inner.Following.{IsPlaced, object_named, set_action, remove_action}
 use Rattle.mot_repository.specs.Inner.Following.{action_of, record_of, placed_extents_after}
 use Rattle.mot_repository.specs.Inner.Extents.{objects_in, catalogue_in, names_kept}
-use Rattle.mot_repository.specs.Extents.{ArePaired}
+use Rattle.mot_repository.specs.OnDisk.{ArePaired}
 use Rattle.mot_repository.specs.Outcome.{body_of, start_of, extents_after, after_command}
 use Rattle.mot_repository.specs.Opening.{IsOpened}
 use Rattle.mot_repository.specs.Inner.Kept.{KeepsCatalogue}
@@ -50,8 +48,7 @@ use Rattle.mot_repository.proofs.Reading.{by_recursion, geometry_is, records_rea
 use Rattle.mot_repository.proofs.Rewriting as rewriting
 use Rattle.mot_repository.specs.Inner.Whole.{IsSoundPlaced, IsWhole}
 use Rattle.mot_repository.proofs.Soundness.{whole_fold, placed_in, few_objects, sound_carousel}
-use Rattle.mot_repository.proofs.Soundness.{is_folded, lie_beside}
-use Rattle.mot_repository.proofs.Soundness.{extents-in}
+use Rattle.mot_repository.proofs.Soundness.{is_folded, lie_beside, extents-in}
 
 -- the objects of an area, with their bodies
 abbrev pub wholes : List ℕ → List Placed → List whole.Object

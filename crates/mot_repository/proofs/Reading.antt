@@ -11,17 +11,14 @@ use Rattle.mot_journal.specs.declared.record.Action.{Action}
 use Rattle.mot_journal.specs.declared.record.Action.TheVariants.{Nothing, Set, Remove}
 use Rattle.mot_journal.specs.Geometry.{columns, geometry_in, geometry_of, has_magic, selected_half}
 use Rattle.mot_journal.specs.Slot.{slot_size, slot_count, is_open, is_sound, read_slot, layout_of}
-use Rattle.mot_journal.specs.Image.{or_damaged}
+use Rattle.mot_journal.specs.Image.{or_damaged, DiskRecords, records_of, records_in, slots_in}
+use Rattle.mot_journal.specs.Image.{slots_of, half_of, journal_in_half, or_not_formatted}
 use Rattle.mot_numbers.specs.Refusal.{◌>>=◌ as result_then}
-use Rattle.mot_journal.specs.Image.{DiskRecords, records_of, records_in, slots_in, slots_of}
-use Rattle.mot_journal.specs.Image.{half_of, journal_in_half, or_not_formatted}
-use Rattle.mot_numbers.specs.Fields.{number_in}
-use Rattle.mot_numbers.specs.Reading.{◌>>=◌}
+use Rattle.mot_numbers.specs.Reading.{number_in, ◌>>=◌}
 use Rattle.mot_numbers.specs.declared.refusal.Refusal.{Refusal}
 use Rattle.mot_numbers.specs.declared.geometry.Geometry.{Geometry}
-use Rattle.mot_numbers.specs.Geometry.{length_of, half_start, half_size}
-use Rattle.mot_numbers.specs.Geometry.{is_valid}
-use Rattle.mot_objects.specs.Content.{ContentNumbers}
+use Rattle.mot_numbers.specs.Geometry.{length_of, half_start, half_size, is_valid}
+use Rattle.mot_objects.specs.Name.{ContentNumbers}
 use Rattle.mot_repository.specs.Inner.Fold.{HasShortId}
 
 -- each of the numbers is a byte

@@ -1,6 +1,6 @@
 -- Objects with other ids keep all else, and the ids of a copy are those of a carousel.
-use Rattle.std.proofs.Common.{◌≡◌, ℕ, zero, suc, ◌+◌, ◌<◌, ◌≤◌, Bool, true, false, not}
-use Rattle.std.proofs.Common.{List, [], ◌∷◌, length, map, get_or, Option, refl, sym, ap, ◌∙◌, arith}
+use Rattle.std.proofs.Common.{◌≡◌, ℕ, zero, suc, ◌+◌, ◌<◌, ◌≤◌, Bool, true, false, not, List, []}
+use Rattle.std.proofs.Common.{◌∷◌, length, map, get_or, Option, refl, sym, ap, ◌∙◌, arith}
 use Rattle.std.proofs.lemmas.Bool.{and_parts, and_from, or_parts, not_from_false}
 use Rattle.std.proofs.lemmas.List.Sums.{sum_by-cons}
 use Rattle.std.specs.Prelude.{nat_eq, unwrap_or, if◌then◌else◌, ◌==◌}
@@ -11,7 +11,7 @@ use Rattle.mot_objects.specs.declared.object.Object.{Object}
 use Rattle.mot_objects.specs.Ids.{contains, is_distinct}
 use Rattle.mot_repository.specs.Copy.{copied_ids, renumbered}
 use Rattle.mot_repository.specs.Inner.Extents.{bytes_of_bodies}
-use Rattle.mot_repository.specs.Inner.Planned.{IsId}
+use Rattle.mot_repository.specs.Inner.Prepared.{IsId}
 
 -- ---- objects with other ids, of which there are as many
 

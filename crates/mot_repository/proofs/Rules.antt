@@ -6,15 +6,13 @@ use Rattle.std.proofs.lemmas.List.Elements.{All-drop, All-take}
 use Rattle.std.specs.List.{AllByRecursion}
 use Rattle.std.specs.Prelude.{All}
 use Rattle.mot_journal.proofs.Laws.{geometry_read}
-use Rattle.mot_journal.specs.Image.{catalogue_of}
-use Rattle.mot_journal.specs.Catalogue.{Catalogue, Placed, body_in_area}
-use Rattle.mot_journal.specs.Catalogue.{new_catalogue}
-use Rattle.mot_journal.specs.Image.{Standing, area_of, stands_for}
+use Rattle.mot_journal.specs.Image.{catalogue_of, Standing, area_of, stands_for}
+use Rattle.mot_journal.specs.Catalogue.{Catalogue, Placed, body_in_area, new_catalogue}
 use Rattle.mot_journal.specs.declared.layout.Layout.{Layout}
 use Rattle.mot_journal.specs.declared.record.Record.{Record}
 use Rattle.mot_numbers.specs.Geometry.{area_start, length_of}
 use Rattle.mot_numbers.specs.declared.geometry.Geometry.{Geometry}
-use Rattle.mot_objects.specs.Rules.{AllKeepRules, KeepsRules}
+use Rattle.mot_objects.specs.Carousel.{AllKeepRules, KeepsRules}
 use Rattle.mot_objects.specs.Stands.{object_of}
 use Rattle.mot_repository.proofs.Folding.{fold_keeps, is_step}
 use Rattle.mot_repository.proofs.Reading.{by_recursion, geometry_is, records_read}

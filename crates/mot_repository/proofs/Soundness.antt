@@ -18,22 +18,19 @@ use Rattle.mot_journal.specs.declared.record.Record.{Record}
 use Rattle.mot_journal.specs.declared.record.Action.{Action}
 use Rattle.mot_journal.specs.declared.record.Action.TheVariants.{Nothing, Set, Remove}
 use Rattle.mot_journal.specs.Slot.{is_sound, is_sound_action, longest_name}
-use Rattle.mot_journal.specs.Image.{catalogue_of}
+use Rattle.mot_journal.specs.Image.{catalogue_of, DiskRecords, Standing, records_of, stands_for}
+use Rattle.mot_journal.specs.Image.{area_of, rest_of}
 use Rattle.mot_numbers.specs.Refusal.{◌>>=◌}
-use Rattle.mot_journal.specs.Catalogue.{Placed, Catalogue, new_catalogue}
-use Rattle.mot_journal.specs.Catalogue.{catalogue_after, are_all_apart, body_in_area, carousel_in}
+use Rattle.mot_journal.specs.Catalogue.{Placed, Catalogue, new_catalogue, catalogue_after}
+use Rattle.mot_journal.specs.Catalogue.{are_all_apart, body_in_area, carousel_in}
 use Rattle.mot_journal.specs.Gaps.{AreBeside, standing_of}
-use Rattle.mot_journal.specs.Image.{DiskRecords, Standing, records_of, stands_for, area_of, rest_of}
 use Rattle.mot_numbers.specs.declared.refusal.Refusal.{Refusal}
 use Rattle.mot_numbers.specs.declared.geometry.Geometry.{Geometry}
 use Rattle.mot_numbers.specs.Geometry.{is_valid, is_within, is_packet_length}
 use Rattle.mot_objects.specs.Carousel.{Object, are_names_distinct, IsSound}
 use Rattle.mot_objects.specs.Ids.{is_distinct}
-use Rattle.mot_objects.specs.Mime.{IsMime}
-use Rattle.mot_objects.specs.Name.{IsName}
+use Rattle.mot_objects.specs.Name.{IsMime, IsName, is_mime, is_name}
 use Rattle.mot_objects.specs.Stands.{object_of}
-use Rattle.mot_objects.specs.Mime.{is_mime}
-use Rattle.mot_objects.specs.Name.{is_name}
 use Rattle.mot_carousel.specs.Gap.{is_beside}
 use Rattle.mot_repository.specs.Records.{records_of_objects, records_of_catalogue}
 use Rattle.mot_repository.specs.Inner.Following.{StandingsAreSound}

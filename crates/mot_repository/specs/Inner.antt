@@ -4,10 +4,7 @@ pub mod Extents
 pub mod Faults
 pub mod Fold
 pub mod Following
-pub mod InOrder
 pub mod Kept
-pub mod Loaded
-pub mod Planned
 pub mod Prepared
 pub mod Ready
 pub mod Whole

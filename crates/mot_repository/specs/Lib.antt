@@ -1,7 +1,5 @@
 pub mod Answers
 pub mod Copy
-pub mod Cost
-pub mod Extents
 pub mod Inner
 pub mod OnDisk
 pub mod Opening

@@ -1,11 +1,13 @@
 -- What contracts see of a repository.
-use Rattle.std.specs.Prelude.{◌≡◌, ℕ, ◌+◌, List, slice_index_or, slice_range, IsTrue, IsFalse}
+use Rattle.std.specs.Prelude.{◌≡◌, ℕ, ◌+◌, List, slice_index_or, slice_range, IsTrue, IsFalse, map}
 use Rattle.disk_model.specs.Failures.{Rises}
 use Rattle.mot_numbers.specs.declared.refusal.Refusal.{Refusal}
 use Rattle.mot_numbers.specs.declared.refusal.Refusal.TheVariants.{DeviceFault, Halted}
 use Rattle.mot_numbers.specs.declared.geometry.Geometry.{Geometry}
 use Rattle.mot_numbers.specs.Geometry.{area_start}
 use Rattle.mot_repository.specs.Repository.{RepositoryView}
+use Rattle.mot_objects.specs.declared.carousel.Carousel.{Carousel}
+use Rattle.mot_objects.specs.declared.object.Object.{Object}
 
 -- what a repository keeps in memory, and its disk
 pub record OnDisk (D : Type 0) : Type 0 where
@@ -29,3 +31,10 @@ pub data IsCheckRefusal {D : Type 0} (old new : OnDisk D) (before now : ℕ) (re
       → IsCheckRefusal old new before now refusal
   failed : IsFalse old.view.halted → refusal ≡ DeviceFault → Rises before now
       → IsCheckRefusal old new before now refusal
+
+-- Where the bodies lie.
+
+-- there is an extent for each object, of the length that it gives
+abbrev pub ArePaired : Carousel → List (ℕ × ℕ) → Type 0
+ArePaired carousel extents =
+    map (λ (e : ℕ × ℕ). e.1) extents ≡ map (λ (o : Object). o.length) carousel.objects.items

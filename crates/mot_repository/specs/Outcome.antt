@@ -1,10 +1,10 @@
 -- What a command makes of what a disk stands for, or why it is refused (own rules).
 use Rattle.std.specs.Prelude.{ℕ, Bool, false, nat_lt, if◌then◌else◌, List, [], ◌∷◌, ◌++◌, length}
 use Rattle.std.specs.Prelude.{map, position, remove, slice_set, bytes_eq, Option, Some, None}
-use Rattle.std.specs.Prelude.{Result, Ok, Err}
+use Rattle.std.specs.Prelude.{Result, Ok, Err, ◌+◌, nat_le}
 use Rattle.std.specs.Option.{option_map_or}
 use Rattle.mot_journal.specs.declared.layout.Layout.{Layout}
-use Rattle.mot_journal.specs.Slot.{longest_name}
+use Rattle.mot_journal.specs.Slot.{longest_name, slot_count}
 use Rattle.mot_numbers.specs.Refusal.{◌>>=◌}
 use Rattle.mot_journal.specs.Image.{Standing}
 use Rattle.mot_numbers.specs.declared.refusal.Refusal.{Refusal}
@@ -14,6 +14,7 @@ use Rattle.mot_objects.specs.declared.command.Command.TheVariants.{Put, Replace,
 use Rattle.mot_objects.specs.declared.command.Done.{Done}
 use Rattle.mot_objects.specs.Carousel.{Object, change}
 use Rattle.mot_carousel.specs.Gap.{least_gap}
+use Rattle.mot_journal.specs.Journal.{JournalView}
 
 -- the slots of the layout have no room for the name that the command speaks of
 abbrev pub has_long_name : Layout → Command → Bool
@@ -60,3 +61,23 @@ after_command layout s command =
       let names = map (λ (o : Object). o.name) s.carousel.objects
       let extents = extents_after names s.extents command start
       Ok (record s { carousel = made.0; extents = extents }, made.1))
+
+-- How many calls of the disk a command makes.
+
+-- where the half is full, the slots of the other one, a sync, the selector, and a sync
+abbrev pub calls_for_room : JournalView → ℕ
+calls_for_room journal =
+    let slots = slot_count journal.layout journal.geometry in
+    if nat_le slots journal.count then slots + 3 else 0
+
+-- a body is one write
+abbrev pub calls_for_body : List ℕ → ℕ
+calls_for_body [] = 0
+calls_for_body (b ∷ bytes) = 1
+
+-- then the slot without its gate, a sync, the gate, and a sync
+abbrev pub calls_for : JournalView → List ℕ → ℕ
+calls_for journal body = calls_for_room journal + (calls_for_body body + 4)
+
+abbrev pub calls_of_command : JournalView → Command → ℕ
+calls_of_command journal command = calls_for journal (body_of command)

@@ -1,27 +1,25 @@
 //! A commit as a whole: room in the half, the body, and the record.
-ghost use Rattle.std.specs.Prelude.{◌≡◌, ◌+◌, ◌≤◌, ◌<◌, ℕ, true, length, Ok, OnOk, OnErr};
-ghost use Rattle.std.specs.Prelude.{IfErr, IsFalse};
+ghost use Rattle.std.specs.Prelude.{◌≡◌, ◌+◌, ◌≤◌, ◌<◌, ℕ, true, length, Ok, OnOk, OnErr, IfErr};
+ghost use Rattle.std.specs.Prelude.{IsFalse};
 ghost use Rattle.disk_model.specs.Disk.{Keeps, Costs, Throughout};
 ghost use Rattle.disk_model.specs.Failures.{HasCause};
 ghost use Rattle.mot_journal.specs.Slot.{is_sound, slot_count};
 ghost use Rattle.mot_journal.specs.Catalogue.{Catalogue};
-ghost use Rattle.mot_journal.specs.Image.{catalogue_of};
-ghost use Rattle.mot_journal.specs.Image.{Standing};
+ghost use Rattle.mot_journal.specs.Image.{catalogue_of, Standing};
 ghost use Rattle.mot_numbers.specs.declared.refusal.Refusal.TheVariants.{DeviceFault};
 ghost use Rattle.mot_numbers.specs.Geometry.{area_start, length_of};
 ghost use Rattle.mot_objects.specs.declared.carousel.Carousel.{Carousel};
 ghost use Rattle.mot_objects.specs.declared.command.Command.{Command};
 ghost use Rattle.mot_objects.specs.declared.command.Done.{Done};
-ghost use Rattle.mot_repository.specs.Cost.{calls_for, calls_for_room};
+ghost use Rattle.mot_repository.specs.Outcome.{calls_for, calls_for_room, after_command, body_of};
+ghost use Rattle.mot_repository.specs.Outcome.{extents_after};
 ghost use Rattle.mot_repository.specs.Inner.Following.{RecordsFollowCommands};
 ghost use Rattle.mot_repository.specs.Inner.Following.{RewritingKeepsTheCatalogue};
 ghost use Rattle.mot_repository.specs.Inner.Following.{StandingsAreSound};
 ghost use Rattle.mot_repository.specs.Inner.Extents.{names_kept};
-ghost use Rattle.mot_repository.specs.Outcome.{after_command, body_of, extents_after};
 ghost use Rattle.mot_repository.specs.Inner.Prepared.{CanBeGiven, IsFull, IsPreparedFor};
 ghost use Rattle.mot_repository.specs.Inner.Kept.{HasSlotFree};
-ghost use Rattle.mot_repository.specs.Repository.{RepositoryView, IsOf, Holds};
-ghost use Rattle.mot_repository.specs.Repository.{IsBeforeOrAfter};
+ghost use Rattle.mot_repository.specs.Repository.{RepositoryView, IsOf, Holds, IsBeforeOrAfter};
 
 mod entry;
 

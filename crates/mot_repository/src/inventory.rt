@@ -1,5 +1,5 @@
 //! The carousel that is kept in memory, and where its bodies lie.
-ghost use Rattle.mot_repository.specs.Extents.{ArePaired};
+ghost use Rattle.mot_repository.specs.OnDisk.{ArePaired};
 ghost use Rattle.mot_carousel.specs.Gap.{AreReordered};
 
 use mot_objects::Carousel;

@@ -5,10 +5,9 @@ ghost use Rattle.disk_model.specs.Disk.{Costs, OnlyReads, OnlySyncs};
 ghost use Rattle.mot_journal.specs.Reason.{HasReason, IsReasonOf};
 ghost use Rattle.mot_numbers.specs.Refusal.{IsCalm};
 ghost use Rattle.mot_numbers.specs.declared.refusal.Refusal.TheVariants.{DeviceFault};
-ghost use Rattle.mot_repository.specs.Inner.InOrder.{IsInOrder};
-ghost use Rattle.mot_repository.specs.Inner.Loaded.{IsLoaded};
+ghost use Rattle.mot_repository.specs.Inner.Fold.{IsInOrder, view_with};
+ghost use Rattle.mot_repository.specs.Inner.Extents.{IsLoaded};
 ghost use Rattle.mot_repository.specs.Opening.{IsOpened, IsOpeningRefusal};
-ghost use Rattle.mot_repository.specs.Inner.InOrder.{view_with};
 
 mod bounds;
 mod fold;

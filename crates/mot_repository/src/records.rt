@@ -2,9 +2,8 @@
 ghost use Rattle.std.specs.Prelude.{◌≡◌, IfOk};
 ghost use Rattle.mot_journal.specs.declared.record.Action.TheVariants.{Set};
 ghost use Rattle.mot_repository.specs.Inner.Extents.{catalogue_with};
-ghost use Rattle.mot_repository.specs.Inner.Planned.{IsTyped};
+ghost use Rattle.mot_repository.specs.Inner.Prepared.{IsTyped, kept_action, kept_record};
 ghost use Rattle.mot_repository.specs.Records.{records_of_catalogue};
-ghost use Rattle.mot_repository.specs.Inner.Prepared.{kept_action, kept_record};
 
 use crate::inventory::Inventory;
 use mot_journal::{Action, Record};

@@ -26,9 +26,8 @@ pub struct Repository<D: Disk> {
 }
 
 impl<D: Disk> Model for Repository<D> {
-    ghost use Rattle.mot_repository.specs.Inner.InOrder.{IsInOrder};
+    ghost use Rattle.mot_repository.specs.Inner.Fold.{IsInOrder, view_with};
     ghost use Rattle.mot_repository.specs.OnDisk.{OnDisk};
-    ghost use Rattle.mot_repository.specs.Inner.InOrder.{view_with};
 
     ghost Value = { OnDisk D };
 
@@ -49,27 +48,24 @@ impl<D: Disk> Model for Repository<D> {
 
 impl<D: Disk> Repository<D> {
     ghost use Rattle.disk_model.specs.Disk.{Keeps, KeepsLength, Costs, IsUnchanged, OnlyReads};
-    ghost use Rattle.disk_model.specs.Failures.{HasCause};
     ghost use Rattle.disk_model.specs.Disk.{Throughout};
+    ghost use Rattle.disk_model.specs.Failures.{HasCause};
     ghost use Rattle.mot_numbers.specs.declared.refusal.Refusal.TheVariants.{DeviceFault};
-    ghost use Rattle.mot_numbers.specs.Geometry.{area_start};
+    ghost use Rattle.mot_numbers.specs.Geometry.{area_start, is_valid};
     ghost use Rattle.mot_objects.specs.declared.command.Command.{Command};
     ghost use Rattle.mot_journal.specs.declared.layout.Layout.TheVariants.{One, Two};
-    ghost use Rattle.mot_numbers.specs.Geometry.{is_valid};
     ghost use Rattle.mot_journal.specs.Image.{Standing, stands_for, IsClean, IsInLayoutTwo};
     ghost use Rattle.mot_journal.specs.Image.{gate_reads};
     ghost use Rattle.mot_journal.specs.Journal.{StandsWhere};
     ghost use Rattle.mot_journal.specs.Slot.{slot_count};
-    ghost use Rattle.mot_repository.specs.Answers.{IsRefusal, IsChanged, IsAnswered};
-    ghost use Rattle.mot_repository.specs.Answers.{IsHalted, IsMigrationRefusal, carousel_after};
+    ghost use Rattle.mot_repository.specs.Answers.{IsRefusal, IsChanged, IsAnswered, IsHalted};
+    ghost use Rattle.mot_repository.specs.Answers.{IsMigrationRefusal, carousel_after};
     ghost use Rattle.mot_repository.specs.Copy.{CopiesAreSound};
-    ghost use Rattle.mot_repository.specs.Cost.{calls_of_command};
-    ghost use Rattle.mot_repository.specs.Extents.{ArePaired};
+    ghost use Rattle.mot_repository.specs.Outcome.{calls_of_command, after_command, has_long_name};
+    ghost use Rattle.mot_repository.specs.OnDisk.{ArePaired, OnDisk, extent_at, body_on};
+    ghost use Rattle.mot_repository.specs.OnDisk.{IsCheckRefusal};
     ghost use Rattle.mot_carousel.specs.Gap.{IsLongestGap};
-    ghost use Rattle.mot_repository.specs.Inner.InOrder.{IsInOrder};
-    ghost use Rattle.mot_repository.specs.OnDisk.{OnDisk, extent_at, body_on, IsCheckRefusal};
-    ghost use Rattle.mot_repository.specs.Outcome.{after_command, has_long_name};
-    ghost use Rattle.mot_repository.specs.Inner.InOrder.{view_with};
+    ghost use Rattle.mot_repository.specs.Inner.Fold.{IsInOrder, view_with};
     ghost use Rattle.mot_repository.specs.Inner.Ready.{IsPrepared};
     ghost use Rattle.mot_repository.specs.Repository.{object_body, IsOf, Holds, IsBeforeOrAfter};
     ghost use Rattle.mot_repository.specs.Repository.{HasStanding};

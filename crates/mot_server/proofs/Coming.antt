@@ -1,24 +1,23 @@
 -- What the commands come to is what the program comes to.
-use Rattle.std.proofs.Common.{[], ◌≡◌, ◌⊎◌, ℕ, Bool, true, false, List, Option, Some, None, Result, Ok}
-use Rattle.std.proofs.Common.{Err, inl, inr, refl, subst}
+use Rattle.std.proofs.Common.{[], ◌≡◌, ◌⊎◌, ℕ, Bool, true, false, List, Option, Some, None, Result}
+use Rattle.std.proofs.Common.{Ok, Err, inl, inr, refl, subst}
 use Rattle.std.specs.Io.KnownBytes.{Keeps}
 use Rattle.std.specs.Prelude.{IsErrAnd}
 use Rattle.std.specs.Result.{result_unwrap_or}
 use Rattle.clap.specs.Words.{Text}
 use Rattle.disk_store.specs.declared.file.start.Start.{Ghosts}
-use Rattle.mot_outcome.specs.Outcome.{Concludes}
-use Rattle.mot_cli.specs.Asked.{AskFor}
+use Rattle.mot_outcome.specs.Outcome.{Concludes, IsUntold, OpensOrReads, status_of}
+use Rattle.mot_cli.specs.Given.{AskFor}
 use Rattle.mot_cli.specs.Command.{motcar_app}
 use Rattle.mot_cli.specs.Task.{IsTask}
 use Rattle.mot_cli.specs.declared.task.Task.{Task}
 use Rattle.mot_files.specs.Call.{Call}
 use Rattle.mot_numbers.specs.declared.refusal.Refusal.{Refusal}
-use Rattle.mot_outcome.specs.Outcome.{IsUntold, OpensOrReads, status_of}
 use Rattle.mot_outcome.specs.Outcome.ComesTo.{begun, unbegun}
 use Rattle.mot_outcome.specs.declared.exit.Exit.{Exit}
 use Rattle.mot_outcome.specs.declared.used.UsedDisk.{UsedDisk}
 use Rattle.mot_playout.specs.Attempts.{fault_of}
-use Rattle.mot_server.specs.Inner.Coming.{ComesOut, whole_result}
+use Rattle.mot_server.specs.Inner.{ComesOut, whole_result}
 use Rattle.mot_server.specs.Program.{Ends, IsBeginningRefusal, IsWhole, RunsTo, Uses}
 
 -- what is done whole ends by the same refusal

@@ -1,6 +1,7 @@
 -- Why no file was used in a run that names no task: its refusal is none of a file, or help was asked
 -- for.
-use Rattle.std.proofs.Common.{◌≡◌, ◌≢◌, ◌⊎◌, Bool, true, false, List, ℕ, Option, None, Some, inl, inr, refl, subst}
+use Rattle.std.proofs.Common.{◌≡◌, ◌≢◌, ◌⊎◌, Bool, true, false, List, ℕ, Option, None, Some, inl}
+use Rattle.std.proofs.Common.{inr, refl, subst}
 use Rattle.std.specs.Prelude.{IsSomeAnd, bytes_eq, codes, ◌||◌, if◌then◌else◌}
 use Rattle.std.specs.Io.KnownBytes.{Keeps}
 use Rattle.clap.specs.Words.{HasKind, Row, Text, fault_of, kind_of}
@@ -8,17 +9,18 @@ use Rattle.clap.specs.declared.error.Error.{Error}
 use Rattle.clap.specs.declared.error.ErrorKind.TheVariants as kind
 use Rattle.disk_store.specs.declared.file.start.Start.{Ghosts}
 use Rattle.mot_cli.proofs.Laws.{AskForHelp-shown}
-use Rattle.mot_cli.specs.Asked.{AskForHelp}
+use Rattle.mot_cli.specs.Given.{AskForHelp}
 use Rattle.mot_cli.specs.Command.{motcar_app}
 use Rattle.mot_cli.specs.Task.{IsWhy, bad_number}
 use Rattle.mot_cli.specs.declared.task.NoTask.{NoTask}
 use Rattle.mot_cli.specs.declared.task.NoTask.TheVariants.{Lacks, OutOfRange}
 use Rattle.mot_endpoints.specs.Opened.{is_fault}
 use Rattle.mot_numbers.specs.declared.refusal.Refusal.{Refusal}
-use Rattle.mot_numbers.specs.declared.refusal.Refusal.TheVariants.{BadGeometry, BadNumber, OutOfMemory}
+use Rattle.mot_numbers.specs.declared.refusal.Refusal.TheVariants.{BadGeometry, BadNumber}
+use Rattle.mot_numbers.specs.declared.refusal.Refusal.TheVariants.{OutOfMemory}
 use Rattle.mot_outcome.specs.Outcome.{Prints, status_of}
 use Rattle.mot_outcome.specs.declared.exit.Exit.{Exit}
-use Rattle.mot_server.specs.Inner.Coming.{TellsWhy}
+use Rattle.mot_server.specs.Inner.{TellsWhy}
 
 -- the refusal is one of a file
 abbrev IsOfFile : Option Refusal → Type 0

@@ -9,8 +9,7 @@ use Rattle.mot_sync_command.specs.Commands.{IsUnsynced, SyncsTask, synced_with}
 use Rattle.mot_cli.specs.Command.{motcar_app}
 use Rattle.mot_cli.specs.Task.{AskForNothing, IsTask, LackOption, bad_number}
 use Rattle.mot_cli.specs.declared.task.Task.{Task}
-use Rattle.mot_cli.specs.declared.task.Task.TheVariants.{Memory, Format, Copy, Play, Sync}
-use Rattle.mot_cli.specs.declared.task.Task.TheVariants.{Health}
+use Rattle.mot_cli.specs.declared.task.Task.TheVariants.{Memory, Format, Copy, Play, Sync, Health}
 use Rattle.mot_cli.specs.declared.task.Task.TheVariants.{PutFiles, WithdrawNames, OnDisk}
 use Rattle.mot_commands.specs.Commands.{DoesOnFile, FormatsFile, FormatsFree, IsUnformatted}
 use Rattle.mot_commands.specs.Commands.{IsUnmade, ServesMemory, only_looks}
@@ -18,7 +17,7 @@ use Rattle.mot_commands.specs.Changing.{PutReads, PutsFiles, WithdrawsFile, text
 use Rattle.mot_commands.specs.Health.{AsksHealth, TellsHealth}
 use Rattle.mot_copy_command.specs.Command.{CopiesFile, OpensTwo}
 use Rattle.mot_endpoints.specs.Opened.{Need, if_given}
-use Rattle.mot_endpoints.specs.Types.{IsUntyped}
+use Rattle.mot_endpoints.specs.Texts.{IsUntyped}
 use Rattle.mot_files.specs.Call.{Call}
 use Rattle.mot_numbers.specs.declared.refusal.Refusal.{Refusal}
 use Rattle.mot_numbers.specs.declared.refusal.Refusal.TheVariants.{BadNumber, DeviceFault}

@@ -2,7 +2,7 @@
 ghost use Rattle.std.specs.Prelude.{◌≡◌};
 ghost use Rattle.mot_outcome.specs.Outcome.{status_in};
 ghost use Rattle.mot_playout.specs.Attempts.{fault_of};
-ghost use Rattle.mot_server.specs.Inner.Coming.{ComesOut, whole_result};
+ghost use Rattle.mot_server.specs.Inner.{ComesOut, whole_result};
 ghost use Rattle.mot_server.specs.Program.{UsesFor};
 
 use disk_store::Start;

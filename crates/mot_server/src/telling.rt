@@ -5,7 +5,7 @@ ghost use Rattle.mot_numbers.specs.declared.refusal.Refusal.TheVariants.{DeviceF
 ghost use Rattle.mot_outcome.specs.Outcome.{fault_in, status_of};
 ghost use Rattle.mot_outcome.specs.declared.used.UsedDisk.TheVariants.{Untouched};
 ghost use Rattle.mot_playout.specs.Attempts.{fault_of};
-ghost use Rattle.mot_server.specs.Inner.Coming.{TellsWhy};
+ghost use Rattle.mot_server.specs.Inner.{TellsWhy};
 
 use clap::ArgMatches;
 use disk_store::{OpenFault, Start};

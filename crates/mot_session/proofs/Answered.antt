@@ -1,10 +1,9 @@
 -- What answers a request.
-use Rattle.std.proofs.Common.{◌≡◌, ℕ, ◌≤◌, inl, inr, Bool, true, false, List, [], ◌∷◌, ◌++◌}
-use Rattle.std.proofs.Common.{Ok, Err, Result, refl, sym, ap, ◌∙◌, subst, append-nil}
+use Rattle.std.proofs.Common.{◌≡◌, ℕ, ◌≤◌, inl, inr, Bool, true, false, List, [], ◌∷◌, ◌++◌, Ok}
+use Rattle.std.proofs.Common.{Err, Result, refl, sym, ap, ◌∙◌, subst, append-nil}
 use Rattle.std.specs.Prelude.{IsTrue, IsFalse, if◌then◌else◌}
-use Rattle.disk_model.proofs.Laws.{keeps_none, unchanged_none, unchanged_on}
+use Rattle.disk_model.proofs.Laws.{keeps_none, unchanged_none, unchanged_on, begins, stays, weakens}
 use Rattle.disk_model.specs.Disk.{State, IsHonestDisk, IsUnchanged, Throughout}
-use Rattle.disk_model.proofs.Laws.{begins, stays, weakens}
 use Rattle.mot_groups.specs.Group.{bytes_of_group}
 use Rattle.mot_journal.specs.declared.layout.Layout.{Layout}
 use Rattle.mot_journal.specs.Image.{Standing}
@@ -24,20 +23,17 @@ use Rattle.mot_repository.specs.Answers.{refused}
 use Rattle.mot_repository.specs.Answers as repository
 use Rattle.mot_repository.specs.Outcome.{after_command}
 use Rattle.mot_repository.specs.Repository.{RepositoryView, Agrees, Holds, IsBeforeOrAfter}
-use Rattle.mot_playout.specs.Runs.{StandsAfterSome}
-use Rattle.mot_playout.specs.Server.{ServerView, place_in, bodies_of}
-use Rattle.mot_playout.proofs.Laws.{after_none, before_or_after, holds_still, more}
-use Rattle.mot_playout.proofs.Laws.{none_of, not_halted, not_ok, still_agrees}
-use Rattle.mot_session.specs.Raw.{raw_group, packets_at}
+use Rattle.mot_playout.specs.Runs.{StandsAfterSome, ServerView, place_in, bodies_of}
+use Rattle.mot_playout.proofs.Laws.{after_none, before_or_after, holds_still, more, none_of}
+use Rattle.mot_playout.proofs.Laws.{not_halted, not_ok, still_agrees}
+use Rattle.mot_session.specs.Session.{raw_group, packets_at, Reply, Answers, IsAnswer}
+use Rattle.mot_session.specs.Session.{NeedsCarousel, decided, no_memory, accepts, refuses, fails}
 use Rattle.mot_session.specs.Inner.Decision.{Decides, MayWrite, may_be_done, written_by}
 use Rattle.mot_session.specs.Session as session
-use Rattle.mot_session.specs.Session.{Reply, Answers, IsAnswer, NeedsCarousel}
-use Rattle.mot_session.specs.Session.{decided, no_memory, accepts, refuses, fails}
 use Rattle.mot_session.specs.declared.deciding.Decision.{Decision}
 use Rattle.mot_session.specs.declared.deciding.Decision.TheVariants.{Refused, Accepted, Listing}
 use Rattle.mot_session.specs.declared.deciding.Decision.TheVariants.{Packets, Next, Turn}
-use Rattle.mot_session.specs.State.{ServerState, StandsFor, Stays, state_of}
-use Rattle.mot_session.specs.Stored.{command_in}
+use Rattle.mot_session.specs.State.{ServerState, StandsFor, Stays, state_of, command_in}
 use Rattle.mot_session.specs.Inner.Writes.{Crosses, ReadsAlone, may_have_done}
 use Rattle.mot_session.proofs.Anyhow.{plays-parsed, same_done, same_refusal}
 use Rattle.mot_session.proofs.Outcomes.{done_by, failed_by_reply}

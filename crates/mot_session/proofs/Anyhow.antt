@@ -1,7 +1,7 @@
 -- What is answered on every disk, whatever it holds.
-use Rattle.std.proofs.Common.{◌≡◌, ℕ, ◌+◌, ◌<◌, Bool, true, false, List, [], ◌∷◌, ◌++◌}
-use Rattle.std.proofs.Common.{length, Option, Some, None, Result, Ok, Err, refl, sym, ap, ◌∙◌}
-use Rattle.std.proofs.Common.{subst, append-nil, inl, inr}
+use Rattle.std.proofs.Common.{◌≡◌, ℕ, ◌+◌, ◌<◌, Bool, true, false, List, [], ◌∷◌, ◌++◌, length}
+use Rattle.std.proofs.Common.{Option, Some, None, Result, Ok, Err, refl, sym, ap, ◌∙◌, subst}
+use Rattle.std.proofs.Common.{append-nil, inl, inr}
 use Rattle.std.specs.Prelude.{replicate, IsTrue, IsFalse}
 use Rattle.std.specs.Io.KnownBytes.{Appends, Keeps}
 use Rattle.std.proofs.KnownBytes.{Appends-kept, Appends-trans}
@@ -25,11 +25,10 @@ use Rattle.mot_session.specs.declared.deciding.Decision.TheVariants.{Refused, Ac
 use Rattle.mot_session.specs.declared.deciding.Decision.TheVariants.{Packets, Next, Turn}
 use Rattle.mot_session.specs.declared.serving.output.WriteFault.{WriteFault}
 use Rattle.mot_session.specs.Inner.Anyhow.{AnswersWithAnyhow, DecidesAnyhow, ShowsOne, fails, shows}
-use Rattle.mot_session.specs.Output.{Writes}
+use Rattle.mot_session.specs.Served.{Writes, WritesFront}
 use Rattle.mot_session.specs.Replies.{Shown, ends_of, shown_lines}
 use Rattle.mot_session.specs.OnAnyDisk.{AnswersAnyhow}
 use Rattle.mot_session.specs.OnAnyDisk as anyhow
-use Rattle.mot_session.specs.Served.{WritesFront}
 use Rattle.mot_session.specs.Session.{NeedsCarousel}
 use Rattle.mot_session.proofs.Fronts.{WritesFront-after, WritesFront-all}
 

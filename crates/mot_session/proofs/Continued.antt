@@ -1,9 +1,7 @@
 -- The packets of a session, in order.
 use Rattle.std.proofs.Common.{◌≡◌, ℕ, ◌-◌, ◌<◌, Bool, true, false, List, [], ◌∷◌, ◌++◌, None, Some}
-use Rattle.std.proofs.Common.{Result, Ok, Err}
-use Rattle.std.specs.Prelude.{if◌then◌else◌, is_some}
-use Rattle.std.proofs.Common.{refl, sym, ap}
-use Rattle.std.proofs.Common.{◌∙◌, subst, inl, inr, arith, map}
+use Rattle.std.proofs.Common.{Result, Ok, Err, refl, sym, ap, ◌∙◌, subst, inl, inr, arith, map}
+use Rattle.std.specs.Prelude.{if◌then◌else◌, is_some, length, replicate}
 use Rattle.std.proofs.lemmas.List.{map-append}
 use Rattle.mot_lines.specs.Line.{line_of}
 use Rattle.mot_lines.specs.declared.line.Line.{Line}
@@ -22,18 +20,12 @@ use Rattle.mot_player.specs.Place.{Place, Sent, Step, Request, NewTurn, Follow, 
 use Rattle.mot_player.specs.Place.{changed, follow, sent_by}
 use Rattle.mot_player.specs.Turn.{Turn, turn_of_carousel}
 use Rattle.mot_player.proofs.Laws.{steps-are-continuous, steps-go_on}
-use Rattle.std.specs.Prelude.{length, replicate}
 use Rattle.mot_session.specs.Laws.{SessionsAreContinuous}
-use Rattle.mot_session.specs.Packets.{PlaysForRequest}
+use Rattle.mot_session.specs.State.{PlaysForRequest, HasJustOpened, ServerState}
 use Rattle.mot_session.specs.Served.{Begins, whole, begun}
 use Rattle.mot_session.specs.Session.{Exchange, Reply, refused, listing, played, IsCommandAnswer}
-use Rattle.mot_session.specs.Session.{accepts}
-use Rattle.mot_session.specs.Session.{refuses}
-use Rattle.mot_session.specs.Session.{fails, IsAnswer}
-use Rattle.mot_session.specs.Session.{Answers}
-use Rattle.mot_session.specs.Session.{decided, halted, no_memory, Session, packets_in}
-use Rattle.mot_session.specs.Session.{packets_played}
-use Rattle.mot_session.specs.State.{HasJustOpened, ServerState}
+use Rattle.mot_session.specs.Session.{accepts, refuses, fails, IsAnswer, Answers, decided, halted}
+use Rattle.mot_session.specs.Session.{no_memory, Session, packets_in, packets_played}
 
 -- steps that led from a place to another, and the packets that they sent
 record Leads (before after : Place) (sent : List (List ℕ)) : Type 0 where

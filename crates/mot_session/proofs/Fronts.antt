@@ -5,8 +5,7 @@ use Rattle.std.specs.Prelude.{OnOk}
 use Rattle.std.specs.Io.KnownBytes.{Appends, Keeps}
 use Rattle.std.proofs.KnownBytes.{Appends-trans, Appends-kept}
 use Rattle.mot_session.specs.declared.serving.output.WriteFault.{WriteFault}
-use Rattle.mot_session.specs.Output.{Writes}
-use Rattle.mot_session.specs.Served.{WritesFront}
+use Rattle.mot_session.specs.Served.{Writes, WritesFront}
 
 -- bytes up to a place, if they were written, are some first ones
 pub WritesFront-take : (bytes : List ℕ) (at : ℕ) (old new : Option (List ℕ))

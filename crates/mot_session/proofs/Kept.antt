@@ -6,15 +6,14 @@ use Rattle.mot_lines.specs.Line.{line_of}
 use Rattle.mot_lines.specs.Text.{refusal_line}
 use Rattle.mot_numbers.specs.declared.refusal.Refusal.TheVariants.{DeviceFault}
 use Rattle.mot_objects.specs.declared.command.Command.{Command}
-use Rattle.mot_playout.specs.Server.{ServerView}
+use Rattle.mot_playout.specs.Runs.{ServerView}
 use Rattle.mot_session.specs.Kept.{IsToldAndStored}
 use Rattle.mot_session.specs.Life.{Told, done_in, fails_in, is_done}
 use Rattle.mot_session.specs.LineByLine.{BreaksOff, ServesOne}
 use Rattle.mot_session.specs.OnAnyDisk.{AnswersAnyhow, BeginsAnyhow}
 use Rattle.mot_session.specs.Served.{BrokenOff, ServedLine, StoppedLine}
 use Rattle.mot_session.specs.Session.{Answers, text_of}
-use Rattle.mot_session.specs.State.{ServerState}
-use Rattle.mot_session.specs.Stored.{command_in}
+use Rattle.mot_session.specs.State.{ServerState, command_in}
 
 module _ (bytes line : List ℕ) (same : line_of bytes ≡ line_of line) where
   module _ (start now : State) (before after : ServerState) (text : List ℕ) where

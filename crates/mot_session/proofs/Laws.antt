@@ -8,13 +8,12 @@ pub use Rattle.mot_session.proofs.Each.{each-on, server_on, some-on}
 -- some first bytes that were written
 pub use Rattle.mot_session.proofs.Fronts.{WritesFront-after, WritesFront-all, WritesFront-before}
 pub use Rattle.mot_session.proofs.Fronts.{Writes-after, Writes-kept}
-use Rattle.std.proofs.Common.{◌≡◌, ℕ, ◌-◌, ◌<◌, ◌≤◌, List, [], ◌∷◌, length, Some, sym}
-use Rattle.std.proofs.Common.{ap, subst, inl, inr, arith}
+use Rattle.std.proofs.Common.{◌≡◌, ℕ, ◌-◌, ◌<◌, ◌≤◌, List, [], ◌∷◌, length, Some, sym, ap, subst}
+use Rattle.std.proofs.Common.{inl, inr, arith}
 use Rattle.mot_groups.specs.Group.{GroupFields, IsGroup, bytes_of_group}
 use Rattle.mot_groups.proofs.Laws.{read_group-bytes_of_group}
 use Rattle.mot_numbers.specs.Geometry.{packet_room}
-use Rattle.mot_numbers.specs.GroupKind.{kind_number}
-use Rattle.mot_numbers.specs.PacketLength.{IsLength, room_of}
+use Rattle.mot_numbers.specs.PacketLength.{kind_number, IsLength, room_of}
 use Rattle.mot_numbers.specs.declared.group_kind.GroupKind.{GroupKind}
 use Rattle.mot_numbers.specs.declared.group_kind.GroupKind.TheVariants.{Body, Directory}
 use Rattle.mot_numbers.specs.declared.numbers.TheConstants.{MAX_SEGMENT}
@@ -24,7 +23,7 @@ use Rattle.mot_packets.specs.Gather.{gather}
 use Rattle.mot_packets.specs.Written.{packets_of_group}
 use Rattle.mot_packets.proofs.Laws.{read_each-packets_of_group, gather-of_pieces}
 use Rattle.mot_session.specs.Laws.{RawRepliesRead}
-use Rattle.mot_session.specs.Raw.{raw_group}
+use Rattle.mot_session.specs.Session.{raw_group}
 
 -- a packet's length, by its bytes
 length_of : (n : ℕ) → IsLength n → (size : PacketLength) × (room_of size ≡ n - 5)

@@ -1,8 +1,7 @@
 -- A disk from its formatting on that is served lines: what a crash leaves of them, line by line.
 use Rattle.std.proofs.Common.{◌≡◌, ◌⊎◌, inl, inr, ⊎_elim, ℕ, ◌≤◌, Bool, true, false, List, [], ◌∷◌}
 use Rattle.std.proofs.Common.{◌++◌, length, map, Option, Result, Ok, Err, refl, sym, ap, ◌∙◌, subst}
-use Rattle.std.proofs.Common.{arith, append_assoc, append-nil}
-use Rattle.std.proofs.Common.{Some, None, take}
+use Rattle.std.proofs.Common.{arith, append_assoc, append-nil, Some, None, take}
 use Rattle.std.proofs.KnownBytes.{Appends-trans, Appends-nil, Appends-kept, Keeps-refl}
 use Rattle.std.proofs.KnownBytes.{Consumes-kept, Consumes-nil}
 use Rattle.std.proofs.lemmas.List.{length-map}
@@ -25,23 +24,20 @@ use Rattle.mot_numbers.specs.declared.refusal.Refusal.TheVariants.{WriteFault}
 use Rattle.mot_objects.specs.declared.command.Command as command
 use Rattle.mot_player.specs.Reading.{ReadsAs}
 use Rattle.mot_repository.specs.Repository.{IsOf, Holds}
-use Rattle.mot_objects.specs.Carousel.{Carousel, carousel_after}
+use Rattle.mot_objects.specs.Carousel.{Carousel, carousel_after, AllKeepRules}
 use Rattle.mot_playout.specs.Life.{AreNumbered, carousel_from}
-use Rattle.mot_playout.specs.Runs.{IsAfter, StandsAfterSome}
-use Rattle.mot_playout.specs.Server.{ServerView}
+use Rattle.mot_playout.specs.Runs.{IsAfter, StandsAfterSome, ServerView}
 use Rattle.mot_playout.proofs.Laws.{more, none_of, not_halted, rises_on}
 use Rattle.mot_playout.specs.Lives.{HasDone, LivesOn}
-use Rattle.mot_session.specs.Inner.Kept.{IsKeptFrom}
-use Rattle.mot_session.specs.Life.{Told, commands_done, done_in}
-use Rattle.mot_session.specs.Life.{AreRightReplies, fails_in, Tells, is_done}
+use Rattle.mot_session.specs.Inner.Decision.{IsKeptFrom}
+use Rattle.mot_session.specs.Life.{Told, commands_done, done_in, AreRightReplies, fails_in, Tells}
+use Rattle.mot_session.specs.Life.{is_done}
 use Rattle.mot_session.specs.Replies.{IsReply}
-use Rattle.mot_objects.specs.Rules.{AllKeepRules}
 use Rattle.mot_repository.proofs.Laws.{rules_kept}
 use Rattle.mot_session.specs.LineByLine.{BreaksOff, ServesEach, ServesOne, ServesSome}
 use Rattle.mot_session.specs.Served.{EndsServing, TakesInput}
 use Rattle.mot_session.specs.Session.{text_of}
-use Rattle.mot_session.specs.State.{ServerState, StandsFor, state_of}
-use Rattle.mot_session.specs.Stored.{command_in}
+use Rattle.mot_session.specs.State.{ServerState, StandsFor, state_of, command_in}
 use Rattle.mot_session.specs.Kept.{HoldsSince, IsToldAndStored}
 use Rattle.mot_session.proofs.Crashes.{halted_or_not}
 use Rattle.mot_session.proofs.Ends.{memory_not_read, read_not_write}

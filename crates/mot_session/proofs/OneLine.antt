@@ -1,6 +1,6 @@
 -- One line that was served on a disk on which commands are done.
-use Rattle.std.proofs.Common.{◌≡◌, ◌⊎◌, ℕ, true, List, [], ◌∷◌, ◌++◌, None}
-use Rattle.std.proofs.Common.{Option, Result, Ok, Err, refl, sym, subst}
+use Rattle.std.proofs.Common.{◌≡◌, ◌⊎◌, ℕ, true, List, [], ◌∷◌, ◌++◌, None, Option, Result, Ok, Err}
+use Rattle.std.proofs.Common.{refl, sym, subst}
 use Rattle.std.specs.Prelude.{OnOk, OnErr, if◌then◌else◌}
 use Rattle.disk_model.specs.Disk.{State, IsHonestDisk}
 use Rattle.disk_model.specs.Failures.{Rises}
@@ -12,19 +12,16 @@ use Rattle.mot_objects.specs.declared.command.Command.{Command}
 use Rattle.mot_objects.specs.Carousel.{Carousel, carousel_after}
 use Rattle.mot_playout.specs.Life.{carousel_from}
 use Rattle.mot_playout.specs.Lives.{HasDone}
-use Rattle.mot_playout.specs.Runs.{IsAfter, StandsAfterSome}
-use Rattle.mot_playout.specs.Server.{ServerView}
+use Rattle.mot_playout.specs.Runs.{IsAfter, StandsAfterSome, ServerView}
 use Rattle.mot_session.specs.Life.{AreRightReplies, Told, TellsLine, done_in, fails_in, is_done}
 use Rattle.mot_session.specs.LineByLine.{BreaksOff, ServesOne}
 use Rattle.mot_session.specs.Session.{text_of}
-use Rattle.mot_session.specs.State.{StandsFor, state_of}
-use Rattle.mot_session.specs.Stored.{command_in}
-use Rattle.mot_session.proofs.Lives.{Step, done_at, done_stands, one_at_most, rules_of}
-use Rattle.mot_session.proofs.Lives.{image_of, kept_by, line_failed, since_before, step_made}
+use Rattle.mot_session.specs.State.{StandsFor, state_of, command_in}
+use Rattle.mot_session.proofs.Lives.{Step, done_at, done_stands, one_at_most, rules_of, image_of}
+use Rattle.mot_session.proofs.Lives.{kept_by, line_failed, since_before, step_made}
 use Rattle.mot_session.proofs.Ruled.{carousel_at, line-short, right_more, right_reply}
 use Rattle.mot_session.proofs.Shown.{begun, front_begun, replied}
-use Rattle.mot_session.proofs.Telling.{begun_told, done_of_front, made_sure, not_both}
-use Rattle.mot_session.proofs.Telling.{told_outcome}
+use Rattle.mot_session.proofs.Telling.{begun_told, done_of_front, made_sure, not_both, told_outcome}
 use Rattle.mot_session.proofs.Telling as telling
 
 module _ {D : Type 0} (state : D → State)

@@ -8,23 +8,19 @@ use Rattle.mot_journal.specs.Image.{Standing}
 use Rattle.mot_lines.specs.declared.line.Line.{Line}
 use Rattle.mot_lines.specs.declared.line.Line.TheVariants as asks
 use Rattle.mot_numbers.specs.declared.refusal.Refusal.{Refusal}
-use Rattle.mot_numbers.specs.declared.refusal.Refusal.TheVariants.{OutOfMemory}
-use Rattle.mot_numbers.specs.declared.refusal.Refusal.TheVariants.{Halted}
+use Rattle.mot_numbers.specs.declared.refusal.Refusal.TheVariants.{OutOfMemory, Halted}
 use Rattle.mot_numbers.specs.Refusal.{is_device_fault}
 use Rattle.mot_objects.specs.declared.command.Command as command
 use Rattle.mot_objects.specs.declared.command.Done.{Done}
 use Rattle.mot_repository.specs.Outcome.{after_command}
 use Rattle.mot_repository.proofs.Laws.{refused_so}
-use Rattle.mot_session.specs.Session.{Reply, refused, listing, packets, played}
-use Rattle.mot_session.specs.Session.{IsCommandAnswer, accepts, refuses, fails}
-use Rattle.mot_session.specs.Session.{IsAnswer}
-use Rattle.mot_session.specs.Packets.{PlaysForRequest}
+use Rattle.mot_session.specs.Session.{Reply, refused, listing, packets, played, IsCommandAnswer}
+use Rattle.mot_session.specs.Session.{accepts, refuses, fails, IsAnswer, Answers, decided, halted}
+use Rattle.mot_session.specs.Session.{no_memory}
+use Rattle.mot_session.specs.State.{PlaysForRequest, ServerState, command_in}
 use Rattle.mot_session.specs.Served.{Begins, whole, begun}
 use Rattle.mot_player.specs.Place.{Sent}
-use Rattle.mot_session.specs.Session.{Answers, decided, halted, no_memory}
 use Rattle.mot_session.specs.Session as session
-use Rattle.mot_session.specs.State.{ServerState}
-use Rattle.mot_session.specs.Stored.{command_in}
 use Rattle.mot_session.specs.Inner.Writes.{is_accepting, is_failing}
 
 -- nothing is done; a command is done; or the disk fails, and the server is halted

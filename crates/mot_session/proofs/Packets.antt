@@ -9,7 +9,7 @@ use Rattle.mot_numbers.specs.declared.geometry.Geometry.{Geometry}
 use Rattle.mot_packets.specs.Cut.{piece_at}
 use Rattle.mot_packets.specs.Written.{bytes_of_packet}
 use Rattle.mot_packets.proofs.Laws.{length-packets_of_group, get_or-packets_of_group}
-use Rattle.mot_session.specs.Raw.{packets_at}
+use Rattle.mot_session.specs.Session.{packets_at}
 use Rattle.mot_session.proofs.Joined.{lines-more}
 
 -- one more packet's line

@@ -1,20 +1,17 @@
 -- Replies to `next` and `turn` lines, packet by packet.
 use Rattle.std.proofs.Common.{◌≡◌, ℕ, ◌+◌, ◌<◌, Bool, true, false, List, [], ◌∷◌, ◌++◌, Option}
-use Rattle.std.proofs.Common.{Some, None}
-use Rattle.std.proofs.Common.{Ok, Err, sym, ◌∙◌, arith}
+use Rattle.std.proofs.Common.{Some, None, Ok, Err, sym, ◌∙◌, arith}
 use Rattle.std.specs.Prelude.{IsFalse}
 use Rattle.std.specs.Io.KnownBytes.{Appends}
 use Rattle.mot_lines.specs.declared.line.Line.TheVariants as asks
 use Rattle.mot_player.specs.Place.{Sent}
 use Rattle.mot_session.specs.declared.serving.output.WriteFault.{WriteFault}
 use Rattle.mot_session.specs.Inner.Writes.{AnswersOne, AnswersRequest, sends, fails}
-use Rattle.mot_session.specs.Packets.{sent_lines}
-use Rattle.mot_session.specs.State.{ServerState}
+use Rattle.mot_session.specs.State.{sent_lines, ServerState}
 use Rattle.mot_session.proofs.Written.{Answered-turn, AnswersRequest-next_cut}
-use Rattle.mot_session.proofs.Written.{AnswersRequest-turn_cut}
-use Rattle.mot_session.proofs.Written.{BrokenOff-next, BrokenOff-turn, Sends, Sends-more}
-use Rattle.mot_session.proofs.Written.{SendsTurn-ended, SendsWithinTurn, SendsWithinTurn-more}
-use Rattle.mot_session.proofs.Written.{appended-more}
+use Rattle.mot_session.proofs.Written.{AnswersRequest-turn_cut, BrokenOff-next, BrokenOff-turn}
+use Rattle.mot_session.proofs.Written.{Sends, Sends-more, SendsTurn-ended, SendsWithinTurn}
+use Rattle.mot_session.proofs.Written.{SendsWithinTurn-more, appended-more}
 
 same_bool : (shown : Option Bool) (a b : Bool) → shown ≡ Some a → shown ≡ Some b → a ≡ b
 same_bool shown a b e f = let both : Some a ≡ Some b = sym e ∙ f in cc

@@ -1,6 +1,5 @@
 -- Requests of packets on a disk that is only read.
-use Rattle.std.proofs.Common.{◌≡◌, ℕ, Bool, List, Option, Some, Result, refl, sym, ap, ◌∙◌}
-use Rattle.std.proofs.Common.{subst}
+use Rattle.std.proofs.Common.{◌≡◌, ℕ, Bool, List, Option, Some, Result, refl, sym, ap, ◌∙◌, subst}
 use Rattle.std.specs.Prelude.{IfOk}
 use Rattle.disk_model.specs.Disk.{State}
 use Rattle.disk_model.proofs.Laws.{keeps_none, keeps_on, reads_none, reads_on, unchanged_none}
@@ -11,11 +10,11 @@ use Rattle.mot_packets.specs.Packet.{read_packet}
 use Rattle.mot_packets.specs.Written.{bytes_of_packet}
 use Rattle.mot_player.specs.Laws.{IsStep}
 use Rattle.mot_repository.specs.Repository.{RepositoryView, Agrees, Holds}
-use Rattle.mot_playout.specs.Server.{ServerView, place_in}
+use Rattle.mot_playout.specs.Runs.{ServerView, place_in}
 use Rattle.mot_playout.proofs.Laws.{holds_still}
 use Rattle.mot_session.specs.declared.serving.output.WriteFault.{WriteFault}
 use Rattle.mot_session.specs.Inner.Writes.{AnswersOne, ReadsAlone, sends}
-use Rattle.mot_session.specs.Output.{Writes}
+use Rattle.mot_session.specs.Served.{Writes}
 use Rattle.mot_session.specs.LineByLine.{GoesOn}
 use Rattle.mot_session.specs.State.{KeepsCarousel, StandsFor, state_of}
 

@@ -1,7 +1,6 @@
 -- The definitions, computed on worked rows.
 use Rattle.std.proofs.Common.{◌≡◌, inl, inr, ℕ, Bool, true, false, List, [], ◌∷◌, Option, Some}
-use Rattle.std.proofs.Common.{None}
-use Rattle.std.proofs.Common.{Result, Ok, Err, refl, sym, ap, ◌∙◌, subst}
+use Rattle.std.proofs.Common.{None, Result, Ok, Err, refl, sym, ap, ◌∙◌, subst}
 use Rattle.std.proofs.lemmas.Slice.Eq.{bytes_eq-Decides}
 use Rattle.std.specs.Fmt.{digits}
 use Rattle.std.specs.Prelude.{⊤, bytes_eq, codes, if◌then◌else◌, nat_le, take}
@@ -21,10 +20,10 @@ use Rattle.mot_objects.specs.declared.command.Command as command
 use Rattle.mot_objects.specs.declared.command.Command.TheVariants.{Put}
 use Rattle.mot_objects.specs.declared.command.Done.{Done}
 use Rattle.mot_objects.specs.Carousel.{Carousel, change}
-use Rattle.mot_objects.specs.Content.{ContentNumbers}
+use Rattle.mot_objects.specs.Name.{ContentNumbers}
 use Rattle.mot_playout.specs.Life.{carousel_from}
 use Rattle.mot_session.specs.Life.{AreRightReplies, is_done}
-use Rattle.mot_session.specs.Raw.{raw_group}
+use Rattle.mot_session.specs.Session.{raw_group}
 use Rattle.mot_session.specs.Replies.{IsReply, IsRightReply, IsShown}
 
 hello_group : bytes_of_group (raw_group Body 2 (codes "hello"))

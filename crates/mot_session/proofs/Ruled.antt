@@ -1,12 +1,10 @@
 -- Replies are right by the rules of commands.
-use Rattle.std.proofs.Common.{◌≡◌, ◌⊎◌, inl, inr, ℕ, ◌<◌, Bool, true, false, List, [], ◌∷◌}
-use Rattle.std.proofs.Common.{length, Option, Some, None, Result, Ok, Err, refl, sym, ap, ◌∙◌}
-use Rattle.std.proofs.Common.{subst}
+use Rattle.std.proofs.Common.{◌≡◌, ◌⊎◌, inl, inr, ℕ, ◌<◌, Bool, true, false, List, [], ◌∷◌, length}
+use Rattle.std.proofs.Common.{Option, Some, None, Result, Ok, Err, refl, sym, ap, ◌∙◌, subst}
 use Rattle.std.proofs.lemmas.Bool.{and_parts, le-ltb, leb-true}
 use Rattle.std.specs.List.{list_all}
-use Rattle.std.specs.Prelude.{⊤, All, IsTrue, IsFalse, if◌then◌else◌, nat_le}
-use Rattle.std.specs.Prelude.{nat_lt}
-use Rattle.std.specs.Prelude.{◌&&◌, ◌==◌, not}
+use Rattle.std.specs.Prelude.{⊤, All, IsTrue, IsFalse, if◌then◌else◌, nat_le, nat_lt, ◌&&◌, ◌==◌}
+use Rattle.std.specs.Prelude.{not}
 use Rattle.std.specs.Str.{is_utf8}
 use Rattle.disk_model.specs.Failures.{Rises}
 use Rattle.mot_journal.specs.declared.layout.Layout.TheVariants.{Two}
@@ -16,17 +14,14 @@ use Rattle.mot_lines.specs.declared.line.Line.{Line}
 use Rattle.mot_lines.specs.declared.line.Line.TheVariants as asks
 use Rattle.mot_lines.specs.declared.line.TheConstants.{MAX_LINE, MAX_PACKETS}
 use Rattle.mot_lines.specs.Fields.{body_in, content_in, kind_in, mime_in, name_in, number_to}
-use Rattle.mot_lines.specs.Fields.{period_in, segment_in}
-use Rattle.mot_lines.specs.Line.{NeedsMemory, alone_of, description_of, line_of, next_of}
-use Rattle.mot_lines.specs.Line.{period_of}
+use Rattle.mot_lines.specs.Fields.{period_in, segment_in, number_of_word, words_of}
+use Rattle.mot_lines.specs.Line.{NeedsMemory, alone_of, description_of, line_of, next_of, period_of}
+use Rattle.mot_lines.specs.Line.{put_of, asked_by, raw_of, replace_of, request_of, withdraw_of}
 use Rattle.mot_numbers.specs.Refusal.{◌>>=◌}
-use Rattle.mot_lines.specs.Line.{put_of}
-use Rattle.mot_lines.specs.Line.{asked_by, raw_of, replace_of, request_of, withdraw_of}
 use Rattle.mot_lines.specs.Verb.{verb_of}
 use Rattle.mot_lines.specs.declared.line.verb.Verb.{Verb}
 use Rattle.mot_lines.specs.declared.line.verb.Verb.TheVariants as verb
 use Rattle.mot_lines.specs.Text.{done_line, refusal_line}
-use Rattle.mot_lines.specs.Words.{number_of_word, words_of}
 use Rattle.hex.specs.Hex.{decode_of}
 use Rattle.mot_numbers.specs.declared.geometry.Geometry.{Geometry}
 use Rattle.mot_numbers.specs.declared.refusal.Refusal.{Refusal}
@@ -36,17 +31,15 @@ use Rattle.mot_objects.specs.declared.command.Command as command
 use Rattle.mot_objects.specs.declared.command.Command.TheVariants.{Period, Put, Replace, Withdraw}
 use Rattle.mot_objects.specs.declared.command.Done.{Done}
 use Rattle.mot_objects.specs.declared.name.TheConstants.{MAX_NAME}
-use Rattle.mot_objects.specs.Carousel.{Carousel}
+use Rattle.mot_objects.specs.Carousel.{Carousel, AllKeepRules}
 use Rattle.mot_objects.specs.Name.{is_name}
-use Rattle.mot_objects.specs.Rules.{AllKeepRules}
 use Rattle.mot_repository.specs.Outcome.{after_command, has_long_name}
 use Rattle.mot_repository.proofs.Laws.{accepted_parts}
 use Rattle.mot_playout.proofs.Laws.{IsRefused, refused_by}
 use Rattle.mot_session.specs.Life.{AreRightReplies, Told}
 use Rattle.mot_session.specs.Replies.{IsRightReply, IsShown}
-use Rattle.mot_session.specs.Session.{Answers, IsAnswer, IsCommandAnswer}
-use Rattle.mot_session.specs.Session.{NeedsCarousel, Reply, accepted}
-use Rattle.mot_session.specs.Session.{accepts, decided, fails, halted, no_memory, refused}
+use Rattle.mot_session.specs.Session.{Answers, IsAnswer, IsCommandAnswer, NeedsCarousel, Reply}
+use Rattle.mot_session.specs.Session.{accepted, accepts, decided, fails, halted, no_memory, refused}
 use Rattle.mot_session.specs.Session.{refuses, text_of}
 use Rattle.mot_session.specs.State.{KeepsCarousel, ServerState, Stays}
 use Rattle.mot_session.proofs.Shown.{list-reply, plays-shown, raw-reply}

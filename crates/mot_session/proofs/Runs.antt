@@ -1,12 +1,10 @@
 -- The line in hand, as bytes of the input come.
-use Rattle.std.proofs.Common.{◌≡◌, ℕ, ◌+◌, List, [], ◌∷◌, ◌++◌, length}
-use Rattle.std.proofs.Common.{sym, ap, ◌∙◌, arith, length-append}
-use Rattle.mot_lines.specs.Hand.{bytes_in_hand}
-use Rattle.mot_lines.specs.Lines.{HasNoLineEnd}
-use Rattle.mot_lines.specs.Lines.{rest_of}
+use Rattle.std.proofs.Common.{◌≡◌, ℕ, ◌+◌, List, [], ◌∷◌, ◌++◌, length, sym, ap, ◌∙◌, arith}
+use Rattle.std.proofs.Common.{length-append}
+use Rattle.mot_lines.specs.Lines.{bytes_in_hand, HasNoLineEnd, rest_of}
 use Rattle.mot_lines.proofs.Laws.{whole_lines-none, rest_of-none, whole_lines-end, rest_of-end}
 use Rattle.mot_lines.proofs.Laws.{whole_lines-within, rest_of-within}
-use Rattle.mot_session.specs.Inner.InHand.{InHand}
+use Rattle.mot_session.specs.Inner.Decision.{InHand}
 
 -- of no input nothing is in hand, and no lines are counted
 pub InHand-none : (hand : List ℕ) → hand ≡ bytes_in_hand [] → InHand [] hand 0

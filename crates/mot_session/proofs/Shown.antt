@@ -1,10 +1,8 @@
 -- What a whole reply shows of the line that it answers.
-use Rattle.std.proofs.Common.{◌≡◌, inl, inr, ℕ, zero, suc, ◌+◌, ◌-◌, ◌*◌}
-use Rattle.std.proofs.Common.{◌/◌, ◌%◌}
-use Rattle.std.proofs.Common.{Bool, true, false, List, [], ◌∷◌, ◌++◌, length, map, Option, Some}
-use Rattle.std.proofs.Common.{None}
-use Rattle.std.proofs.Common.{Result, Ok, Err, refl, sym, ap, ◌∙◌, subst, arith, append_assoc}
-use Rattle.std.proofs.Common.{append-nil, length-append}
+use Rattle.std.proofs.Common.{◌≡◌, inl, inr, ℕ, zero, suc, ◌+◌, ◌-◌, ◌*◌, ◌/◌, ◌%◌, Bool, true}
+use Rattle.std.proofs.Common.{false, List, [], ◌∷◌, ◌++◌, length, map, Option, Some, None, Result}
+use Rattle.std.proofs.Common.{Ok, Err, refl, sym, ap, ◌∙◌, subst, arith, append_assoc, append-nil}
+use Rattle.std.proofs.Common.{length-append}
 use Rattle.std.proofs.lemmas.Bool.Decides.{nat_tests}
 use Rattle.std.proofs.lemmas.List.Elements.{All-append, All-cons, All-nil, All-weaker}
 use Rattle.std.specs.Fmt.{decimal, digit_glyph, digits, digits_onto}
@@ -26,25 +24,20 @@ use Rattle.mot_numbers.specs.declared.geometry.Geometry.{Geometry}
 use Rattle.mot_numbers.specs.declared.group_kind.GroupKind.{GroupKind}
 use Rattle.mot_numbers.specs.declared.refusal.Refusal.{Refusal}
 use Rattle.mot_numbers.specs.declared.refusal.Refusal.TheVariants.{DeviceFault, Halted, OutOfMemory}
-use Rattle.mot_objects.specs.Carousel.{Carousel, Object}
-use Rattle.mot_objects.specs.Mime.{IsMime}
-use Rattle.mot_objects.specs.Name.{IsName}
-use Rattle.mot_objects.specs.Rules.{AllKeepRules, KeepsRules}
+use Rattle.mot_objects.specs.Carousel.{Carousel, Object, AllKeepRules, KeepsRules}
+use Rattle.mot_objects.specs.Name.{IsMime, IsName}
 use Rattle.mot_objects.specs.declared.command.Command as command
 use Rattle.mot_objects.specs.declared.command.Done.{Done}
 use Rattle.mot_packets.specs.Written.{bytes_of_packet}
 use Rattle.mot_packets.proofs.Laws.{length-packets_of_group}
 use Rattle.mot_player.specs.Place.{Place, Request, Sent, request, sent_by}
-use Rattle.mot_session.specs.Packets.{PlaysForRequest, sent_lines}
+use Rattle.mot_session.specs.State.{PlaysForRequest, sent_lines, ServerState}
 use Rattle.mot_session.specs.Replies.{AreAsked, IsReply, IsShown, Shown, ends_of, shown_lines}
-use Rattle.mot_session.specs.Raw.{raw_group, raw_packets}
+use Rattle.mot_session.specs.Session.{raw_group, raw_packets, Answers, decided, halted, no_memory}
+use Rattle.mot_session.specs.Session.{IsAnswer, IsCommandAnswer, NeedsCarousel, Reply, accepted}
+use Rattle.mot_session.specs.Session.{accepts, fails, listing, packets, played, refused, refuses}
+use Rattle.mot_session.specs.Session.{text_of}
 use Rattle.mot_session.specs.Served.{Begins, whole}
-use Rattle.mot_session.specs.Session.{Answers, decided, halted, no_memory, IsAnswer}
-use Rattle.mot_session.specs.Session.{IsCommandAnswer}
-use Rattle.mot_session.specs.Session.{NeedsCarousel, Reply}
-use Rattle.mot_session.specs.Session.{accepted, accepts, fails, listing, packets, played}
-use Rattle.mot_session.specs.Session.{refused, refuses, text_of}
-use Rattle.mot_session.specs.State.{ServerState}
 
 -- ---- bytes that end no line
 

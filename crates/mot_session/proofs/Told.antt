@@ -9,17 +9,15 @@ use Rattle.mot_journal.specs.Image.{Standing}
 use Rattle.mot_lines.specs.Line.{line_of}
 use Rattle.mot_objects.specs.declared.command.Command.{Command}
 use Rattle.mot_repository.specs.Repository.{IsOf}
-use Rattle.mot_playout.specs.Runs.{IsAfter, StandsAfterSome}
-use Rattle.mot_playout.specs.Server.{ServerView}
+use Rattle.mot_playout.specs.Runs.{IsAfter, StandsAfterSome, ServerView}
 use Rattle.mot_playout.proofs.Laws.{after_both, more, none_of}
 use Rattle.mot_session.specs.declared.serving.output.WriteFault.{WriteFault}
-use Rattle.mot_session.specs.Inner.Writes.{AnswersLine, Crosses}
+use Rattle.mot_session.specs.Inner.Writes.{AnswersLine, Crosses, accepted_in, failed_in}
 use Rattle.mot_session.specs.Served.{ServedLine, StoppedLine}
 use Rattle.mot_session.specs.Life.{Told, done_in, fails_in}
 use Rattle.mot_session.specs.Session.{Exchange, Reply, text_of}
 use Rattle.mot_session.specs.State.{Leads, ServerState, StandsFor, state_of}
 use Rattle.mot_session.specs.Kept.{IsToldAndStored, KeepsAcknowledged}
-use Rattle.mot_session.specs.Inner.Writes.{accepted_in, failed_in}
 use Rattle.mot_session.proofs.Crashes.{behind, made}
 use Rattle.mot_session.proofs.Outcomes.{Outcome, nothing, one, halts, begun_outcome, outcome}
 use Rattle.mot_session.proofs.Telling.{Kinds, kinds, kinds_begun, stored_so}

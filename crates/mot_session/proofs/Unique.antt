@@ -2,15 +2,12 @@
 -- the same lines one is the other. So the commands done are a function of what was read and
 -- written.
 use Rattle.std.proofs.Common.{◌≡◌, ◌⊎◌, inl, inr, ⊎_elim, ℕ, zero, suc, ◌+◌, ◌-◌, ◌*◌, ◌/◌, ◌%◌}
-use Rattle.std.proofs.Common.{◌≤◌, ◌<◌, Bool}
-use Rattle.std.proofs.Common.{true, false, List, [], ◌∷◌, ◌++◌, length, map, replicate, Option}
-use Rattle.std.proofs.Common.{Some, None}
-use Rattle.std.proofs.Common.{Result, Ok, Err}
-use Rattle.std.proofs.Common.{refl, sym, ap, ◌∙◌, subst, arith, append_assoc, append-nil, get_or}
+use Rattle.std.proofs.Common.{◌≤◌, ◌<◌, Bool, true, false, List, [], ◌∷◌, ◌++◌, length, map}
+use Rattle.std.proofs.Common.{replicate, Option, Some, None, Result, Ok, Err, refl, sym, ap, ◌∙◌}
+use Rattle.std.proofs.Common.{subst, arith, append_assoc, append-nil, get_or}
 use Rattle.std.proofs.lemmas.Bool.{eq-eqb, ltb-true, ne_eqb}
 use Rattle.std.proofs.lemmas.List.Elements.{All-append, All-cons, All-from_recursion, All-head}
-use Rattle.std.proofs.lemmas.List.Elements.{All-nil}
-use Rattle.std.proofs.lemmas.List.Elements.{All-tail}
+use Rattle.std.proofs.lemmas.List.Elements.{All-nil, All-tail}
 use Rattle.std.proofs.lemmas.Grind.{div_ceil_times}
 use Rattle.std.proofs.lemmas.List.{append_cancel_left, length-map, length-replicate}
 use Rattle.std.specs.Int.{div_ceil}
@@ -22,21 +19,19 @@ use Rattle.mot_lines.specs.declared.line.Line.{Line}
 use Rattle.mot_lines.specs.declared.line.Line.TheVariants as asks
 use Rattle.mot_lines.specs.declared.line.TheConstants.{MAX_LINE, MAX_PACKETS}
 use Rattle.mot_lines.specs.Fields.{kind_in, name_in, number_to, period_in, segment_in}
-use Rattle.mot_lines.specs.Line.{alone_of, description_of, line_of, next_of, period_of}
-use Rattle.mot_numbers.specs.Refusal.{◌>>=◌}
-use Rattle.mot_lines.specs.Line.{put_of}
+use Rattle.mot_lines.specs.Fields.{number_of_word, words_of}
+use Rattle.mot_lines.specs.Line.{alone_of, description_of, line_of, next_of, period_of, put_of}
 use Rattle.mot_lines.specs.Line.{asked_by, raw_of, replace_of, request_of, withdraw_of}
+use Rattle.mot_numbers.specs.Refusal.{◌>>=◌, name_of, number_of}
 use Rattle.mot_lines.specs.Verb.{verb_of}
 use Rattle.mot_lines.specs.declared.line.verb.Verb.{Verb}
 use Rattle.mot_lines.specs.declared.line.verb.Verb.TheVariants as verb
-use Rattle.mot_lines.specs.Words.{number_of_word, words_of}
 use Rattle.mot_objects.specs.declared.command.Command.TheVariants.{Period, Put, Replace, Withdraw}
 use Rattle.mot_lines.specs.Lines.{HasNoLineEnd}
 use Rattle.mot_lines.specs.Text.{done_line, played_line, refusal_line}
 use Rattle.mot_numbers.specs.declared.geometry.Geometry.{Geometry}
 use Rattle.mot_numbers.specs.declared.refusal.Refusal.{Refusal}
 use Rattle.mot_numbers.specs.declared.refusal.Refusal.TheVariants as why
-use Rattle.mot_numbers.specs.Refusal.{name_of, number_of}
 use Rattle.mot_objects.specs.declared.command.Command as command
 use Rattle.mot_numbers.specs.PacketLength.{IsLength}
 use Rattle.mot_session.specs.Laws.{RepliesAreCutOnce}

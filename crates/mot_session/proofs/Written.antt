@@ -1,9 +1,8 @@
 -- Replies that were written, whole or in part.
 use Rattle.std.proofs.Common.{◌≡◌, ℕ, ◌+◌, ◌<◌, ◌≤◌, true, false, Bool, List, [], ◌∷◌, ◌++◌, map}
-use Rattle.std.proofs.Common.{Option, Some}
-use Rattle.std.proofs.Common.{Result, Ok, Err, refl, sym, ap, ◌∙◌, subst, arith, append_assoc}
-use Rattle.std.proofs.Common.{append-nil, ◌⊎◌, inl, inr, ⊎_elim}
-use Rattle.std.proofs.Common.{length, length-append}
+use Rattle.std.proofs.Common.{Option, Some, Result, Ok, Err, refl, sym, ap, ◌∙◌, subst, arith}
+use Rattle.std.proofs.Common.{append_assoc, append-nil, ◌⊎◌, inl, inr, ⊎_elim, length}
+use Rattle.std.proofs.Common.{length-append}
 use Rattle.std.specs.Prelude.{replicate, IsFalse, IsTrue}
 use Rattle.std.specs.Io.KnownBytes.{Appends, Keeps}
 use Rattle.std.proofs.KnownBytes.{Appends-trans, Appends-kept}
@@ -21,20 +20,18 @@ use Rattle.mot_numbers.specs.declared.refusal.Refusal.TheVariants.{DeviceFault}
 use Rattle.mot_packets.specs.Packet.{read_packet}
 use Rattle.mot_packets.specs.Written.{bytes_of_packet}
 use Rattle.mot_player.specs.Place.{Place, Sent, Step, Request, sent_by}
-use Rattle.mot_player.specs.Sending.{HasSent, packets_sent}
+use Rattle.mot_player.specs.Laws.{HasSent, packets_sent}
 use Rattle.mot_player.proofs.Laws.{requests-go_on}
 use Rattle.mot_playout.proofs.Laws.{rises_on}
 use Rattle.mot_session.specs.declared.serving.output.WriteFault.{WriteFault}
 use Rattle.mot_session.specs.Inner.Writes.{Answered, AnswersWith, AnswersRequest, FailsToSend}
-use Rattle.mot_session.specs.Inner.Writes.{SendsOne}
-use Rattle.mot_session.specs.Output.{Writes}
-use Rattle.mot_session.specs.Inner.Writes.{may_have_done}
-use Rattle.mot_session.specs.Packets.{PlaysForRequest, sent_line, sent_lines}
+use Rattle.mot_session.specs.Inner.Writes.{SendsOne, may_have_done}
+use Rattle.mot_session.specs.Served.{Writes, Begins, whole, begun, WritesFront}
+use Rattle.mot_session.specs.State.{PlaysForRequest, sent_line, sent_lines, ServerState}
+use Rattle.mot_session.specs.State.{KeepsCarousel, Stays}
 use Rattle.mot_session.specs.Replies.{AreAsked}
-use Rattle.mot_session.specs.Served.{Begins, whole, begun, WritesFront}
 use Rattle.mot_session.specs.Session.{Reply, Answers, IsAnswer, decided, accepted, listing, packets}
 use Rattle.mot_session.specs.Session.{played, refused, text_of}
-use Rattle.mot_session.specs.State.{ServerState, KeepsCarousel, Stays}
 use Rattle.mot_session.proofs.Shown.{sent-length}
 
 pub sent_lines-more : (sents : List Sent) (s : Sent)

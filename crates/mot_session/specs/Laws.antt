@@ -1,6 +1,6 @@
 -- What holds of every raw reply, of every session, and of the replies to lines.
-use Rattle.std.specs.Prelude.{ℕ, ◌≡◌, ◌+◌, ◌⊎◌, ◌<◌, ◌≤◌, Bool, false, List, [], ◌∷◌, ◌++◌}
-use Rattle.std.specs.Prelude.{length, if◌then◌else◌, Option, Some, Result}
+use Rattle.std.specs.Prelude.{ℕ, ◌≡◌, ◌+◌, ◌⊎◌, ◌<◌, ◌≤◌, Bool, false, List, [], ◌∷◌, ◌++◌, length}
+use Rattle.std.specs.Prelude.{if◌then◌else◌, Option, Some, Result}
 use Rattle.disk_model.specs.Failures.{most_failures}
 use Rattle.mot_groups.specs.Group.{read_group}
 use Rattle.mot_lines.specs.declared.line.Line.{Line}
@@ -14,10 +14,9 @@ use Rattle.mot_objects.specs.declared.command.Command.{Command}
 use Rattle.mot_packets.specs.Gather.{gather}
 use Rattle.mot_player.specs.Continuity.{IsContinuous}
 use Rattle.mot_session.specs.Life.{Tells, Told}
-use Rattle.mot_session.specs.Raw.{raw_group, raw_packets}
-use Rattle.mot_session.specs.Served.{Begins}
-use Rattle.mot_session.specs.Session.{Exchange, Reply, Session, played}
+use Rattle.mot_session.specs.Session.{raw_group, raw_packets, Exchange, Reply, Session, played}
 use Rattle.mot_session.specs.Session.{packets_in, packets_played, refused}
+use Rattle.mot_session.specs.Served.{Begins}
 use Rattle.mot_session.specs.State.{HasJustOpened, ServerState}
 
 -- a receiver gathers one group from the packets of a raw reply, and reads in it the segment that

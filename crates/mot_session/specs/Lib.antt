@@ -4,11 +4,7 @@ pub mod Laws
 pub mod Life
 pub mod LineByLine
 pub mod OnAnyDisk
-pub mod Output
-pub mod Packets
-pub mod Raw
 pub mod Replies
 pub mod Served
 pub mod Session
 pub mod State
-pub mod Stored

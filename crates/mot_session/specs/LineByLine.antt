@@ -4,7 +4,7 @@ use Rattle.std.specs.Prelude.{ℕ, ◌≡◌, List, [], ◌∷◌, ◌++◌, len
 use Rattle.std.specs.Io.KnownBytes.{Appends}
 use Rattle.disk_model.specs.Disk.{State, IsUnchanged, KeepsLength}
 use Rattle.mot_lines.specs.Line.{line_of}
-use Rattle.mot_playout.specs.Server.{ServerView}
+use Rattle.mot_playout.specs.Runs.{ServerView}
 use Rattle.mot_session.specs.OnAnyDisk.{AnswersAnyhow, BeginsAnyhow}
 use Rattle.mot_session.specs.Served.{ServedLine, StoppedLine, WritesFront}
 use Rattle.mot_session.specs.State.{Leads}

@@ -1,7 +1,7 @@
 -- What a request is answered on every disk, whatever the disk holds and however it fails: in
 -- the words of what the server keeps in memory.
-use Rattle.std.specs.Prelude.{ℕ, ◌≡◌, Bool, true, List, [], ◌∷◌, ◌++◌, Result, Ok, Err}
-use Rattle.std.specs.Prelude.{IsTrue, IsFalse, if◌then◌else◌}
+use Rattle.std.specs.Prelude.{ℕ, ◌≡◌, Bool, true, List, [], ◌∷◌, ◌++◌, Result, Ok, Err, IsTrue}
+use Rattle.std.specs.Prelude.{IsFalse, if◌then◌else◌}
 use Rattle.std.specs.List.{flat_map}
 use Rattle.disk_model.specs.Failures.{Rises}
 use Rattle.mot_lines.specs.declared.line.Line.{Line}
@@ -13,15 +13,13 @@ use Rattle.mot_lines.specs.Text.{done_line, packet_line, refusal_line}
 use Rattle.mot_numbers.specs.declared.group_kind.GroupKind.{GroupKind}
 use Rattle.mot_numbers.specs.declared.refusal.Refusal.{Refusal}
 use Rattle.mot_numbers.specs.declared.refusal.Refusal.TheVariants.{OutOfMemory, BadLine}
-use Rattle.mot_numbers.specs.declared.refusal.Refusal.TheVariants.{DeviceFault}
-use Rattle.mot_numbers.specs.declared.refusal.Refusal.TheVariants.{Halted}
+use Rattle.mot_numbers.specs.declared.refusal.Refusal.TheVariants.{DeviceFault, Halted}
 use Rattle.mot_objects.specs.declared.command.Command as command
 use Rattle.mot_objects.specs.declared.command.Done.{Done}
 use Rattle.mot_repository.specs.Answers.{IsChanged, IsHalted, IsRefusal}
 use Rattle.mot_repository.specs.Repository.{RepositoryView}
-use Rattle.mot_session.specs.Raw.{raw_packets}
+use Rattle.mot_session.specs.Session.{raw_packets, NeedsCarousel}
 use Rattle.mot_session.specs.Replies.{AreAsked, Shown, ends_of, shown_lines}
-use Rattle.mot_session.specs.Session.{NeedsCarousel}
 
 -- what a request asks for where a server is only read: no command, and no packets of the carousel
 abbrev pub read_only : Result Line Refusal → Result Line Refusal

@@ -1,6 +1,6 @@
 -- What was read and written so far.
 use Rattle.std.specs.Prelude.{ℕ, ◌≡◌, ◌≤◌, ◌*◌, ◌⊎◌, List, [], ◌∷◌, ◌++◌, length, Option, Some}
-use Rattle.std.specs.Prelude.{None, Result, IsFalse, true, false}
+use Rattle.std.specs.Prelude.{None, Result, IsFalse, true, false, Ok, Err}
 use Rattle.std.specs.Io.KnownBytes.{Appends, Consumes}
 use Rattle.disk_model.specs.Disk.{State}
 use Rattle.mot_lines.specs.Line.{line_of}
@@ -12,9 +12,8 @@ use Rattle.mot_player.specs.Place.{Sent}
 use Rattle.mot_session.specs.declared.serving.TheConstants.{READ_SIZE}
 use Rattle.mot_session.specs.Kept.{IsToldAndStored}
 use Rattle.mot_session.specs.Life.{Told, done_in, fails_in}
-use Rattle.mot_session.specs.Packets.{PlaysForRequest, sent_lines}
+use Rattle.mot_session.specs.State.{PlaysForRequest, sent_lines, ServerState}
 use Rattle.mot_session.specs.Session.{Reply, played, Answers, text_of}
-use Rattle.mot_session.specs.State.{ServerState}
 
 -- the reader gave these bytes, in at most so many reads
 pub record TakesInput (reads : ℕ) (unread left : Option (List ℕ)) (input : List ℕ) : Type 0 where
@@ -71,3 +70,11 @@ pub record StoppedLine (start now : State) (before : ServerState) (line : List �
 abbrev pub EndsServing : Option Refusal → Type 0
 EndsServing fault = (fault ≡ None) ⊎ (fault ≡ Some OutOfMemory) ⊎ (fault ≡ Some ReadFault)
     ⊎ (fault ≡ Some WriteFault)
+
+-- What a call that writes wrote. The writer's known bytes were old and are new.
+
+-- it wrote these bytes, or, after a fault, some first of them
+abbrev pub Writes : {T E : Type 0} → Result T E → List ℕ → Option (List ℕ) → Option (List ℕ)
+    → Type 0
+Writes (Ok done) bytes old new = Appends old new bytes
+Writes (Err fault) bytes old new = WritesFront bytes old new

@@ -1,13 +1,22 @@
 -- What a server on a disk stands for.
-use Rattle.std.specs.Prelude.{◌≡◌, ℕ, ◌≤◌, Bool, IsFalse}
+use Rattle.std.specs.Prelude.{◌≡◌, ℕ, ◌≤◌, Bool, IsFalse, List, [], ◌∷◌, Result, Ok, length, map}
 use Rattle.disk_model.specs.Disk as disk
 use Rattle.mot_journal.specs.declared.layout.Layout.{Layout}
 use Rattle.mot_journal.specs.Image.{Standing}
 use Rattle.mot_numbers.specs.Geometry.{packet_room}
-use Rattle.mot_player.specs.Place.{Place, opened_place}
+use Rattle.mot_player.specs.Place.{Place, opened_place, Sent}
 use Rattle.mot_player.specs.Turn.{turn_of_carousel}
 use Rattle.mot_repository.specs.Repository.{RepositoryView, Agrees, Holds}
-use Rattle.mot_playout.specs.Server.{ServerView, place_in}
+use Rattle.mot_playout.specs.Runs.{ServerView, place_in}
+use Rattle.mot_lines.specs.declared.line.Line.{Line}
+use Rattle.mot_lines.specs.declared.line.Line.TheVariants.{Command}
+use Rattle.mot_numbers.specs.declared.refusal.Refusal.{Refusal}
+use Rattle.mot_objects.specs.declared.command.Command as command
+use Rattle.std.specs.List.{flat_map}
+use Rattle.mot_lines.specs.Text.{played_line}
+use Rattle.mot_packets.specs.Written.{bytes_of_packet}
+use Rattle.mot_player.specs.Laws.{HasSent}
+use Rattle.mot_session.specs.Replies.{AreAsked}
 
 pub record ServerState : Type 0 where
   -- its geometry, its carousel with the bodies, and where they lie
@@ -69,3 +78,27 @@ HasJustOpened state =
     let g = state.standing.geometry in
     state.place ≡ opened_place g.address (packet_room g) g.segment
     (turn_of_carousel state.standing.carousel g.segment)
+
+-- What a line may store.
+
+-- the command that a request is
+abbrev pub command_in : Result Line Refusal → List command.Command
+command_in (Ok (Command c)) = c ∷ []
+command_in request = []
+
+-- What requests of packets give.
+
+-- a line for each packet that was sent
+abbrev pub sent_line : Sent → List ℕ
+sent_line s = played_line (bytes_of_packet s.packet) s.ends_turn
+
+abbrev pub sent_lines : List Sent → List ℕ
+sent_lines sents = flat_map sent_line sents
+
+-- These packets of a `next` or a `turn` line were sent, and nothing else changed. They are all that
+-- it asks for, or some first ones.
+pub record PlaysForRequest (before : ServerState) (request : Result Line Refusal) (some : Bool)
+    (sents : List Sent) (after : ServerState) : Type 0 where
+  pub asked : AreAsked before.standing.geometry request some (map (λ (s : Sent). s.ends_turn) sents)
+  pub sent : HasSent before.place (length sents) sents after.place
+  pub keeps : KeepsCarousel before after

@@ -8,7 +8,7 @@ use Rattle.mot_files.specs.Call.{Call, looked}
 use Rattle.mot_files.specs.declared.system.Fault.{Fault}
 use Rattle.mot_files.specs.declared.system.FileStat.{FileStat}
 use Rattle.mot_shelf.specs.Calls.{HasNoPath}
-use Rattle.mot_shelf.specs.Inner.Paths.{IsWithoutPath}
+use Rattle.mot_shelf.specs.Inner.{IsWithoutPath}
 use Rattle.mot_shelf.specs.declared.path.NoPath.{NoPath}
 use Rattle.mot_shelf.specs.declared.path.NoPath.TheVariants.{NoText, TooLong}
 

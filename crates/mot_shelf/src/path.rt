@@ -2,7 +2,7 @@
 ghost use Rattle.std.specs.Prelude.{◌≡◌, ◌≢◌, ◌<◌, ℕ, IsUtf8, MatchResult, true, false, length};
 ghost use Rattle.mot_files.specs.Listing.{path_in};
 ghost use Rattle.mot_files.specs.declared.reading.ReadFailure.TheVariants.{TooLong, Young};
-ghost use Rattle.mot_shelf.specs.Inner.Paths.{IsWithoutPath};
+ghost use Rattle.mot_shelf.specs.Inner.{IsWithoutPath};
 
 use arrayvec::ArrayString;
 use mot_files::{Fault, ReadFailure};

@@ -1,6 +1,6 @@
 //! Seconds since 1970.
 ghost use Rattle.std.specs.Prelude.{◌≡◌, Option};
-ghost use Rattle.mot_status.specs.Inner.Clock.{seconds_or};
+ghost use Rattle.mot_status.specs.Inner.{seconds_or};
 
 use mot_files::Time;
 

@@ -1,6 +1,6 @@
 //! What is known of a carousel on air, beside what happened.
 ghost use Rattle.std.specs.Prelude.{◌≡◌, ◌^◌, ◌-◌, min, sum_by};
-ghost use Rattle.mot_status.specs.Inner.Figures.{AreFigures, bytes_of};
+ghost use Rattle.mot_status.specs.Inner.{AreFigures, bytes_of};
 
 use disk_model::Disk;
 use mot_listening::TurnSize;

@@ -1,6 +1,6 @@
 //! What a turn takes, as far as that is known.
 ghost use Rattle.std.specs.Prelude.{◌≡◌, IfSome, None, Some};
-ghost use Rattle.mot_status.specs.Inner.TurnMeasurement.{IsMeasured};
+ghost use Rattle.mot_status.specs.Inner.{IsMeasured};
 
 use disk_model::Disk;
 use mot_listening::{TurnSize, turn_size};

@@ -1,7 +1,7 @@
 -- The lines of the known suffixes say the table.
 use Rattle.std.proofs.Common.{◌≡◌, ◌++◌, refl}
 use Rattle.std.specs.Prelude.{codes}
-use Rattle.mot_lines.specs.Words.{number_of_word}
+use Rattle.mot_lines.specs.Fields.{number_of_word}
 use Rattle.mot_suffixes.specs.Types.{known_types, type_of_words, types_in}
 
 -- the text of the known suffixes says their table

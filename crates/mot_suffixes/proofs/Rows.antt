@@ -1,7 +1,7 @@
 -- The definitions, computed on worked rows.
 use Rattle.std.proofs.Common.{◌≡◌, ◌++◌, [], ◌∷◌, Some, None, refl}
 use Rattle.std.specs.Prelude.{codes}
-use Rattle.mot_lines.specs.Words.{number_of_word}
+use Rattle.mot_lines.specs.Fields.{number_of_word}
 use Rattle.mot_numbers.specs.declared.refusal.Refusal.TheVariants.{BadLine}
 use Rattle.mot_suffixes.specs.Images.{image_of_bytes, other_image}
 use Rattle.mot_suffixes.specs.Shown.{shown}

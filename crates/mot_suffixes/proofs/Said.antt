@@ -1,19 +1,17 @@
 -- What the words of a line say of a suffix.
-use Rattle.std.proofs.Common.{◌≡◌, ◌≢◌, ◌∙◌, inl, inr, ℕ, true, false, List, [], ◌∷◌}
-use Rattle.std.proofs.Common.{Option, Result, Ok, Err, ap, length, refl, sym}
+use Rattle.std.proofs.Common.{◌≡◌, ◌≢◌, ◌∙◌, inl, inr, ℕ, true, false, List, [], ◌∷◌, Option}
+use Rattle.std.proofs.Common.{Result, Ok, Err, ap, length, refl, sym}
 use Rattle.std.proofs.lemmas.Bool.{false_from_ne_true}
 use Rattle.std.specs.Prelude.{◌↔◌, IfErr, IfOk, IsOk, is_ok}
-use Rattle.mot_lines.specs.Fields.{content_in}
+use Rattle.mot_lines.specs.Fields.{content_in, number_of_word}
 use Rattle.mot_numbers.specs.Refusal.{◌>>=◌}
-use Rattle.mot_lines.specs.Words.{number_of_word}
 use Rattle.mot_numbers.specs.declared.refusal.Refusal.{Refusal}
 use Rattle.mot_numbers.specs.declared.refusal.Refusal.TheVariants.{BadLine, BadMime}
 use Rattle.mot_objects.proofs.Laws.{mime_is, mime_true}
-use Rattle.mot_objects.specs.Content.{ContentNumbers}
-use Rattle.mot_objects.specs.Mime.{IsMime, is_mime}
-use Rattle.mot_suffixes.specs.Inner.Types.{MayRefuse}
-use Rattle.mot_suffixes.specs.Types.{SuffixType, suffix_in}
-use Rattle.mot_suffixes.specs.Types.{some_mime_in, type_mime_in, type_of_words}
+use Rattle.mot_objects.specs.Name.{ContentNumbers, IsMime, is_mime}
+use Rattle.mot_suffixes.specs.Inner.{MayRefuse}
+use Rattle.mot_suffixes.specs.Types.{SuffixType, suffix_in, some_mime_in, type_mime_in}
+use Rattle.mot_suffixes.specs.Types.{type_of_words}
 
 -- an answer that is right, or why it is refused
 pub answer-ok : {A : Type 0} (result answer : Result A Refusal) → result ≡ answer

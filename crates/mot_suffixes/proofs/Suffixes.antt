@@ -1,15 +1,15 @@
 -- What the lines of a text say of suffixes, one after the other.
-use Rattle.std.proofs.Common.{◌≡◌, ◌∙◌, ◌++◌, ◌+◌, ◌≤◌, ◌==◌, ℕ, List, [], ◌∷◌}
-use Rattle.std.proofs.Common.{Option, None, Result, Ok, Err, append-nil, append_assoc, ap}
-use Rattle.std.proofs.Common.{arith, length, not, refl, sym, length-append}
+use Rattle.std.proofs.Common.{◌≡◌, ◌∙◌, ◌++◌, ◌+◌, ◌≤◌, ◌==◌, ℕ, List, [], ◌∷◌, Option, None}
+use Rattle.std.proofs.Common.{Result, Ok, Err, append-nil, append_assoc, ap, arith, length, not}
+use Rattle.std.proofs.Common.{refl, sym, length-append}
 use Rattle.std.proofs.lemmas.List.Elements.{filter-append}
 use Rattle.std.proofs.lemmas.List.Splits.{slice_split_at, slice_split_none}
 use Rattle.mot_lines.specs.Lines.{HasNoLineEnd, pieces_between}
 use Rattle.mot_numbers.specs.declared.refusal.Refusal.{Refusal}
-use Rattle.mot_suffixes.specs.Inner.Types.{AddsLine, RefusesLine}
+use Rattle.mot_suffixes.specs.Inner.{AddsLine, RefusesLine}
 use Rattle.mot_suffixes.specs.Types.{StopsAtLine, SuffixType, refusal_before, refusal_in}
-use Rattle.mot_suffixes.specs.Types.{refusal_of_lines, says_nothing, that_say, type_before}
-use Rattle.mot_suffixes.specs.Types.{type_in, types_in, types_of_lines}
+use Rattle.mot_suffixes.specs.Types.{refusal_of_lines, says_nothing, that_say, type_before, type_in}
+use Rattle.mot_suffixes.specs.Types.{types_in, types_of_lines}
 
 -- ---- lines that are right, and others behind them
 

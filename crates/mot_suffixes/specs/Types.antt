@@ -1,21 +1,18 @@
 -- Which files of a folder are objects, and what they are.
 use Rattle.std.specs.Prelude.{◌≡◌, ◌==◌, ◌⊎◌, ◌||◌, ◌+◌, ℕ, Bool, true, false, not, if◌then◌else◌}
-use Rattle.std.specs.Prelude.{List, [], ◌∷◌, ◌++◌, bytes_eq, codes, filter, length}
-use Rattle.std.specs.Prelude.{Option, Some, None, Result, Ok, Err}
+use Rattle.std.specs.Prelude.{List, [], ◌∷◌, ◌++◌, bytes_eq, codes, filter, length, Option, Some}
+use Rattle.std.specs.Prelude.{None, Result, Ok, Err}
 use Rattle.std.specs.List.{AllByRecursion, list_any}
 use Rattle.std.specs.Option.{option_or}
 use Rattle.std.specs.Str.{str_eq_ignore_ascii_case}
-use Rattle.mot_lines.specs.Fields.{content_in}
+use Rattle.mot_lines.specs.Fields.{content_in, number_of_word, words_of}
 use Rattle.mot_numbers.specs.Refusal.{◌>>=◌}
 use Rattle.mot_lines.specs.Lines.{pieces_between}
-use Rattle.mot_lines.specs.Words.{number_of_word, words_of}
 use Rattle.mot_numbers.specs.Reading as reading
 use Rattle.mot_numbers.specs.declared.refusal.Refusal.{Refusal}
 use Rattle.mot_numbers.specs.declared.refusal.Refusal.TheVariants.{BadLine, BadMime, BadName}
-use Rattle.mot_numbers.specs.declared.refusal.Refusal.TheVariants.{BadType}
-use Rattle.mot_numbers.specs.declared.refusal.Refusal.TheVariants.{OutOfMemory}
-use Rattle.mot_objects.specs.Content.{ContentNumbers}
-use Rattle.mot_objects.specs.Mime.{is_mime}
+use Rattle.mot_numbers.specs.declared.refusal.Refusal.TheVariants.{BadType, OutOfMemory}
+use Rattle.mot_objects.specs.Name.{ContentNumbers, is_mime}
 
 -- what files of a suffix are
 pub record SuffixType : Type 0 where

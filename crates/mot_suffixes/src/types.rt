@@ -1,14 +1,13 @@
 //! The meaning of a file's suffix.
-ghost use Rattle.std.specs.Prelude.{◌≡◌, ◌++◌, ◌⊎◌, [], true, List, Some, None, Ok};
-ghost use Rattle.std.specs.Prelude.{IfErr, IfNone, IfOk, IfSome, IsNone};
+ghost use Rattle.std.specs.Prelude.{◌≡◌, ◌++◌, ◌⊎◌, [], true, List, Some, None, Ok, IfErr, IfNone};
+ghost use Rattle.std.specs.Prelude.{IfOk, IfSome, IsNone};
 ghost use Rattle.mot_numbers.specs.declared.refusal.Refusal.TheVariants.{BadMime, BadName};
 ghost use Rattle.mot_numbers.specs.declared.refusal.Refusal.TheVariants.{OutOfMemory};
-ghost use Rattle.mot_suffixes.specs.Inner.Types.{AddsLine, MayRefuse, RefusesLine};
+ghost use Rattle.mot_suffixes.specs.Inner.{AddsLine, MayRefuse, RefusesLine};
 ghost use Rattle.mot_suffixes.specs.Types.{IsTypesRefusal, StopsAtLine, SuffixType, is_hidden};
 ghost use Rattle.mot_suffixes.specs.Types.{known_types, last_of_suffix, refusal_in, says_nothing};
-ghost use Rattle.mot_suffixes.specs.Types.{some_mime_in, suffix_in};
-ghost use Rattle.mot_suffixes.specs.Types.{suffix_of, type_in, type_mime_in, type_of_name};
-ghost use Rattle.mot_suffixes.specs.Types.{types_in};
+ghost use Rattle.mot_suffixes.specs.Types.{some_mime_in, suffix_in, suffix_of, type_in};
+ghost use Rattle.mot_suffixes.specs.Types.{type_mime_in, type_of_name, types_in};
 
 use memchr::memrchr;
 use mot_lines::{cut_at_line_end, four_words, parse_content};

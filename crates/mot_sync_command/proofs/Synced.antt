@@ -1,25 +1,23 @@
 -- Making a disk's carousel equal to a folder, from the disk's opening on.
 use Rattle.std.proofs.Common.{◌≡◌, ◌∙◌, ◌≤◌, ℕ, Bool, true, false, List, [], ◌∷◌, ◌++◌, length}
 use Rattle.std.proofs.Common.{Option, Some, None, Result, not, refl, sym, ap, subst, arith}
-use Rattle.std.proofs.Common.{append-nil}
+use Rattle.std.proofs.Common.{append-nil, inl, inr}
 use Rattle.std.specs.Io.KnownBytes.{Appends}
-use Rattle.std.proofs.Common.{inl, inr}
 use Rattle.std.specs.Prelude.{IsFalse, MatchResult}
 use Rattle.std.specs.Result.{result_unwrap_or}
 use Rattle.disk_model.proofs.Laws.{keeps_on}
 use Rattle.disk_model.specs.Disk.{State, IsHonestDisk, KeepsLength, OnlySyncs}
-use Rattle.mot_sync_command.specs.Inner.Looked.{LooksAndTells}
-use Rattle.mot_sync_command.specs.Inner.Looked as looks
+use Rattle.mot_sync_command.specs.Inner.{LooksAndTells}
+use Rattle.mot_sync_command.specs.Inner as looks
 use Rattle.mot_sync_command.specs.Syncing.{HasSynced, IsEqual, Syncs, SyncsAndTells}
-use Rattle.mot_update.proofs.Laws.{ends_off, opened_leaves}
+use Rattle.mot_update.proofs.Laws.{ends_off, opened_leaves, AllAre, all_hold, openable, made}
 use Rattle.mot_feed.specs.Feeding.{IsFeedFault}
 use Rattle.mot_log.specs.Text.{look_line}
 use Rattle.mot_events.specs.declared.event.LookEvent.{LookEvent}
 use Rattle.mot_folder.specs.declared.guard.Guard.{Guard}
 use Rattle.mot_folder.specs.Log.{ReportTells}
 use Rattle.mot_folder.proofs.Laws.{every_named, none_passed}
-use Rattle.mot_folder.specs.Looked.{HasLookedAtFolder, IsLook, TellsRightly, kept, listed}
-use Rattle.mot_folder.specs.Looked.{unlisted}
+use Rattle.mot_folder.specs.Looked.{HasLookedAtFolder, IsLook, TellsRightly, kept, listed, unlisted}
 use Rattle.mot_folder.specs.declared.known.Known.{Known}
 use Rattle.mot_folder.specs.declared.report.Report.{Report}
 use Rattle.mot_journal.specs.Image.{Standing, half_of}
@@ -31,20 +29,17 @@ use Rattle.mot_numbers.specs.declared.refusal.Refusal.{Refusal}
 use Rattle.mot_numbers.specs.Geometry.{is_valid}
 use Rattle.mot_objects.specs.Carousel.{IsSound, carousel_after}
 use Rattle.mot_objects.specs.declared.command.Command.{Command}
-use Rattle.mot_update.proofs.Laws.{AllAre, all_hold, openable}
 use Rattle.mot_update.specs.Opening.{IsOpenable}
 use Rattle.mot_repository.proofs.Laws.{standings-are_sound, stands_where}
 use Rattle.mot_repository.specs.Opening.{IsOpened}
 use Rattle.mot_repository.specs.Repository.{Agrees, Holds}
 use Rattle.mot_playout.proofs.Laws.{valid_is}
 use Rattle.mot_playout.specs.Attempts.{fault_of}
-use Rattle.mot_playout.specs.Runs.{accepted_commands}
-use Rattle.mot_playout.specs.Server.{ServerView}
+use Rattle.mot_playout.specs.Runs.{accepted_commands, ServerView}
 use Rattle.mot_shelf.specs.Given.{Given, nothing}
 use Rattle.mot_shelf.specs.Gives.{GaveSo, Gives}
 use Rattle.mot_shelf.specs.View.{FolderView}
 use Rattle.mot_suffixes.specs.Types.{SuffixType}
-use Rattle.mot_update.proofs.Laws.{made}
 use Rattle.mot_update.specs.Faults.{StaysCalm}
 use Rattle.mot_update.specs.HasRun.{HasRun}
 use Rattle.mot_update.specs.Looking.{AreAccepted}

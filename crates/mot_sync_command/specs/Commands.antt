@@ -4,12 +4,12 @@ use Rattle.std.specs.Borrow.{Bor}
 use Rattle.clap.specs.Words.{Text}
 use Rattle.disk_model.specs.Disk.{State}
 use Rattle.disk_store.specs.Beginning.{SinceOpened}
-use Rattle.disk_store.specs.Ram.{ram_state}
+use Rattle.disk_store.specs.File.{ram_state}
 use Rattle.disk_store.specs.declared.file.start.Start.{Ghosts}
 use Rattle.disk_store.specs.declared.memory.ram.RamDisk.{RamDisk}
 use Rattle.mot_cli.specs.declared.playing.SyncTask.{SyncTask}
 use Rattle.mot_endpoints.specs.Opened.{Need, if_given}
-use Rattle.mot_endpoints.specs.Types.{IsTyped, IsUntyped}
+use Rattle.mot_endpoints.specs.Texts.{IsTyped, IsUntyped}
 use Rattle.mot_folder.specs.Guard.{guard_of}
 use Rattle.mot_folder.specs.declared.guard.Guard.{Guard}
 use Rattle.mot_numbers.specs.declared.refusal.Refusal.{Refusal}
@@ -19,8 +19,7 @@ use Rattle.mot_outcome.specs.declared.used.UsedDisk.{UsedDisk}
 use Rattle.mot_outcome.specs.declared.used.UsedDisk.TheVariants.{InMemory}
 use Rattle.mot_shelf.specs.View.{FolderView, folder_at}
 use Rattle.mot_suffixes.specs.Types.{SuffixType}
-use Rattle.mot_sync_command.specs.Syncing.{Syncs}
-use Rattle.mot_sync_command.specs.Trying.{Tries}
+use Rattle.mot_sync_command.specs.Syncing.{Syncs, Tries}
 
 -- a dry run tries it on a copy
 abbrev pub SyncsBy : (dry_run : Bool) → List SuffixType → (guard : Guard)

@@ -1,4 +1,3 @@
 pub mod Commands
 pub mod Inner
 pub mod Syncing
-pub mod Trying

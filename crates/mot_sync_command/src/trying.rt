@@ -2,7 +2,7 @@
 ghost use Rattle.std.specs.Prelude.{false};
 ghost use Rattle.std.specs.Result.{result_unwrap_or};
 ghost use Rattle.mot_sync_command.specs.Commands.{SyncsBy};
-ghost use Rattle.mot_sync_command.specs.Trying.{Tries};
+ghost use Rattle.mot_sync_command.specs.Syncing.{Tries};
 ghost use Rattle.mot_playout.specs.Attempts.{fault_of};
 ghost use Rattle.mot_shelf.specs.Reader.{view};
 

@@ -1,6 +1,6 @@
 -- What is left of a disk that was just opened, and what ends a command on it.
-use Rattle.std.proofs.Common.{◌≡◌, ◌∙◌, ◌⊎◌, List, [], ◌++◌, Bool, Option, Some, Result, Ok, Err, ap}
-use Rattle.std.proofs.Common.{inl, inr, refl, subst}
+use Rattle.std.proofs.Common.{◌≡◌, ◌∙◌, ◌⊎◌, List, [], ◌++◌, Bool, Option, Some, Result, Ok, Err}
+use Rattle.std.proofs.Common.{ap, inl, inr, refl, subst}
 use Rattle.std.specs.Prelude.{IsFalse, MatchResult}
 use Rattle.disk_model.specs.Disk.{IsHonestDisk, IsStill, State}
 use Rattle.disk_model.specs.Failures.{Rises}
@@ -15,8 +15,8 @@ use Rattle.mot_update.proofs.Opened.{AllAre, opened_throughout}
 use Rattle.mot_repository.specs.Repository.{RepositoryView}
 use Rattle.mot_playout.specs.RunEnds.{RunLeaves}
 use Rattle.mot_playout.specs.Runs.{StandsAfterSome, accepted_commands, commands_in_flight}
+use Rattle.mot_playout.specs.Runs.{ServerView}
 use Rattle.mot_playout.specs.Attempts.{fault_of}
-use Rattle.mot_playout.specs.Server.{ServerView}
 use Rattle.mot_playout.proofs.Laws.{after_none, none_of, not_halted}
 use Rattle.mot_update.specs.Faults as update
 use Rattle.mot_update.specs.Faults.{IsUpdateFault, StaysCalm}

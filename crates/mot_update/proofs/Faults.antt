@@ -7,7 +7,7 @@ use Rattle.mot_numbers.specs.declared.refusal.Refusal.{Refusal}
 use Rattle.mot_numbers.specs.declared.refusal.Refusal.TheVariants.{DeviceFault, Halted, OutOfMemory}
 use Rattle.mot_playout.specs.RunEnds.{IsRunFault}
 use Rattle.mot_playout.specs.RunEnds as run
-use Rattle.mot_playout.specs.Server.{ServerView}
+use Rattle.mot_playout.specs.Runs.{ServerView}
 use Rattle.mot_playout.specs.declared.running.Attempt.{Attempt}
 use Rattle.mot_update.specs.Faults.{StaysCalm, IsUpdateFault, TellsFaults}
 use Rattle.mot_update.specs.Faults as fault

@@ -1,17 +1,13 @@
 -- Looks: names that differ, objects settled one after the other, and what is not known withdrawn.
 use Rattle.std.proofs.Common.{◌≡◌, ℕ, zero, suc, ◌+◌, ◌<◌, ◌≤◌, Bool, true, false, not, ◌||◌, List}
-use Rattle.std.proofs.Common.{[]}
-use Rattle.std.proofs.Common.{◌∷◌, ◌++◌, length, map, take, Option, Some, None, refl, sym, ap, ◌∙◌}
-use Rattle.std.proofs.Common.{subst, arith, append_assoc, append-nil, cond, drop, get_or, Result}
-use Rattle.std.proofs.Common.{Ok, Err}
-use Rattle.std.proofs.Common.{add-one, take-append-drop}
-use Rattle.std.specs.Prelude.{IsErr}
-use Rattle.std.proofs.lemmas.List.{take_all, take_more}
-use Rattle.std.specs.Prelude.{bytes_eq, slice_get}
+use Rattle.std.proofs.Common.{[], ◌∷◌, ◌++◌, length, map, take, Option, Some, None, refl, sym, ap}
+use Rattle.std.proofs.Common.{◌∙◌, subst, arith, append_assoc, append-nil, cond, drop, get_or}
+use Rattle.std.proofs.Common.{Result, Ok, Err, add-one, take-append-drop}
+use Rattle.std.specs.Prelude.{IsErr, bytes_eq, slice_get}
+use Rattle.std.proofs.lemmas.List.{take_all, take_more, map-append}
 use Rattle.std.specs.List.{flat_map, AllByRecursion}
 use Rattle.std.proofs.lemmas.Bool.{and_parts, and_from, or_parts, or_from, not-true, not_from_false}
 use Rattle.std.proofs.lemmas.Grind.{flat_map-append}
-use Rattle.std.proofs.lemmas.List.{map-append}
 use Rattle.std.proofs.lemmas.List.Concat.{flat_map-cons}
 use Rattle.std.proofs.lemmas.Option.{none-some}
 use Rattle.disk_model.specs.Disk.{State, IsHonestDisk, IsUnchanged}
@@ -23,15 +19,13 @@ use Rattle.mot_objects.specs.declared.command.Command.{Command}
 use Rattle.mot_objects.specs.declared.command.Command.TheVariants.{Withdraw}
 use Rattle.mot_objects.specs.declared.object.Object.{Object}
 use Rattle.mot_repository.specs.Repository.{RepositoryView, Agrees, Holds}
-use Rattle.mot_playout.specs.Runs.{accepted_commands}
-use Rattle.mot_playout.specs.Server.{ServerView}
+use Rattle.mot_playout.specs.Runs.{accepted_commands, ServerView}
 use Rattle.mot_playout.specs.Attempts as attempts
 use Rattle.mot_playout.specs.declared.running.Attempt.{Attempt}
 use Rattle.mot_playout.specs.declared.running.Attempt.TheVariants.{Accepted, Refused}
 use Rattle.mot_objects.specs.declared.command.Item.{Item}
-use Rattle.mot_update.specs.HasRun.{HasRun}
+use Rattle.mot_update.specs.HasRun.{HasRun, marks_of_settling}
 use Rattle.mot_update.specs.Laws.{names_of}
-use Rattle.mot_update.specs.HasRun.{marks_of_settling}
 use Rattle.mot_update.specs.Looking.{AreAccepted, Gives, HasLooked, HasSettled, RunsThrough}
 use Rattle.mot_update.specs.Looking.{unknown_names, was_settled, withdraw_all}
 use Rattle.mot_update.specs.Told.{Answer, AreAnswers, AreAttemptsOf, Withdrew, was_accepted}
@@ -39,8 +33,7 @@ use Rattle.mot_update.proofs.Right.{ComesOf, right-cut, right-join, right-one}
 use Rattle.mot_update.proofs.Answers.{answer-withdrew, answers-cut, answers-join}
 use Rattle.mot_update.specs.declared.settling.SettleOutcome.{SettleOutcome}
 use Rattle.mot_update.specs.declared.settling.SettleOutcome.TheVariants.{Right, Put, Replaced}
-use Rattle.mot_update.specs.Updating.{is_known, settling, settling_of, withdrawal}
-use Rattle.mot_update.specs.Updating.{withdrawals}
+use Rattle.mot_update.specs.Updating.{is_known, settling, settling_of, withdrawal, withdrawals}
 use Rattle.mot_update.proofs.Found.{false_if_not_true, not_both, own_name, same_name, same_some}
 use Rattle.mot_update.proofs.Found.{turned}
 use Rattle.mot_update.proofs.Made.{IsOfOther, settlings-others, untouched, withdrawals-others}

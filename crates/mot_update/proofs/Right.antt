@@ -1,6 +1,6 @@
 -- What is told of commands is what comes of them.
-use Rattle.std.proofs.Common.{◌≡◌, ◌∙◌, Bool, true, false, List, [], ◌∷◌, ◌++◌, length, Result}
-use Rattle.std.proofs.Common.{Ok, Err, arith, ap, refl, subst, sym}
+use Rattle.std.proofs.Common.{◌≡◌, ◌∙◌, Bool, true, false, List, [], ◌∷◌, ◌++◌, length, Result, Ok}
+use Rattle.std.proofs.Common.{Err, arith, ap, refl, subst, sym}
 use Rattle.std.specs.Prelude.{IfErr, IfOk, IsFalse, IsTrue, OnOk}
 use Rattle.disk_model.specs.Disk.{State}
 use Rattle.mot_journal.specs.Image.{Standing}
@@ -13,8 +13,7 @@ use Rattle.mot_repository.specs.Answers.{IsAnswered, IsRefusal}
 use Rattle.mot_repository.specs.Outcome.{after_command}
 use Rattle.mot_repository.specs.Repository.{Agrees, RepositoryView}
 use Rattle.mot_playout.specs.Attempts.{answer_of}
-use Rattle.mot_playout.specs.Marks.{AreMarks}
-use Rattle.mot_playout.specs.RunEnds.{is_run_ending}
+use Rattle.mot_playout.specs.RunEnds.{AreMarks, is_run_ending}
 use Rattle.mot_playout.specs.declared.running.Attempt.{Attempt}
 use Rattle.mot_playout.specs.declared.running.Attempt.TheVariants.{Accepted, Refused}
 use Rattle.mot_update.proofs.Found.{same_err, same_ok}

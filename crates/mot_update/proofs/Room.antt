@@ -1,7 +1,6 @@
 -- What an accepted command brings had room.
-use Rattle.std.proofs.Common.{◌≡◌, ◌∙◌, ℕ, suc, ◌<◌, ◌≤◌, Bool, true, false, List, [], ◌∷◌, length, map}
-use Rattle.std.proofs.Common.{Some, None, Ok, Err, refl, sym, ap, arith}
-use Rattle.std.proofs.Common.{⊎_elim}
+use Rattle.std.proofs.Common.{◌≡◌, ◌∙◌, ℕ, suc, ◌<◌, ◌≤◌, Bool, true, false, List, [], ◌∷◌, length}
+use Rattle.std.proofs.Common.{map, Some, None, Ok, Err, refl, sym, ap, arith, ⊎_elim}
 use Rattle.std.proofs.lemmas.Bool.{leb-false}
 use Rattle.std.proofs.lemmas.Bool.Decides.{leb_tells}
 use Rattle.std.specs.Prelude.{◌++◌, cond, nat_le}
@@ -12,7 +11,8 @@ use Rattle.mot_journal.specs.Image.{Standing}
 use Rattle.mot_journal.specs.declared.layout.Layout.{Layout}
 use Rattle.mot_numbers.specs.declared.geometry.Geometry.{Geometry}
 use Rattle.mot_numbers.specs.declared.refusal.Refusal.TheVariants.{NameTaken, TooManyObjects}
-use Rattle.mot_objects.specs.Carousel.{Carousel, change, change_to, free_object_id, has_name, new_object}
+use Rattle.mot_objects.specs.Carousel.{Carousel, change, change_to, free_object_id, has_name}
+use Rattle.mot_objects.specs.Carousel.{new_object}
 use Rattle.mot_objects.specs.Stands.{objects_of}
 use Rattle.mot_objects.specs.declared.command.Command.TheVariants as command
 use Rattle.mot_objects.specs.declared.command.Done.{Done}
@@ -21,7 +21,7 @@ use Rattle.mot_repository.specs.Repository.{Agrees, RepositoryView}
 use Rattle.mot_repository.proofs.Laws.{accepted_parts}
 use Rattle.mot_playout.specs.declared.running.Attempt.TheVariants.{Accepted, Refused}
 use Rattle.mot_update.specs.HasRun.{commands_for}
-use Rattle.mot_update.specs.Inner.Taking.{HasGapFor, HasRoomFor}
+use Rattle.mot_update.specs.Inner.{HasGapFor, HasRoomFor}
 use Rattle.mot_update.specs.Looking.{was_stored}
 use Rattle.mot_update.specs.Told.{AreAttemptsOf, answers_of}
 use Rattle.mot_update.specs.declared.settling.Need.{Need}

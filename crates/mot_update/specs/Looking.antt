@@ -1,6 +1,6 @@
 -- What a look at a source of wanted objects does.
-use Rattle.std.specs.Prelude.{◌≡◌, ℕ, Bool, true, false, not, List, [], ◌++◌, map, filter}
-use Rattle.std.specs.Prelude.{take, Option, Some, None, ⊤}
+use Rattle.std.specs.Prelude.{◌≡◌, ℕ, Bool, true, false, not, List, [], ◌++◌, map, filter, take}
+use Rattle.std.specs.Prelude.{Option, Some, None, ⊤}
 use Rattle.std.specs.List.{flat_map, AllByRecursion}
 use Rattle.disk_model.specs.Disk.{State}
 use Rattle.mot_journal.specs.Image.{Standing}
@@ -8,7 +8,7 @@ use Rattle.mot_numbers.specs.declared.refusal.Refusal.{Refusal}
 use Rattle.mot_objects.specs.declared.command.Command.{Command}
 use Rattle.mot_objects.specs.declared.command.Command.TheVariants.{Withdraw}
 use Rattle.mot_objects.specs.declared.object.Object.{Object}
-use Rattle.mot_playout.specs.Server.{ServerView}
+use Rattle.mot_playout.specs.Runs.{ServerView}
 use Rattle.mot_update.specs.HasRun.{HasRun}
 use Rattle.mot_update.specs.Laws.{IsUpdate, names_of}
 use Rattle.mot_update.specs.Told.{Answer, AreAnswers, AreAttemptsOf, was_accepted}

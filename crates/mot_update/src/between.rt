@@ -7,7 +7,7 @@ ghost use Rattle.mot_objects.specs.Carousel.{Carousel};
 ghost use Rattle.mot_objects.specs.declared.command.Command.{Command};
 ghost use Rattle.mot_repository.specs.Repository.{Holds};
 ghost use Rattle.mot_playout.specs.Attempts.{fault_of};
-ghost use Rattle.mot_update.specs.Between.{IsUpdating};
+ghost use Rattle.mot_update.specs.HasRun.{IsUpdating};
 ghost use Rattle.mot_update.specs.Faults.{TellsFaults};
 ghost use Rattle.mot_update.specs.declared.moment.UpdatePoint.{UpdatePoint};
 

@@ -1,6 +1,6 @@
 //! A look at a source: what it gives, made of a server's carousel.
-ghost use Rattle.std.specs.Prelude.{◌≡◌, ◌≢◌, ◌<◌, ◌≤◌, [], None, Ok, Some, length, true, IfErr, IfOk};
-ghost use Rattle.std.specs.Prelude.{OnOk};
+ghost use Rattle.std.specs.Prelude.{◌≡◌, ◌≢◌, ◌<◌, ◌≤◌, [], None, Ok, Some, length, true, IfErr};
+ghost use Rattle.std.specs.Prelude.{IfOk, OnOk};
 ghost use Rattle.disk_model.specs.Disk.{KeepsLength};
 ghost use Rattle.mot_journal.specs.Image.{Standing};
 ghost use Rattle.mot_numbers.specs.declared.refusal.Refusal.TheVariants.{OutOfMemory};
@@ -9,8 +9,8 @@ ghost use Rattle.mot_repository.specs.Repository.{Holds};
 ghost use Rattle.mot_playout.specs.Attempts.{fault_of};
 ghost use Rattle.mot_update.specs.Faults.{TellsFaults};
 ghost use Rattle.mot_update.specs.HasRun.{HasRun};
-ghost use Rattle.mot_update.specs.Inner.Taking.{HasGapFor, HasRoomFor, IsDoneRightly};
-ghost use Rattle.mot_update.specs.Inner.Taking.{commands_if, given_if, is_command, marks_if};
+ghost use Rattle.mot_update.specs.Inner.{HasGapFor, HasRoomFor, IsDoneRightly, commands_if};
+ghost use Rattle.mot_update.specs.Inner.{given_if, is_command, marks_if};
 ghost use Rattle.mot_update.specs.Looking.{Gives, HasLooked, HasSettled, RunsThrough};
 ghost use Rattle.mot_update.specs.Looking.{unknown_names, was_stored, withdraw_all};
 ghost use Rattle.mot_update.specs.Told.{TellsSince};

@@ -1,6 +1,6 @@
 //! Where an update comes among the packets of a carousel.
 ghost use Rattle.std.specs.Prelude.{◌≡◌};
-ghost use Rattle.mot_update.specs.Between.{may_look};
+ghost use Rattle.mot_update.specs.HasRun.{may_look};
 
 /// Where an update comes among the packets of a carousel.
 #[derive(Clone, Copy, Debug, PartialEq, Eq)]

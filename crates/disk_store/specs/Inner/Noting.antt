@@ -1,11 +1,10 @@
 -- How calls on a file are noted, and how they begin.
-use Rattle.std.specs.Prelude.{ℕ, zero, suc, List}
-use Rattle.std.specs.Prelude.{slice_index}
+use Rattle.std.specs.Prelude.{ℕ, zero, suc, List, slice_index, ◌≡◌, ◌<◌, length, All, Option, Some}
+use Rattle.std.specs.Prelude.{None, Result, Ok, Err}
 use Rattle.disk_store.specs.Calls.{Call, Dropped, FailedRead, FailedSync, FailedWrite, Gave, Locked}
-use Rattle.disk_store.specs.Calls.{Made, Named, Opened, Synced, Wrote}
-use Rattle.std.specs.Prelude.{◌≡◌, ◌<◌, length, All}
+use Rattle.disk_store.specs.Calls.{Made, Named, Opened, Synced, Wrote, content_after, AreRight}
+use Rattle.disk_store.specs.Calls.{no_content}
 use Rattle.disk_store.specs.Content.{at_start}
-use Rattle.disk_store.specs.Calls.{content_after, AreRight, no_content}
 
 -- A call by a number for its kind, a position or a length, and bytes: so it is noted, since nothing
 -- in memory is a call.
@@ -31,3 +30,11 @@ pub record HasOnlyOpened (first : List ℕ) (len : ℕ) (calls : List Call) : Ty
   pub len_is : length (content_after first calls).bytes ≡ len
   pub are_bytes : All (λ b. b < 256) (content_after first calls).bytes
   pub are_right : AreRight first calls no_content
+
+-- Why the first call on a file that failed did so.
+
+-- a reason that was kept stays; else that of this call is kept, if it failed
+abbrev pub KeepsFirst : {T E : Type 0} → Option E → Option E → Result T E → Type 0
+KeepsFirst (Some first) kept result = kept ≡ Some first
+KeepsFirst None kept (Ok value) = kept ≡ None
+KeepsFirst None kept (Err error) = kept ≡ Some error

@@ -6,7 +6,7 @@ use Rattle.std.specs.List.{All}
 use Rattle.disk_model.specs.Disk.{IsHonestDisk}
 use Rattle.disk_store.specs.Calls.{content_after}
 use Rattle.disk_store.specs.Content.{IsImageOf}
-use Rattle.disk_store.specs.Ram.{calls_in, ram_content, ram_state}
+use Rattle.disk_store.specs.File.{calls_in, ram_content, ram_state}
 use Rattle.disk_store.specs.declared.memory.ram.RamDisk.{RamDisk}
 
 now_is : (disk : RamDisk) (k : ℕ) → length (calls_in disk) ≤ k

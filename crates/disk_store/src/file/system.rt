@@ -5,7 +5,7 @@ ghost use Rattle.std.specs.Prelude.{◌≡◌, [], ◌∷◌, ◌++◌, IfOk, On
 ghost use Rattle.disk_store.specs.Calls.{Locked, Opened, Made, Gave, FailedRead, Wrote};
 ghost use Rattle.disk_store.specs.Calls.{FailedWrite, Synced, FailedSync, Dropped, Named};
 ghost use Rattle.disk_store.specs.File.{held_calls, held_fault};
-ghost use Rattle.disk_store.specs.Inner.FirstFault.{KeepsFirst};
+ghost use Rattle.disk_store.specs.Inner.Noting.{KeepsFirst};
 
 use super::OpenFault;
 use super::files::{DiskFile, DiskFiles};

@@ -23,7 +23,7 @@ pub struct RamDisk {
 }
 
 impl RamDisk {
-    ghost use Rattle.disk_store.specs.Ram.{ram_state};
+    ghost use Rattle.disk_store.specs.File.{ram_state};
 
     /// A disk of so many zeros, all of them synced; `None` if memory runs out.
     pub fn new(alloc: Global, len: u64) -> Option<RamDisk>
@@ -44,9 +44,9 @@ impl RamDisk {
 
 impl Disk for RamDisk {
     ghost use Rattle.disk_model.specs.Disk.{Keeps, IsUnchanged, IsStill, IsFirm, WritesWithin};
-    ghost use Rattle.disk_model.specs.Failures.{HasCause};
     ghost use Rattle.disk_model.specs.Disk.{IsMarked};
-    ghost use Rattle.disk_store.specs.Ram.{ram_state};
+    ghost use Rattle.disk_model.specs.Failures.{HasCause};
+    ghost use Rattle.disk_store.specs.File.{ram_state};
     ghost use Rattle.disk_store.specs.Inner.RamSound.{ram_sound};
 
     ghost state = { ram_state };

@@ -12,7 +12,7 @@ use Rattle.mot_line_folder.specs.Spool.{SpoolView}
 use Rattle.mot_line_folder.specs.declared.folder.LineFolder.{LineFolder}
 use Rattle.mot_shelf.specs.Reader.{reader_path}
 use Rattle.mot_shelf.specs.View.{FolderView}
-use Rattle.mot_update.specs.Between.{Telling}
+use Rattle.mot_update.specs.HasRun.{Telling}
 use Rattle.mot_update.specs.declared.moment.UpdatePoint.{UpdatePoint}
 
 -- the folder of lines before it is read, and where there is none

@@ -3,7 +3,7 @@ use Rattle.std.specs.Prelude.{◌≡◌, Err, Ok, Option, Result, Some}
 use Rattle.mot_update.specs.declared.ended.Ended.{Ended}
 use Rattle.mot_numbers.specs.declared.refusal.Refusal.{Refusal}
 use Rattle.mot_playout.specs.Attempts.{fault_of}
-use Rattle.mot_playout.specs.Server.{ServerView}
+use Rattle.mot_playout.specs.Runs.{ServerView}
 use Rattle.mot_repository.specs.declared.opening.Refused.{Refused}
 
 -- it was fed, up to this result, or was not opened

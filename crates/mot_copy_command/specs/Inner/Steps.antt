@@ -1,5 +1,5 @@
 -- What the steps of making a copy leave.
-use Rattle.std.specs.Prelude.{◌≡◌, ◌⊎◌, ℕ, List, false, Ok, take}
+use Rattle.std.specs.Prelude.{◌≡◌, ◌⊎◌, ℕ, List, false, Ok, take, Bool, Option, map, sum_by}
 use Rattle.disk_model.specs.Disk.{State, AgreeOutside, Torn, Throughout}
 use Rattle.disk_model.specs.Failures.{Rises}
 use Rattle.mot_copy_command.specs.declared.copying.NotCopied.{NotCopied}
@@ -10,6 +10,9 @@ use Rattle.mot_journal.specs.Geometry.{has_magic}
 use Rattle.mot_journal.specs.Image.{records_of, area_of, IsClean, IsSecondHalfEmpty}
 use Rattle.mot_numbers.specs.declared.geometry.Geometry.{Geometry}
 use Rattle.mot_numbers.specs.declared.refusal.Refusal.TheVariants.{DeviceFault}
+use Rattle.mot_objects.specs.declared.carousel.Carousel.{Carousel}
+use Rattle.mot_objects.specs.declared.object.Object.{Object}
+use Rattle.mot_repository.specs.Copy.{copied_ids}
 
 -- at each moment only this range is changed
 pub record ChangesOnly (at n : ℕ) (old new : State) : Type 0 where
@@ -34,3 +37,14 @@ pub record IsFilled (g : Geometry) (records : List Record) (n : ℕ) (row image 
 abbrev pub NoneOrFilled : Geometry → List Record → ℕ → List ℕ → List ℕ → Type 0
 NoneOrFilled g records n row image =
     (has_magic image ≡ false) ⊎ IsFilled g records n row image
+
+-- What the records of a copy are made of.
+
+-- how many bytes the bodies of these objects have
+abbrev pub bytes_of_bodies : List Object → ℕ
+bytes_of_bodies objects = sum_by (λ (o : Object). o.length) objects
+
+-- the ids of a copy of the carousel: its objects', and its directory's
+abbrev pub ids_of : Carousel → Option ℕ → Bool → List ℕ × ℕ
+ids_of c after resized =
+    copied_ids after resized c.directory c.cursor (map (λ (o : Object). o.tid) c.objects.items)

@@ -1,15 +1,18 @@
 -- What a crash leaves during the steps of a call that writes.
-use Rattle.std.specs.Prelude.{◌≡◌, ◌⊎◌, ℕ, ◌+◌, ◌*◌, ◌<◌, ◌≤◌, List, length, take, drop}
-use Rattle.std.specs.Prelude.{replicate, slice_range, slice_get, Option, Some, None}
-use Rattle.std.specs.Prelude.{Result, IsErr}
+use Rattle.std.specs.Prelude.{◌≡◌, ◌⊎◌, ℕ, ◌+◌, ◌*◌, ◌<◌, ◌≤◌, List, length, take, drop, replicate}
+use Rattle.std.specs.Prelude.{slice_range, slice_get, Option, Some, None, Result, IsErr, Bool, not}
+use Rattle.std.specs.Prelude.{◌&&◌, if◌then◌else◌, [], ◌∷◌, ◌^◌}
 use Rattle.disk_model.specs.Disk.{State, AgreeOutside, Torn, Throughout}
 use Rattle.disk_model.specs.Failures.{Rises, most_failures}
 use Rattle.mot_journal.specs.declared.layout.Layout.{Layout}
 use Rattle.mot_journal.specs.declared.record.Record.{Record}
 use Rattle.mot_journal.specs.Image.{slots_in}
-use Rattle.mot_journal.specs.Slot.{slot_size, slot_count, bytes_of_slot, read_slot}
+use Rattle.mot_journal.specs.Slot.{slot_size, slot_count, bytes_of_slot, read_slot, is_open}
 use Rattle.mot_numbers.specs.declared.geometry.Geometry.{Geometry}
 use Rattle.mot_numbers.specs.Geometry.{half_start, half_size}
+use Rattle.mot_journal.specs.Journal.{JournalView}
+use Rattle.mot_journal.specs.declared.record.Action.{Action}
+use Rattle.mot_journal.specs.declared.record.Action.TheVariants.{Nothing, Set, Remove}
 
 -- these bytes with this slot in them, but for its first byte, which may be any
 pub record IsBehindGate (at : ℕ) (slot bytes image : List ℕ) : Type 0 where
@@ -70,3 +73,34 @@ abbrev pub slots_in_half : Geometry → ℕ → Layout → List ℕ → List (Li
 slots_in_half g half layout image =
     slots_in (slot_size layout) (slot_count layout g)
     (take (half_size g) (drop (half_start g half) image))
+
+-- Where a slot lies.
+
+-- where a slot of the journal's half lies
+abbrev pub start_of_slot : JournalView → ℕ → ℕ
+start_of_slot j slot = half_start j.geometry j.half + slot * slot_size j.layout
+
+-- The gates of slots, one after the other.
+
+-- Whether the last of these gates is closed, or the one before them where there are none; none
+-- where one is open behind a closed one.
+abbrev pub scan : Bool → List (List ℕ) → Option Bool
+scan shut [] = Some shut
+scan shut (slot ∷ slots) =
+    if is_open slot && shut then None else scan (not (is_open slot)) slots
+
+-- Which records fit their columns.
+
+-- the numbers of an action fit their columns
+abbrev pub FitsAction : Action → Type 0
+FitsAction Nothing = Unit {0}
+FitsAction (Remove tid) = tid < 2 ^ 16
+FitsAction (Set tid version content start size name mime) = (tid < 2 ^ 16) × (version < 256)
+    × (start < 2 ^ 32)
+
+-- The numbers of a record fit their columns. Those of each record of the program do.
+pub record FitsSlot (r : Record) : Type 0 where
+  pub period : r.period < 2 ^ 24
+  pub directory : r.directory < 2 ^ 16
+  pub cursor : r.cursor < 2 ^ 16
+  pub action : FitsAction r.action

@@ -1,8 +1,8 @@
 //! The words of a line that describe an object.
 ghost use Rattle.std.specs.Prelude.{◌≡◌, ℕ, List};
 ghost use Rattle.mot_lines.specs.Line.{description_of};
-ghost use Rattle.mot_lines.specs.Inner.Words.{OrOutOfMemory};
-ghost use Rattle.mot_lines.specs.Words.{words_after};
+ghost use Rattle.mot_lines.specs.Inner.{OrOutOfMemory};
+ghost use Rattle.mot_lines.specs.Fields.{words_after};
 
 use super::fields::{parse_body, parse_content, parse_mime, parse_name};
 use super::words::five_words;

@@ -2,9 +2,8 @@
 ghost use Rattle.std.specs.Prelude.{◌≡◌, ◌⊎◌, Ok, IsErr, IfErr, IfOk};
 ghost use Rattle.hex.specs.Hex.{decode_of};
 ghost use Rattle.mot_lines.specs.Fields.{kind_in, number_to, segment_in, name_in, content_in};
-ghost use Rattle.mot_lines.specs.Fields.{mime_in, body_in, period_in};
-ghost use Rattle.mot_lines.specs.Inner.Words.{OrOutOfMemory};
-ghost use Rattle.mot_lines.specs.Words.{number_of_word};
+ghost use Rattle.mot_lines.specs.Fields.{mime_in, body_in, period_in, number_of_word};
+ghost use Rattle.mot_lines.specs.Inner.{OrOutOfMemory};
 ghost use Rattle.mot_numbers.specs.declared.refusal.Refusal.TheVariants.{BadBody, OutOfMemory};
 
 use super::MAX_PACKETS;

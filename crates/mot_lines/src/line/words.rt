@@ -1,8 +1,7 @@
 //! Words and numbers.
 ghost use Rattle.std.specs.Prelude.{◌≡◌, ◌≢◌, ◌∷◌, [], IfNone, IfSome, bytes_eq, length};
-ghost use Rattle.mot_lines.specs.Words.{words_of, number_of_word};
-ghost use Rattle.mot_lines.specs.Inner.Words.{IsOne, AreThree, AreFive};
-ghost use Rattle.mot_lines.specs.Words.{words_after};
+ghost use Rattle.mot_lines.specs.Fields.{words_of, number_of_word, words_after};
+ghost use Rattle.mot_lines.specs.Inner.{IsOne, AreThree, AreFive};
 
 use memchr::memchr;
 

@@ -1,11 +1,11 @@
 -- The entities of a turn, by their number, and how far a turn reaches.
-use Rattle.std.specs.Prelude.{◌≡◌, ◌⊎◌, ℕ, ◌+◌, ◌*◌, ◌<◌, ◌≤◌, ◌==◌, if◌then◌else◌, List}
-use Rattle.std.specs.Prelude.{length, map, ◌-◌, slice_index, IfSome}
+use Rattle.std.specs.Prelude.{◌≡◌, ◌⊎◌, ℕ, ◌+◌, ◌*◌, ◌<◌, ◌≤◌, ◌==◌, if◌then◌else◌, List, length}
+use Rattle.std.specs.Prelude.{map, ◌-◌, slice_index, IfSome}
 use Rattle.std.specs.List.{AllByRecursion}
 use Rattle.mot_directory.specs.declared.directory.TheConstants.{MAX_DIRECTORY}
 use Rattle.mot_numbers.specs.declared.geometry.TheConstants.{MAX_OBJECTS}
 use Rattle.mot_objects.specs.declared.body.TheConstants.{MAX_BODY}
-use Rattle.mot_player.specs.Bodies.{body_at}
+use Rattle.mot_player.specs.Turn.{body_at}
 use Rattle.mot_player.specs.Course.{CourseView}
 use Rattle.mot_player.specs.PlayerView.{BodyPlan, TurnPlan}
 use Rattle.mot_player.specs.declared.course.Waiting.{Waiting}

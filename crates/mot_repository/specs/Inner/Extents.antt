@@ -1,9 +1,12 @@
 -- What is kept in memory, as the catalogue that records make.
-use Rattle.std.specs.Prelude.{ℕ, List, map, sum_by, [], ◌∷◌}
+use Rattle.std.specs.Prelude.{ℕ, List, map, sum_by, [], ◌∷◌, ◌≡◌, length, Ok}
 use Rattle.mot_journal.specs.Catalogue.{Placed, Catalogue}
 use Rattle.mot_objects.specs.declared.carousel.Carousel.{Carousel}
 use Rattle.mot_objects.specs.declared.object.Object.{Object}
 use Rattle.mot_repository.specs.Repository.{RepositoryView}
+use Rattle.mot_journal.specs.declared.record.Record.{Record}
+use Rattle.mot_journal.specs.Image.{catalogue_of, records_of}
+use Rattle.mot_journal.specs.Journal.{JournalView, with_records}
 
 -- an object where this extent says, and of its length
 abbrev pub with_extent : Object → ℕ × ℕ → Placed
@@ -45,3 +48,13 @@ names_kept carousel = map (λ (o : Object). o.name) carousel.objects.items
 -- how many bytes the bodies of these objects have
 abbrev pub bytes_of_bodies : List Object → ℕ
 bytes_of_bodies objects = sum_by (λ (o : Object). o.length) objects
+
+-- What was loaded and folded.
+
+-- these bytes have records where the journal stands, and they fold to this carousel and its extents
+pub record IsLoaded (bytes : List ℕ) (j : JournalView) (carousel : Carousel)
+    (extents : List (ℕ × ℕ)) : Type 0 where
+  pub records : List Record
+  pub read : records_of bytes ≡ Ok (with_records j records)
+  pub count : j.count ≡ length records
+  pub fold : catalogue_of j.geometry.objects records ≡ Ok (catalogue_with carousel extents)

@@ -1,17 +1,23 @@
 -- What the code that folds records says of its lists.
-use Rattle.std.specs.Prelude.{◌≡◌, ◌≤◌, ◌⊎◌, ℕ, Bool, true, false, ◌&&◌, List, [], ◌∷◌, map}
-use Rattle.std.specs.Prelude.{Option, Some, None, Err, if◌then◌else◌}
+use Rattle.std.specs.Prelude.{◌≡◌, ◌≤◌, ◌⊎◌, ℕ, Bool, true, false, ◌&&◌, List, [], ◌∷◌, map, Option}
+use Rattle.std.specs.Prelude.{Some, None, Err, if◌then◌else◌, IsFalse}
 use Rattle.mot_journal.specs.declared.record.Record.{Record}
 use Rattle.mot_journal.specs.declared.record.Action.{Action}
 use Rattle.mot_journal.specs.declared.record.Action.TheVariants.{Nothing, Set, Remove}
 use Rattle.mot_journal.specs.Image.{catalogue_of}
-use Rattle.mot_journal.specs.Catalogue.{Placed, put_in_place, in_place_or_appended}
-use Rattle.mot_journal.specs.Catalogue.{are_all_apart}
+use Rattle.mot_journal.specs.Catalogue.{Placed, put_in_place, in_place_or_appended, are_all_apart}
 use Rattle.mot_numbers.specs.declared.refusal.Refusal.{Refusal}
 use Rattle.mot_numbers.specs.declared.refusal.Refusal.TheVariants.{OutOfMemory, Damaged}
 use Rattle.mot_objects.specs.Ids.{is_distinct}
 use Rattle.mot_objects.specs.declared.object.Object.{Object}
 use Rattle.mot_carousel.specs.Gap.{is_free}
+use Rattle.mot_journal.specs.Journal.{JournalView}
+use Rattle.mot_objects.specs.declared.carousel.Carousel.{Carousel}
+use Rattle.mot_numbers.specs.Geometry.{length_of, is_valid}
+use Rattle.mot_repository.specs.OnDisk.{ArePaired}
+use Rattle.mot_repository.specs.Inner.Extents.{catalogue_in}
+use Rattle.mot_repository.specs.Inner.Whole.{IsWhole}
+use Rattle.mot_repository.specs.Repository.{RepositoryView}
 
 -- there is an extent for each of these objects, of the length that it gives
 abbrev pub HaveLengths : List Object → List (ℕ × ℕ) → Type 0
@@ -52,3 +58,19 @@ abbrev pub HasShortId : Action → Type 0
 HasShortId Nothing = Unit {0}
 HasShortId (Remove tid) = tid ≤ 65535
 HasShortId (Set tid version content start size name mime) = tid ≤ 65535
+
+-- What holds of every repository, whatever its disk does.
+
+-- The disk is long enough for a valid geometry, what is kept has no fault, and its journal can be
+-- written while the repository is not halted.
+pub record IsInOrder (view : RepositoryView) (len : ℕ) : Type 0 where
+  pub valid : is_valid view.journal.geometry ≡ true
+  pub long_enough : length_of view.journal.geometry ≤ len
+  pub whole : IsWhole view.journal.geometry view.journal.layout (catalogue_in view)
+  pub paired : ArePaired view.carousel view.extents
+  pub going : IsFalse view.halted → IsFalse view.journal.spent
+
+-- what a repository keeps in memory, by its parts
+abbrev pub view_with : JournalView → Carousel → List (ℕ × ℕ) → Bool → RepositoryView
+view_with j carousel extents halted =
+    record { journal = j; carousel = carousel; extents = extents; halted = halted }

@@ -1,6 +1,6 @@
 -- What a change that is prepared for a command is, and what it writes.
-use Rattle.std.specs.Prelude.{◌≡◌, ◌<◌, ◌≤◌, All, true, false, ℕ, List, [], ◌∷◌, length}
-use Rattle.std.specs.Prelude.{Option, Some, None, Ok, bytes_eq, if◌then◌else◌}
+use Rattle.std.specs.Prelude.{◌≡◌, ◌<◌, ◌≤◌, All, true, false, ℕ, List, [], ◌∷◌, length, Option}
+use Rattle.std.specs.Prelude.{Some, None, Ok, bytes_eq, if◌then◌else◌, MatchOption}
 use Rattle.mot_journal.specs.declared.record.Record.{Record}
 use Rattle.mot_journal.specs.declared.record.Action.{Action}
 use Rattle.mot_journal.specs.declared.record.Action.TheVariants.{Nothing, Set, Remove}
@@ -17,6 +17,7 @@ use Rattle.mot_repository.specs.Inner.Extents.{catalogue_in}
 use Rattle.mot_repository.specs.Records.{records_of_catalogue}
 use Rattle.mot_repository.specs.Outcome.{has_long_name, start_of}
 use Rattle.mot_repository.specs.Repository.{RepositoryView}
+use Rattle.mot_objects.specs.Name.{ContentNumbers, IsName, IsMime}
 
 -- the first object of this name
 abbrev pub kept_object_named : List ℕ → List Object → Option Object
@@ -76,3 +77,30 @@ pub record CanBeGiven (j : JournalView) (given : List Record) : Type 0 where
   pub some : 0 < length given
   pub few : length given < slot_count j.layout j.geometry
   pub sound : All (λ r. is_sound j.geometry j.layout r ≡ true) given
+
+-- What is worked out for a command, in memory alone.
+
+abbrev pub IsId : ℕ → Type 0
+IsId id = (1 ≤ id) × (id ≤ 65535)
+
+-- what the types of the fields keep of an object that is set
+pub record AreFields (tid : ℕ) (content : ContentNumbers) (size : ℕ) (name : List ℕ)
+    (mime : Option (List ℕ)) : Type 0 where
+  pub id : IsId tid
+  pub kind : content.content_type ≤ 63
+  pub subkind : content.subtype ≤ 511
+  pub some : 1 ≤ size
+  pub short : size ≤ 262144
+  pub is_name : IsName name
+  pub is_mime : MatchOption mime (Unit {0}) IsMime
+
+abbrev pub HasFields : Action → Type 0
+HasFields Nothing = Unit {0}
+HasFields (Remove tid) = IsId tid
+HasFields (Set tid version content start size name mime) = AreFields tid content size name mime
+
+-- what the types of its fields keep of a record
+pub record IsTyped (r : Record) : Type 0 where
+  pub directory : IsId r.directory
+  pub cursor : IsId r.cursor
+  pub action : HasFields r.action

@@ -7,16 +7,14 @@ ghost use Rattle.mot_journal.specs.declared.layout.Layout.{Layout};
 ghost use Rattle.mot_journal.specs.declared.record.Record.{Record};
 ghost use Rattle.mot_journal.specs.Slot.{is_sound, slot_count};
 ghost use Rattle.mot_journal.specs.Catalogue.{Catalogue};
-ghost use Rattle.mot_journal.specs.Image.{catalogue_of};
-ghost use Rattle.mot_journal.specs.Image.{Standing};
+ghost use Rattle.mot_journal.specs.Image.{catalogue_of, Standing};
 ghost use Rattle.mot_journal.specs.Journal.{HasRecords};
 ghost use Rattle.mot_journal.specs.Gaps.{AreBeside, standing_of};
 ghost use Rattle.mot_numbers.specs.declared.refusal.Refusal.TheVariants.{DeviceFault};
 ghost use Rattle.mot_numbers.specs.Geometry.{area_start, length_of};
 ghost use Rattle.mot_objects.specs.declared.command.Command.{Command};
 ghost use Rattle.mot_objects.specs.declared.command.Done.{Done};
-ghost use Rattle.mot_repository.specs.Cost.{calls_for_body};
-ghost use Rattle.mot_repository.specs.Outcome.{after_command};
+ghost use Rattle.mot_repository.specs.Outcome.{calls_for_body, after_command};
 ghost use Rattle.mot_repository.specs.Repository.{RepositoryView, Agrees, IsOf, Holds};
 ghost use Rattle.mot_repository.specs.Repository.{IsBeforeOrAfter};
 

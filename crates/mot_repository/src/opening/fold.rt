@@ -1,26 +1,26 @@
 //! The records of a journal, folded into the carousel that is kept in memory.
 ghost use Rattle.mot_numbers.specs.declared.geometry.TheConstants.{MAX_OBJECTS};
-ghost use Rattle.std.specs.Prelude.{◌≡◌, ◌≤◌, ◌<◌, map, length, vec_len, vec_capacity};
-ghost use Rattle.std.specs.Prelude.{All, Ok, Some, None, IfOk, IfErr, IfSome, MatchResult, OnOk};
-ghost use Rattle.std.specs.Prelude.{is_ok, true, nat_eq, position, remove, []};
+ghost use Rattle.std.specs.Prelude.{◌≡◌, ◌≤◌, ◌<◌, map, length, vec_len, vec_capacity, All, Ok};
+ghost use Rattle.std.specs.Prelude.{Some, None, IfOk, IfErr, IfSome, MatchResult, OnOk, is_ok};
+ghost use Rattle.std.specs.Prelude.{true, nat_eq, position, remove, []};
 ghost use Rattle.std.specs.List.{list_any};
-ghost use Rattle.mot_journal.specs.Catalogue.{new_catalogue, catalogue_after};
+ghost use Rattle.mot_journal.specs.Catalogue.{new_catalogue, catalogue_after, objects_after};
+ghost use Rattle.mot_journal.specs.Catalogue.{placed_without, is_consistent};
 ghost use Rattle.mot_journal.specs.Faults.{HasActionFault, HasListFault};
 ghost use Rattle.mot_journal.specs.Image.{catalogue_of};
 ghost use Rattle.mot_journal.specs.Reason.{HasReason};
 ghost use Rattle.mot_journal.specs.declared.reason.ListFault.TheVariants.{Missing};
-ghost use Rattle.mot_journal.specs.Catalogue.{objects_after, placed_without, is_consistent};
 ghost use Rattle.mot_objects.specs.Ids.{is_distinct};
 ghost use Rattle.mot_objects.specs.Stands.{index_of};
 ghost use Rattle.mot_objects.specs.declared.object.Object.{Object};
-ghost use Rattle.mot_repository.specs.Extents.{ArePaired};
+ghost use Rattle.mot_repository.specs.OnDisk.{ArePaired};
 ghost use Rattle.mot_repository.specs.Inner.Extents.{catalogue_with, objects_in};
 ghost use Rattle.mot_repository.specs.Inner.Bounds.{AreEndsWithin, AreIdsWithin, AreNamesFlagged};
 ghost use Rattle.mot_repository.specs.Inner.Bounds.{AreWithin};
 ghost use Rattle.mot_repository.specs.Inner.Fold.{HaveLengths, are_extents_apart, are_consistent};
 ghost use Rattle.mot_repository.specs.Inner.Fold.{if_consistent, if_done, objects_set};
 ghost use Rattle.mot_repository.specs.Inner.Fold.{IsFoldRefusal};
-ghost use Rattle.mot_repository.specs.Inner.Planned.{IsTyped};
+ghost use Rattle.mot_repository.specs.Inner.Prepared.{IsTyped};
 ghost use Rattle.mot_repository.specs.Inner.Faults.{HasSettingFault, IsClash, IsFoldReason};
 ghost use Rattle.mot_repository.specs.declared.opening.bounds.Bounds.{Bounds};
 

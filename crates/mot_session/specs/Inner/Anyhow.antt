@@ -15,10 +15,9 @@ use Rattle.mot_session.specs.declared.deciding.Decision.{Decision}
 use Rattle.mot_session.specs.declared.deciding.Decision.TheVariants.{Refused, Accepted, Listing}
 use Rattle.mot_session.specs.declared.deciding.Decision.TheVariants.{Packets, Next, Turn}
 use Rattle.mot_session.specs.declared.serving.output.WriteFault.{WriteFault}
-use Rattle.mot_session.specs.Output.{Writes}
+use Rattle.mot_session.specs.Served.{Writes, WritesFront}
 use Rattle.mot_session.specs.OnAnyDisk.{AnswersAnyhow, BeginsAnyhow}
-use Rattle.mot_session.specs.Raw.{packets_at}
-use Rattle.mot_session.specs.Served.{WritesFront}
+use Rattle.mot_session.specs.Session.{packets_at}
 
 -- a decision answers the request, with the text that it stands for; or it is to play packets, and
 -- nothing was done yet

@@ -1,6 +1,6 @@
 -- What the server decides, before it is written.
-use Rattle.std.specs.Prelude.{◌≡◌, List, [], Result, Ok, IsTrue, IsFalse, if◌then◌else◌, Bool}
-use Rattle.std.specs.Prelude.{true, false}
+use Rattle.std.specs.Prelude.{◌≡◌, List, [], Result, Ok, IsTrue, IsFalse, if◌then◌else◌, Bool, true}
+use Rattle.std.specs.Prelude.{false, ℕ, length, ◌≤◌, ◌∷◌, ◌++◌}
 use Rattle.disk_model.specs.Disk.{State, IsUnchanged, KeepsLength, Throughout}
 use Rattle.mot_journal.specs.Image.{Standing}
 use Rattle.mot_lines.specs.declared.line.Line.{Line}
@@ -13,10 +13,11 @@ use Rattle.mot_playout.specs.Runs.{StandsAfterSome}
 use Rattle.mot_session.specs.declared.deciding.Decision.{Decision}
 use Rattle.mot_session.specs.declared.deciding.Decision.TheVariants.{Refused, Accepted, Listing}
 use Rattle.mot_session.specs.declared.deciding.Decision.TheVariants.{Packets, Next, Turn}
-use Rattle.mot_session.specs.Raw.{packets_at}
-use Rattle.mot_session.specs.Session.{refused, accepted, listing, packets, Answers}
-use Rattle.mot_session.specs.State.{ServerState}
-use Rattle.mot_session.specs.Stored.{command_in}
+use Rattle.mot_session.specs.Session.{packets_at, refused, accepted, listing, packets, Answers}
+use Rattle.mot_session.specs.State.{ServerState, command_in}
+use Rattle.mot_lines.specs.Lines.{bytes_in_hand, whole_lines, rest_of}
+use Rattle.mot_objects.specs.declared.command.Command.{Command}
+use Rattle.mot_session.specs.Life.{Told, commands_done, done_in}
 
 -- a decision answers the request, with the reply that it stands for on the server then; or it is to
 -- play packets, and nothing was done yet
@@ -52,3 +53,22 @@ pub record MayWrite (old new : RepositoryView) (start now : State)
       → Throughout start now (StandsAfterSome s [] commands)
   pub halted : IsTrue old.halted → (new ≡ old) × IsUnchanged start now
   pub keeps : KeepsLength start now
+
+-- What of the input was cut into lines.
+
+-- the whole lines of the input so far were counted, and the rest is in hand
+pub record InHand (input : List ℕ) (hand : List ℕ) (count : ℕ) : Type 0 where
+  pub rest : hand ≡ bytes_in_hand (rest_of input)
+  pub counted : count ≡ length (whole_lines input)
+
+-- What a crash leaves since a moment of each reply.
+
+-- P tells of a moment of the disk's clock what a crash leaves that comes since then: all of the
+-- sure commands, and a beginning of the others. Of each reply there is a moment, none before that
+-- of an earlier one, since which its command is sure.
+unfoldable pub IsKeptFrom : (ℕ → List Command → List Command → Type 0) → ℕ → List Command
+    → List Told → List Command → Type 0
+IsKeptFrom P moment sure [] in_flight = P moment sure in_flight
+IsKeptFrom P moment sure (t ∷ told) in_flight =
+    P moment sure (commands_done (t ∷ told) ++ in_flight)
+    × (later : ℕ) × (moment ≤ later) × IsKeptFrom P later (sure ++ done_in t) told in_flight

@@ -1,9 +1,6 @@
 -- What a call that writes did. The writer's known bytes were old and are new.
-use Rattle.std.specs.Prelude.{ℕ, ◌≡◌, Bool, true, false, ◌||◌, List, [], ◌++◌, Option, Some}
-use Rattle.std.specs.Prelude.{None, Result, if◌then◌else◌}
-use Rattle.std.specs.Prelude.{Ok}
-use Rattle.std.specs.Prelude.{Err}
-use Rattle.std.specs.Prelude.{IfOk, IsTrue, IsFalse}
+use Rattle.std.specs.Prelude.{ℕ, ◌≡◌, Bool, true, false, ◌||◌, List, [], ◌++◌, Option, Some, None}
+use Rattle.std.specs.Prelude.{Result, if◌then◌else◌, Ok, Err, IfOk, IsTrue, IsFalse}
 use Rattle.std.specs.Io.KnownBytes.{Appends}
 use Rattle.disk_model.specs.Disk.{State, IsUnchanged, OnlyReads, Throughout}
 use Rattle.disk_model.specs.Failures.{Rises}
@@ -17,15 +14,11 @@ use Rattle.mot_objects.specs.declared.command.Command.{Command}
 use Rattle.mot_packets.specs.Packet.{read_packet}
 use Rattle.mot_packets.specs.Written.{bytes_of_packet}
 use Rattle.mot_player.specs.Place.{Sent, request}
-use Rattle.mot_playout.specs.Runs.{StandsAfterSome}
-use Rattle.mot_playout.specs.Server.{ServerView}
+use Rattle.mot_playout.specs.Runs.{StandsAfterSome, ServerView}
 use Rattle.mot_session.specs.declared.serving.output.WriteFault.{WriteFault}
-use Rattle.mot_session.specs.Output.{Writes}
-use Rattle.mot_session.specs.Packets.{sent_line}
-use Rattle.mot_session.specs.Served.{BrokenOff}
+use Rattle.mot_session.specs.Served.{Writes, BrokenOff}
+use Rattle.mot_session.specs.State.{sent_line, KeepsCarousel, ServerState, Stays, command_in}
 use Rattle.mot_session.specs.Session.{Reply, Answers, Exchange, accepted, refused, text_of}
-use Rattle.mot_session.specs.State.{KeepsCarousel, ServerState, Stays}
-use Rattle.mot_session.specs.Stored.{command_in}
 
 -- a request was answered, and the whole reply was written
 pub record Answered (before : ServerState) (request : Result Line Refusal) (reply : Reply)

@@ -1,7 +1,7 @@
 //! The packets of a `raw` line.
 ghost use Rattle.std.specs.Prelude.{◌≡◌, IfOk};
 ghost use Rattle.mot_groups.specs.Group.{bytes_of_group};
-ghost use Rattle.mot_session.specs.Raw.{raw_group};
+ghost use Rattle.mot_session.specs.Session.{raw_group};
 
 use mot_groups::write_group;
 use mot_lines::SegmentBytes;

@@ -1,7 +1,7 @@
 //! What `list` shows.
 ghost use Rattle.std.specs.List.{flat_map};
 ghost use Rattle.mot_lines.specs.Listing.{object_line_beside, listing_text_beside};
-ghost use Rattle.mot_session.specs.Output.{Writes};
+ghost use Rattle.mot_session.specs.Served.{Writes};
 
 use super::output::{WriteFault, write_whole};
 use mot_lines::{carousel_text, object_text};

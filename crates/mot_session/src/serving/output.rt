@@ -1,6 +1,6 @@
 //! Writing replies.
 ghost use Rattle.std.specs.Prelude.{◌≡◌};
-ghost use Rattle.mot_session.specs.Output.{Writes};
+ghost use Rattle.mot_session.specs.Served.{Writes};
 
 use mot_numbers::Refusal;
 use std::io::Write;

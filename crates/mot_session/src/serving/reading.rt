@@ -5,9 +5,8 @@ ghost use Rattle.mot_lines.specs.Text.{refusal_line};
 ghost use Rattle.mot_lines.specs.declared.line.Line.TheVariants as asks;
 ghost use Rattle.mot_numbers.specs.Geometry.{IsValid};
 ghost use Rattle.mot_repository.specs.Repository.{RepositoryView};
-ghost use Rattle.mot_session.specs.Output.{Writes};
+ghost use Rattle.mot_session.specs.Served.{Writes, WritesFront};
 ghost use Rattle.mot_session.specs.OnAnyDisk.{AnswersAnyhow, read_only};
-ghost use Rattle.mot_session.specs.Served.{WritesFront};
 
 use super::listing::write_listing;
 use super::output::{WriteFault, write_whole};

@@ -1,6 +1,5 @@
 //! Answering one line.
-ghost use Rattle.std.specs.Prelude.{◌≡◌, ◌<◌, ℕ, List, Result, Ok, Some, false, IfOk};
-ghost use Rattle.std.specs.Prelude.{IsFalse};
+ghost use Rattle.std.specs.Prelude.{◌≡◌, ◌<◌, ℕ, List, Result, Ok, Some, false, IfOk, IsFalse};
 ghost use Rattle.std.specs.List.{flat_map};
 ghost use Rattle.mot_journal.specs.Image.{Standing};
 ghost use Rattle.mot_lines.specs.Line.{IsParsed, line_of};
@@ -12,10 +11,10 @@ ghost use Rattle.mot_repository.specs.Repository.{Holds, RepositoryView};
 ghost use Rattle.mot_session.specs.Inner.Anyhow.{AnswersWithAnyhow, DecidesAnyhow, ShowsOne};
 ghost use Rattle.mot_session.specs.Inner.Decision.{Decides, may_be_done};
 ghost use Rattle.mot_session.specs.Inner.Writes.{AnswersLine, AnswersOne, AnswersRequest};
-ghost use Rattle.mot_session.specs.Output.{Writes};
 ghost use Rattle.mot_session.specs.Inner.Writes.{ReadsAlone};
+ghost use Rattle.mot_session.specs.Served.{Writes};
 ghost use Rattle.mot_session.specs.LineByLine.{GoesOn};
-ghost use Rattle.mot_session.specs.Raw.{packets_at};
+ghost use Rattle.mot_session.specs.Session.{packets_at};
 ghost use Rattle.mot_session.specs.State.{Leads, ServerState, StandsFor, state_of};
 
 use super::listing::write_listing;

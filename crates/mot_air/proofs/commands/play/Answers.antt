@@ -1,26 +1,25 @@
-use Rattle.std.proofs.Common.{◌≡◌, ◌⊎◌, ◌∙◌, ◌-◌, ℕ, List, [], ◌++◌, Option, Some, None, Result, Bool, ap, inl, inr, refl, subst}
-use Rattle.std.proofs.Common.{Ok, sym}
+use Rattle.std.proofs.Common.{◌≡◌, ◌⊎◌, ◌∙◌, ◌-◌, ℕ, List, [], ◌++◌, Option, Some, None, Result}
+use Rattle.std.proofs.Common.{Bool, ap, inl, inr, refl, subst, Ok, sym}
 use Rattle.std.specs.Prelude.{IfSome, option_map, unwrap_or}
 use Rattle.std.specs.Borrow.{Bor}
 use Rattle.disk_store.specs.declared.file.start.Start.{Ghosts}
 use Rattle.mot_air.specs.Inner.Beside.{lines_in}
-use Rattle.mot_air.specs.Commands.{IsUnplayed, LinesAsked, LinesOf, PlaysTask, PlaysTo, folder_asked}
-use Rattle.mot_air.specs.Commands.{needs_of, others_of, packets_of, played_as, watch_asked}
-use Rattle.mot_outcome.specs.Outcome.{Concludes}
+use Rattle.mot_air.specs.Commands.{IsUnplayed, LinesAsked, LinesOf, PlaysTask, PlaysTo}
+use Rattle.mot_air.specs.Commands.{folder_asked, needs_of, others_of, packets_of, played_as}
+use Rattle.mot_air.specs.Commands.{watch_asked}
+use Rattle.mot_outcome.specs.Outcome.{Concludes, Opens}
 use Rattle.mot_air.specs.Telling.{lines_at, tale_with}
 use Rattle.mot_folder.specs.Looked.{Watch}
 use Rattle.mot_numbers.specs.declared.refusal.Refusal.{Refusal}
-use Rattle.mot_outcome.specs.Outcome.{Opens}
 use Rattle.mot_playout.specs.Attempts.{fault_of}
 use Rattle.mot_outcome.specs.declared.used.UsedDisk.{UsedDisk}
 use Rattle.mot_cli.specs.declared.playing.PlayTask.{PlayTask}
 use Rattle.std.proofs.KnownBytes.{Keeps-refl}
-use Rattle.mot_outcome.proofs.Laws.{concludes_more}
-use Rattle.mot_outcome.proofs.Laws.{begun_after, begun_first, opened_after}
+use Rattle.mot_outcome.proofs.Laws.{concludes_more, begun_after, begun_first, opened_after}
 use Rattle.mot_air.proofs.commands.play.Goals as goal
 use Rattle.mot_endpoints.specs.Opened.{Need, if_given}
 use Rattle.mot_line_folder.specs.declared.folder.LineFolder.{LineFolder}
-use Rattle.mot_endpoints.specs.Types.{IsTyped}
+use Rattle.mot_endpoints.specs.Texts.{IsTyped}
 use Rattle.mot_line_folder.specs.Spool.{SpoolView}
 use Rattle.mot_endpoints.specs.LinePlaces.{ChecksLines}
 use Rattle.mot_endpoints.specs.declared.lines.OtherFiles.{OtherFiles}

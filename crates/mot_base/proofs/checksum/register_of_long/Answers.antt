@@ -1,7 +1,7 @@
 use Rattle.std.proofs.Common.{◌≡◌, ◌+◌, ◌*◌, Bool, false, List, ℕ, ◌++◌, length, replicate, sym, ap}
 use Rattle.std.proofs.Common.{◌∙◌, arith}
 use Rattle.mot_base.specs.Checksum.{remainder, bits_of_bytes}
-use Rattle.mot_base.specs.Inner.Words.{words_before}
+use Rattle.mot_base.specs.Inner.{words_before}
 use Rattle.mot_base.proofs.checksum.register_of_long.Goals as goal
 
 pub loop-next-preserved : goal.loop-next-preserved

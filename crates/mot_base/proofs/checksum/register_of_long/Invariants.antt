@@ -1,6 +1,6 @@
 use Rattle.std.proofs.Common.{◌≡◌, ◌+◌, ◌*◌, false, ◌++◌, length, replicate}
 use Rattle.mot_base.specs.Checksum.{remainder, bits_of_bytes}
-use Rattle.mot_base.specs.Inner.Words.{words_before}
+use Rattle.mot_base.specs.Inner.{words_before}
 use Rattle.mot_base.proofs.checksum.register_of_long.Given as goal
 
 -- what is left to divide, with the four words in front, has the remainder of the whole

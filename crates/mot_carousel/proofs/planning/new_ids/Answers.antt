@@ -1,6 +1,6 @@
-use Rattle.std.proofs.Common.{◌≡◌, ◌∷◌, ◌++◌, [], ◌-◌, ◌+◌, List, ℕ, suc, length, sym, ap, ◌∙◌, subst, arith}
-use Rattle.std.proofs.Common.{append-nil}
-use Rattle.mot_carousel.specs.Inner.Using.{used_ids_of}
+use Rattle.std.proofs.Common.{◌≡◌, ◌∷◌, ◌++◌, [], ◌-◌, ◌+◌, List, ℕ, suc, length, sym, ap, ◌∙◌}
+use Rattle.std.proofs.Common.{subst, arith, append-nil}
+use Rattle.mot_carousel.specs.Inner.{used_ids_of}
 use Rattle.mot_carousel.specs.NewIds.{new_ids, AreNewIds}
 use Rattle.mot_carousel.proofs.NewIds.{new_ids-new, new_ids-step}
 use Rattle.mot_carousel.proofs.planning.new_ids.Goals as goal

@@ -1,5 +1,5 @@
 use Rattle.std.proofs.Common.{◌≡◌, ◌+◌, ◌-◌, ◌≤◌, ◌++◌, vec_len, vec_capacity}
-use Rattle.mot_carousel.specs.Inner.Using.{used_ids_of}
+use Rattle.mot_carousel.specs.Inner.{used_ids_of}
 use Rattle.mot_carousel.specs.NewIds.{new_ids}
 use Rattle.mot_carousel.proofs.planning.new_ids.Given as goal
 

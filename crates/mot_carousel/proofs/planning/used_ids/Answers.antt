@@ -1,7 +1,7 @@
-use Rattle.std.proofs.Common.{◌≡◌, ◌<◌, ◌≤◌, ◌∷◌, ◌++◌, [], ℕ, suc, length, map, take, get_or}
-use Rattle.std.proofs.Common.{ap, sym, ◌∙◌, arith}
+use Rattle.std.proofs.Common.{◌≡◌, ◌<◌, ◌≤◌, ◌∷◌, ◌++◌, [], ℕ, suc, length, map, take, get_or, ap}
+use Rattle.std.proofs.Common.{sym, ◌∙◌, arith}
 use Rattle.std.proofs.lemmas.List.{map_more, length-map, take_all}
-use Rattle.mot_carousel.specs.Inner.Using.{used_ids_of}
+use Rattle.mot_carousel.specs.Inner.{used_ids_of}
 use Rattle.mot_carousel.proofs.planning.used_ids.Goals as goal
 use Rattle.mot_carousel.proofs.planning.used_ids.Goals.{After-loop-object}
 use Rattle.mot_objects.specs.declared.object.Object.{Object}

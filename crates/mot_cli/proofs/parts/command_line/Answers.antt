@@ -1,6 +1,6 @@
 use Rattle.std.proofs.Common.{◌∙◌, ◌||◌, ap, ap₂}
 use Rattle.clap.specs.Words.{app_of, with_subcommand}
-use Rattle.mot_cli.specs.Inner.Made.{empty_app, line_app, with_verb}
+use Rattle.mot_cli.specs.Inner.{empty_app, line_app, with_verb}
 use Rattle.mot_cli.proofs.InTurn.{one_more}
 use Rattle.std.proofs.lemmas.List.{take_all}
 use Rattle.mot_cli.proofs.parts.command_line.Goals as goal

@@ -1,7 +1,7 @@
 use Rattle.std.proofs.Common.{◌∙◌, ◌||◌, ap, ap₂}
 use Rattle.clap.specs.Words.{new_app, with_rule}
 use Rattle.std.proofs.lemmas.List.{take_all}
-use Rattle.mot_cli.specs.Inner.Made.{with_all, with_argument}
+use Rattle.mot_cli.specs.Inner.{with_all, with_argument}
 use Rattle.mot_cli.proofs.InTurn.{one_more}
 use Rattle.mot_cli.proofs.parts.verb_of.Goals as goal
 

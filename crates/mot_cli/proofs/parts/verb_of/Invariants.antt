@@ -1,7 +1,7 @@
 use Rattle.std.proofs.Common.{◌≡◌, false, take}
 use Rattle.clap.specs.Words.{app_of, new_app}
 use Rattle.clap.specs.declared.builder.Command.TheViews.{out-Command}
-use Rattle.mot_cli.specs.Inner.Made.{with_all, with_argument}
+use Rattle.mot_cli.specs.Inner.{with_all, with_argument}
 use Rattle.mot_cli.proofs.parts.verb_of.Given as goal
 
 abbrev pub invariant-loop-argument : goal.invariant-loop-argument

@@ -1,6 +1,6 @@
 use Rattle.std.specs.Prelude.{◌≡◌, List, Option, None, codes}
 use Rattle.clap.specs.Words.{Row, found_of, rows_of}
-use Rattle.mot_cli.specs.Inner.Found.{Finds}
+use Rattle.mot_cli.specs.Inner.{Finds}
 use Rattle.mot_cli.specs.Task.{IsTask}
 use Rattle.mot_cli.specs.declared.playing.PlayTask.{PlayTask}
 use Rattle.mot_cli.specs.declared.task.Task.{Task}

@@ -5,7 +5,7 @@ use Rattle.mot_commands.specs.declared.asking.Words.TheVariants.{Files}
 use Rattle.mot_commands.proofs.Taken.{opened_behind}
 use Rattle.mot_commands.proofs.changing.put.Goals as goal
 use Rattle.mot_endpoints.specs.Opened.{Need, if_given}
-use Rattle.mot_endpoints.specs.Types.{IsUntyped}
+use Rattle.mot_endpoints.specs.Texts.{IsUntyped}
 use Rattle.mot_numbers.specs.declared.refusal.Refusal.{Refusal}
 use Rattle.mot_numbers.specs.declared.refusal.Refusal.TheVariants.{DeviceFault}
 use Rattle.mot_files.specs.Call.{Call}

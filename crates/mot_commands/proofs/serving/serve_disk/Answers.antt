@@ -9,7 +9,7 @@ use Rattle.mot_journal.specs.Journal.IsReadingRefusal.{no_memory}
 use Rattle.mot_numbers.specs.declared.refusal.Refusal.{Refusal}
 use Rattle.mot_numbers.specs.declared.refusal.Refusal.TheVariants.{OutOfMemory, ReadFault}
 use Rattle.mot_numbers.specs.declared.refusal.Refusal.TheVariants.{WriteFault}
-use Rattle.mot_playout.specs.Server.{ServerView}
+use Rattle.mot_playout.specs.Runs.{ServerView}
 use Rattle.mot_session.specs.Served.{TakesInput}
 use Rattle.mot_session.specs.declared.serving.TheConstants.{MAX_READS}
 use Rattle.std.proofs.KnownBytes.{Keeps-refl}

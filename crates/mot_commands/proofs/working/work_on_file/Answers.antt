@@ -2,13 +2,12 @@ use Rattle.std.proofs.Common.{[], ap, Bool, List, inl, inr, refl, subst, sym, â—
 use Rattle.std.proofs.KnownBytes.{Keeps-refl}
 use Rattle.std.specs.Io.KnownBytes.{Keeps}
 use Rattle.disk_store.proofs.Laws.{since_opened}
-use Rattle.disk_store.specs.File.{file_state}
-use Rattle.disk_store.specs.Ram.{ram_state}
+use Rattle.disk_store.specs.File.{file_state, ram_state}
 use Rattle.mot_commands.proofs.Copied.{looks_still}
 use Rattle.mot_commands.proofs.Served.{does-on}
 use Rattle.mot_commands.proofs.working.work_on_file.Goals as goal
 use Rattle.mot_commands.specs.Commands.{Does, DoesOnFile, only_looks}
-use Rattle.mot_endpoints.specs.Copies.{IsReadAlike, TriesReads}
+use Rattle.mot_endpoints.specs.Opened.{IsReadAlike, TriesReads}
 use Rattle.mot_files.specs.Call.{Call}
 use Rattle.mot_numbers.specs.declared.refusal.Refusal.TheVariants.{DeviceFault}
 use Rattle.mot_outcome.specs.Outcome.{Finishes, OpensOrReads}

@@ -1,5 +1,5 @@
 use Rattle.std.proofs.Common.{◌≡◌, ◌*◌, ◌≤◌, take}
-use Rattle.mot_copy_command.specs.Inner.Records.{bytes_of_bodies}
+use Rattle.mot_copy_command.specs.Inner.Steps.{bytes_of_bodies}
 use Rattle.mot_copy_command.proofs.records.length_of_bodies.Given as goal
 
 abbrev pub invariant-loop-object : goal.invariant-loop-object

@@ -5,12 +5,11 @@ use Rattle.std.proofs.lemmas.List.Sums.{sum_by_more, sum_by_more_le}
 use Rattle.mot_journal.specs.declared.record.Record.{Record}
 use Rattle.mot_objects.specs.declared.object.Object.{Object}
 use Rattle.mot_repository.specs.Copy.{packed_catalogue, packed_objects, renumbered}
-use Rattle.mot_copy_command.specs.Inner.Records.{bytes_of_bodies}
+use Rattle.mot_copy_command.specs.Inner.Steps.{bytes_of_bodies}
 use Rattle.mot_repository.specs.Records.{records_of_objects}
 use Rattle.mot_repository.proofs.Laws.{packed-next, numbered, renumbered-at, renumbered-bytes}
-use Rattle.mot_repository.proofs.Laws.{renumbered-length}
-use Rattle.mot_repository.proofs.Laws.{record_with, set_of_object, records-none, records-some}
-use Rattle.mot_repository.proofs.Laws.{is_zero, isnt_zero}
+use Rattle.mot_repository.proofs.Laws.{renumbered-length, record_with, set_of_object, records-none}
+use Rattle.mot_repository.proofs.Laws.{records-some, is_zero, isnt_zero}
 use Rattle.mot_copy_command.proofs.records.packed_records.Goals as goal
 use Rattle.mot_copy_command.proofs.records.packed_records.Goals.{After-index-ids-place}
 use Rattle.mot_copy_command.proofs.records.packed_records.Goals.{then-is_empty, else-is_empty}

@@ -1,6 +1,6 @@
 use Rattle.std.proofs.Common.{◌≡◌, ◌+◌, take, length, vec_len, vec_capacity}
 use Rattle.mot_repository.specs.Copy.{packed_catalogue, packed_objects, renumbered}
-use Rattle.mot_copy_command.specs.Inner.Records.{bytes_of_bodies}
+use Rattle.mot_copy_command.specs.Inner.Steps.{bytes_of_bodies}
 use Rattle.mot_repository.specs.Records.{records_of_objects}
 use Rattle.mot_copy_command.proofs.records.packed_records.Given as goal
 

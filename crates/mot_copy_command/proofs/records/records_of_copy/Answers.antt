@@ -1,7 +1,7 @@
 use Rattle.std.proofs.Common.{◌≡◌, ◌<◌, ◌≤◌, ℕ, List, length, map, refl, ◌∙◌, ap, subst, arith}
 use Rattle.std.proofs.lemmas.List.{length-map}
 use Rattle.std.specs.Prelude.{unwrap_or}
-use Rattle.mot_copy_command.specs.Inner.Records.{bytes_of_bodies}
+use Rattle.mot_copy_command.specs.Inner.Steps.{bytes_of_bodies}
 use Rattle.mot_journal.specs.declared.record.Record.{Record}
 use Rattle.mot_numbers.proofs.Laws.{same_error}
 use Rattle.mot_numbers.specs.declared.geometry.Geometry.{Geometry}

@@ -1,7 +1,7 @@
 use Rattle.std.proofs.Common.{◌≡◌, [], subst, sym}
 use Rattle.std.specs.Prelude.{IfNone}
 use Rattle.mot_devices.proofs.Cut.{first_part, no_part}
-use Rattle.mot_devices.specs.Parts.{parts_of}
+use Rattle.mot_devices.specs.Mounts.{parts_of}
 use Rattle.mot_devices.proofs.parts.cut.Goals as goal
 
 pub returns-in_err-end-clause-none : goal.returns-in_err-end-clause-none

@@ -1,5 +1,5 @@
 use Rattle.std.proofs.Common.{◌≡◌, ◌∙◌, ◌+◌, ap, arith, length, length-append, subst, sym}
-use Rattle.mot_devices.specs.Inner.Reading.{IsFailed}
+use Rattle.mot_devices.specs.Inner.{IsFailed}
 use Rattle.mot_devices.specs.declared.reading.NotRead.{NotRead}
 use Rattle.mot_devices.proofs.Looks.{err_and, looks_on}
 use Rattle.mot_devices.proofs.ReadsOn.{ends, fails, goes_on}

@@ -1,7 +1,7 @@
 use Rattle.std.proofs.Common.{List, length, ℕ}
 use Rattle.mot_files.specs.Call.{Call}
 use Rattle.mot_devices.specs.Looking.{OnlyLooks}
-use Rattle.mot_devices.specs.Parts.{parts_of}
+use Rattle.mot_devices.specs.Mounts.{parts_of}
 use Rattle.mot_devices.specs.Tables.{AddPartitions}
 use Rattle.mot_devices.proofs.tables.add_partitions.Given as goal
 

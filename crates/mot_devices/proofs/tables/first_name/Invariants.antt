@@ -1,5 +1,5 @@
 use Rattle.std.proofs.Common.{◌≡◌, length}
-use Rattle.mot_devices.specs.Parts.{parts_of}
+use Rattle.mot_devices.specs.Mounts.{parts_of}
 use Rattle.mot_devices.specs.Tables.{first_shown}
 use Rattle.mot_devices.proofs.tables.first_name.Given as goal
 

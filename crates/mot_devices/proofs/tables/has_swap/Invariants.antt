@@ -1,7 +1,7 @@
 use Rattle.std.proofs.Common.{Bool, List, length}
 use Rattle.mot_files.specs.Call.{Call}
 use Rattle.mot_devices.specs.Looking.{OnlyLooks}
-use Rattle.mot_devices.specs.Parts.{parts_of}
+use Rattle.mot_devices.specs.Mounts.{parts_of}
 use Rattle.mot_devices.specs.Tables.{AreSwapLines}
 use Rattle.mot_devices.proofs.tables.has_swap.Given as goal
 

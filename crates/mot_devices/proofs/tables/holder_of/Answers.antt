@@ -1,6 +1,6 @@
 use Rattle.std.proofs.Common.{◌∙◌, List, ap, option_map, refl, rules, subst, take, ℕ}
 use Rattle.mot_devices.specs.Looking.{IsTold}
-use Rattle.mot_devices.specs.Parts.{parts_of}
+use Rattle.mot_devices.specs.Mounts.{parts_of}
 use Rattle.mot_devices.specs.Tables.{first_shown}
 use Rattle.mot_devices.specs.declared.short_name.TheConstants.{LONGEST}
 use Rattle.mot_files.specs.declared.system.How.TheVariants as how

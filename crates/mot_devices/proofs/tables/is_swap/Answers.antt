@@ -1,5 +1,5 @@
 use Rattle.std.proofs.Common.{Bool, List, subst, ℕ}
-use Rattle.mot_devices.specs.Parts.{parts_of}
+use Rattle.mot_devices.specs.Mounts.{parts_of}
 use Rattle.mot_devices.specs.Tables.{AreSwapLines}
 use Rattle.mot_devices.proofs.Looks.{if_ok}
 use Rattle.mot_devices.proofs.tables.is_swap.Goals as goal

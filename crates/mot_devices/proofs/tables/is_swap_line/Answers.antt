@@ -1,7 +1,7 @@
 use Rattle.std.proofs.Common.{◌∙◌, ◌++◌, ◌∷◌, Err, Ok, Option, [], ap, false, refl, sym, ℕ}
 use Rattle.std.specs.Option.{option_map_or}
 use Rattle.mot_devices.specs.Mounts.{is_one_of}
-use Rattle.mot_devices.specs.Number.{number_text}
+use Rattle.mot_devices.specs.Tables.{number_text}
 use Rattle.mot_devices.specs.Tables.IsSwapLine.{no_text, path}
 use Rattle.mot_files.specs.Call.{followed}
 use Rattle.mot_devices.proofs.tables.is_swap_line.Goals as goal

@@ -1,6 +1,6 @@
 use Rattle.std.proofs.Common.{List, [], rules, subst, ℕ}
 use Rattle.mot_devices.specs.Looking.{IsTold}
-use Rattle.mot_devices.specs.Parts.{parts_of}
+use Rattle.mot_devices.specs.Mounts.{parts_of}
 use Rattle.mot_devices.specs.Tables.{AddPartitions}
 use Rattle.mot_files.specs.declared.system.How.TheVariants as how
 use Rattle.mot_devices.proofs.tables.numbers_of.Goals as goal

@@ -1,5 +1,5 @@
 use Rattle.std.proofs.Common.{Bool, None, Option, Some, false, refl, subst, true}
-use Rattle.mot_devices.specs.Inner.Uses.{TellsHolder}
+use Rattle.mot_devices.specs.Inner.{TellsHolder}
 use Rattle.mot_devices.specs.Uses.IsBusy.{held, no_memory, swap}
 use Rattle.mot_devices.specs.Tables.{HolderIs, IsSwap}
 use Rattle.mot_devices.specs.declared.short_name.ShortName.{ShortName}

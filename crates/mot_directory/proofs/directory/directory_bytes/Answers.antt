@@ -3,9 +3,8 @@ use Rattle.std.proofs.Common.{sym, ap, ◌∙◌, arith, append_assoc, vec_len, 
 use Rattle.std.proofs.lemmas.List.{take_all}
 use Rattle.mot_directory.specs.Directory.{DirectoryFields, IsDirectory, IsEntry, bytes_of_directory}
 use Rattle.mot_directory.specs.Directory.{bytes_of_entry, bytes_of_directory_header}
-use Rattle.mot_directory.specs.Directory.{bytes_of_entries, read_directory}
-use Rattle.mot_directory.specs.Inner.Beside.{directory_beside, entry_beside}
-use Rattle.mot_directory.specs.Sizes.{directory_size}
+use Rattle.mot_directory.specs.Directory.{bytes_of_entries, read_directory, directory_size}
+use Rattle.mot_directory.specs.Inner.{directory_beside, entry_beside}
 use Rattle.mot_directory.proofs.Beside.{are_entries-push, bytes_of_directory-beside}
 use Rattle.mot_directory.proofs.Beside.{directory_of-carousel_of, bytes_of_entries-push}
 use Rattle.mot_directory.proofs.Beside.{IsDirectory-beside, one_more, sum_by-next, sum_by-push}

@@ -1,10 +1,10 @@
 use Rattle.std.proofs.Common.{◌≡◌, ◌+◌, ◌≤◌, ◌++◌, take, map, vec_len, vec_capacity, All}
 use Rattle.std.specs.Prelude.{sum_by}
 use Rattle.mot_directory.specs.Directory.{IsEntry, bytes_of_directory_header, bytes_of_entries}
-use Rattle.mot_directory.specs.Inner.Beside.{entry_beside}
-use Rattle.mot_directory.specs.Sizes.{directory_size, entry_size}
+use Rattle.mot_directory.specs.Directory.{directory_size, entry_size}
+use Rattle.mot_directory.specs.Inner.{entry_beside}
 use Rattle.mot_directory.proofs.directory.directory_bytes.Given as goal
-use Rattle.mot_numbers.specs.Bytes.{AreBytes}
+use Rattle.mot_numbers.specs.Reading.{AreBytes}
 
 abbrev pub invariant-loop-object : goal.invariant-loop-object
 invariant-loop-object l =

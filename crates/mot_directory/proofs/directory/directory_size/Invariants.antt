@@ -1,6 +1,6 @@
 use Rattle.std.proofs.Common.{◌≡◌, ◌+◌, ◌*◌, ◌≤◌, take}
 use Rattle.std.specs.Prelude.{sum_by}
-use Rattle.mot_directory.specs.Sizes.{entry_size}
+use Rattle.mot_directory.specs.Directory.{entry_size}
 use Rattle.mot_directory.proofs.directory.directory_size.Given as goal
 
 abbrev pub invariant-loop-object : goal.invariant-loop-object

@@ -1,5 +1,5 @@
 use Rattle.std.proofs.Common.{refl}
-use Rattle.mot_directory.specs.Inner.Beside.{header_beside}
+use Rattle.mot_directory.specs.Inner.{header_beside}
 use Rattle.mot_directory.proofs.Beside.{header_of-object_of}
 use Rattle.mot_directory.proofs.Described.{description_in-parameters_with}
 use Rattle.mot_directory.proofs.ReadBack.{read_header-bytes_of_header, take-header_size_in}

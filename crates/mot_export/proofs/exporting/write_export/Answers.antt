@@ -8,8 +8,9 @@ use Rattle.disk_model.proofs.Laws.{reads_none, reads_on}
 use Rattle.mot_lines.specs.Export.{period_line, put_line}
 use Rattle.mot_objects.specs.Carousel as whole
 use Rattle.mot_objects.specs.declared.carousel.Carousel.{Carousel}
-use Rattle.mot_export.proofs.Printed.{all_objects, front-lines, lines-more, prints-faults, prints-writes, some_object}
-use Rattle.mot_export.specs.Inner.Printing.{IsPrintingFault}
+use Rattle.mot_export.proofs.Printed.{all_objects, front-lines, lines-more, prints-faults}
+use Rattle.mot_export.proofs.Printed.{prints-writes, some_object}
+use Rattle.mot_export.specs.Inner.Inspected.{IsPrintingFault}
 use Rattle.mot_export.proofs.exporting.write_export.Goals as goal
 use Rattle.mot_repository.specs.Repository.{RepositoryView}
 use Rattle.mot_outcome.specs.Outcome.{Prints}

@@ -11,7 +11,7 @@ use Rattle.mot_objects.specs.declared.carousel.Carousel.{Carousel}
 use Rattle.mot_objects.specs.declared.object.Object.{Object}
 use Rattle.mot_player.specs.Place.{directory_packets}
 use Rattle.mot_player.specs.Turn.{turn_of_carousel}
-use Rattle.mot_playout.specs.Server.{place_in}
+use Rattle.mot_playout.specs.Runs.{place_in}
 use Rattle.mot_export.specs.Inspecting.{rates_of, times_of, usual_pause, waits_of}
 use Rattle.mot_export.specs.declared.inspection.Inspection.{Inspection}
 use Rattle.mot_export.proofs.Inspected.{figures, same_size}

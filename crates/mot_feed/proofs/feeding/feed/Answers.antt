@@ -1,10 +1,10 @@
-use Rattle.std.proofs.Common.{◌≡◌, ℕ, ◌+◌, ◌-◌, Bool, Some, None}
-use Rattle.std.proofs.Common.{refl, ap, ◌∙◌, arith, inl, inr, subst, sym}
+use Rattle.std.proofs.Common.{◌≡◌, ℕ, ◌+◌, ◌-◌, Bool, Some, None, refl, ap, ◌∙◌, arith, inl, inr}
+use Rattle.std.proofs.Common.{subst, sym}
 use Rattle.std.specs.Prelude.{◌==◌, if◌then◌else◌}
 use Rattle.disk_model.specs.Disk.{IsUnchanged, KeepsLength}
 use Rattle.disk_model.proofs.Laws.{keeps_none, keeps_on, unchanged_none}
-use Rattle.mot_feed.proofs.Fed.{SoFar, asked_on, fed_all, fed_none, rest_else, rest_then, send_fault}
-use Rattle.mot_feed.proofs.Fed.{sent_on, update_fault, updated}
+use Rattle.mot_feed.proofs.Fed.{SoFar, asked_on, fed_all, fed_none, rest_else, rest_then}
+use Rattle.mot_feed.proofs.Fed.{send_fault, sent_on, update_fault, updated}
 use Rattle.mot_feed.proofs.Hearing.{left_for}
 use Rattle.mot_feed.specs.Feeding.{left_behind, moment_at}
 use Rattle.mot_feed.specs.Feeding.Stage.{Called}
@@ -17,8 +17,8 @@ use Rattle.mot_journal.specs.Image.{Standing}
 use Rattle.mot_numbers.proofs.Laws.{same_error}
 use Rattle.mot_player.specs.Place.{Place, Sent}
 use Rattle.mot_repository.specs.Repository.{Agrees, Holds, RepositoryView}
-use Rattle.mot_playout.specs.Server.{place_in}
-use Rattle.mot_update.specs.Between.{IsUpdating, may_look}
+use Rattle.mot_playout.specs.Runs.{place_in}
+use Rattle.mot_update.specs.HasRun.{IsUpdating, may_look}
 use Rattle.mot_update.proofs.Laws.{calm_on, fault_on}
 
 pub loop-init : goal.loop-init

@@ -6,7 +6,7 @@ use Rattle.mot_feed.specs.Often.{server_for}
 use Rattle.mot_feed.specs.declared.manner.Manner.{Manner}
 use Rattle.mot_journal.specs.Image.{Standing}
 use Rattle.mot_player.specs.Place.{following}
-use Rattle.mot_playout.specs.Server.{ServerView, place_in}
+use Rattle.mot_playout.specs.Runs.{ServerView, place_in}
 
 -- a server that was told to follow stands where one stands that follows
 told : {D : Type 0} (how : Manner) (old mid : ServerView D) (s : Standing)

@@ -1,11 +1,11 @@
 use Rattle.std.proofs.Common.{◌∙◌, ◌<◌, [], ◌∷◌, take, length, refl, subst}
 use Rattle.std.proofs.lemmas.List.{take_all}
-use Rattle.mot_feed.specs.Sending.{whole, short, none}
+use Rattle.mot_feed.specs.Feeding.{whole, short, none}
 use Rattle.mot_feed.proofs.Grown.{grows_nil}
 use Rattle.mot_feed.proofs.Sent.{not_written, same_place, some_bytes, unread}
 use Rattle.mot_feed.proofs.sending.send_one.Goals as goal
 use Rattle.mot_numbers.proofs.Laws.{same_error}
-use Rattle.mot_packets.specs.Outlet.{Grows}
+use Rattle.mot_packets.specs.Written.{Grows}
 use Rattle.mot_repository.proofs.Laws.{read_standing}
 
 pub returns-in_err-ends_turn-clause-sent : goal.returns-in_err-ends_turn-clause-sent

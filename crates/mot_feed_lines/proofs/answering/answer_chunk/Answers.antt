@@ -5,8 +5,7 @@ use Rattle.mot_feed_lines.proofs.Taken.{joined, line_taken, lines_at_end, more_n
 use Rattle.mot_feed_lines.proofs.Taken.{more_rest}
 use Rattle.mot_feed_lines.proofs.Between.{updating_none, updating_on}
 use Rattle.mot_feed_lines.proofs.answering.answer_chunk.Goals as goal
-use Rattle.mot_lines.specs.Hand.{bytes_in_hand}
-use Rattle.mot_lines.specs.Lines.{rest_of, whole_lines}
+use Rattle.mot_lines.specs.Lines.{bytes_in_hand, rest_of, whole_lines}
 use Rattle.mot_lines.proofs.Laws.{rest_of-end, rest_of-within, whole_lines-end, whole_lines-within}
 use Rattle.mot_numbers.proofs.Laws.{same_error}
 use Rattle.mot_update.proofs.Laws.{calm_here, calm_on, not_none}

@@ -1,11 +1,10 @@
 use Rattle.std.proofs.Common.{◌≡◌, ◌++◌, ℕ, List, length, None}
 use Rattle.std.specs.Prelude.{⊤}
 use Rattle.disk_model.specs.Disk.{KeepsLength}
-use Rattle.mot_feed_lines.specs.Inner.Request.{AnswersMore}
-use Rattle.mot_update.specs.Between.{IsUpdating}
+use Rattle.mot_feed_lines.specs.Inner.{AnswersMore}
+use Rattle.mot_update.specs.HasRun.{IsUpdating}
 use Rattle.mot_journal.specs.Image.{Standing}
-use Rattle.mot_lines.specs.Hand.{bytes_in_hand}
-use Rattle.mot_lines.specs.Lines.{rest_of}
+use Rattle.mot_lines.specs.Lines.{bytes_in_hand, rest_of}
 use Rattle.mot_repository.specs.Repository.{Holds}
 use Rattle.mot_update.specs.Faults.{StaysCalm}
 use Rattle.mot_feed_lines.proofs.answering.answer_chunk.Given as goal

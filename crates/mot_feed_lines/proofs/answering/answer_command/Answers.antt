@@ -1,11 +1,10 @@
-use Rattle.std.proofs.Common.{[], inl, refl, subst, sym}
+use Rattle.std.proofs.Common.{[], inl, refl, subst, sym, ◌∙◌}
 use Rattle.mot_feed_lines.proofs.Commands.{asked_of, ran}
 use Rattle.mot_feed_lines.proofs.Requests.{never}
 use Rattle.mot_feed_lines.proofs.answering.answer_command.Goals as goal
-use Rattle.mot_feed_lines.specs.Inner.Request.{ran_of}
+use Rattle.mot_feed_lines.specs.Inner.{ran_of}
 use Rattle.mot_update.proofs.Laws.{answered_one, attempted}
 use Rattle.mot_update.specs.HasRun.{HasRun}
-use Rattle.std.proofs.Common.{◌∙◌}
 
 pub returns-clause-answered : goal.returns-clause-answered
 returns-clause-answered g c =

@@ -1,5 +1,5 @@
 use Rattle.std.proofs.Common.{subst, sym}
-use Rattle.mot_feed_lines.specs.Inner.Request.{HasAnswered}
+use Rattle.mot_feed_lines.specs.Inner.{HasAnswered}
 use Rattle.mot_feed_lines.proofs.Requests.{shown}
 use Rattle.mot_feed_lines.proofs.answering.answer_request.Goals as goal
 use Rattle.mot_playout.specs.Attempts.{fault_of}

@@ -1,6 +1,5 @@
-use Rattle.std.proofs.Common.{◌≡◌, ◌∙◌, ◌++◌, ℕ, [], ◌∷◌, ap, not, refl, subst, sym}
-use Rattle.std.proofs.Common.{true, List, Option}
-use Rattle.std.proofs.Common.{inl, length}
+use Rattle.std.proofs.Common.{◌≡◌, ◌∙◌, ◌++◌, ℕ, [], ◌∷◌, ap, not, refl, subst, sym, true, List}
+use Rattle.std.proofs.Common.{Option, inl, length}
 use Rattle.disk_model.proofs.Laws.{unchanged_none}
 use Rattle.mot_folder.specs.declared.known.Known.{Known}
 use Rattle.mot_folder.specs.Listed.{IsListing}
@@ -11,8 +10,7 @@ use Rattle.mot_folder.specs.Log.{ReportTells, of_look, unlisted_for}
 use Rattle.mot_folder.specs.declared.report.Report.{Report}
 use Rattle.mot_folder.specs.Guard.{going, is_kept, kept_so}
 use Rattle.mot_folder.specs.Inner.Notes.{unknown_objects}
-use Rattle.mot_folder.specs.Looked.{HasLookedAtFolder, IsUnlisted, kept, listed}
-use Rattle.mot_folder.specs.Looked.{unlisted}
+use Rattle.mot_folder.specs.Looked.{HasLookedAtFolder, IsUnlisted, kept, listed, unlisted}
 use Rattle.mot_folder.specs.Looked as look
 use Rattle.mot_objects.specs.declared.carousel.Carousel as memory
 use Rattle.mot_objects.specs.declared.object.Object.{Object}
@@ -25,7 +23,7 @@ use Rattle.mot_folder.proofs.looking.look_at_folder.Goals as goal
 use Rattle.mot_numbers.specs.declared.refusal.Refusal.{Refusal}
 use Rattle.mot_journal.specs.Image.{Standing}
 use Rattle.disk_model.specs.Disk.{State}
-use Rattle.mot_playout.specs.Server.{ServerView}
+use Rattle.mot_playout.specs.Runs.{ServerView}
 use Rattle.mot_shelf.proofs.Laws.{gives_on, gives_one}
 use Rattle.mot_shelf.specs.Given.{Given, nothing}
 use Rattle.mot_shelf.specs.Gives.{Asks, GaveSo, Gives}

@@ -1,6 +1,5 @@
-use Rattle.std.proofs.Common.{◌≡◌, ◌∙◌, ℕ, None, [], ap, refl, subst, sym}
-use Rattle.std.proofs.Common.{◌≤◌, Bool, true, false, Err, IfErr, List, Ok, Option, Result, Some}
-use Rattle.std.proofs.Common.{inr, length, take}
+use Rattle.std.proofs.Common.{◌≡◌, ◌∙◌, ℕ, None, [], ap, refl, subst, sym, ◌≤◌, Bool, true, false}
+use Rattle.std.proofs.Common.{Err, IfErr, List, Ok, Option, Result, Some, inr, length, take}
 use Rattle.std.proofs.lemmas.List.{take_all}
 use Rattle.mot_folder.specs.Inner.Listing.{IsUnread}
 use Rattle.mot_shelf.specs.Gives.{GaveSo}
@@ -33,7 +32,7 @@ use Rattle.mot_numbers.proofs.Laws.{same_error}
 use Rattle.mot_objects.specs.declared.command.Command.{Command}
 use Rattle.mot_journal.specs.Image.{Standing}
 use Rattle.disk_model.specs.Disk.{State}
-use Rattle.mot_playout.specs.Server.{ServerView}
+use Rattle.mot_playout.specs.Runs.{ServerView}
 use Rattle.mot_shelf.proofs.Laws.{gives_path}
 use Rattle.mot_shelf.specs.Given.{Given, nothing}
 use Rattle.mot_update.specs.HasRun.{HasRun}

@@ -7,7 +7,7 @@ use Rattle.mot_groups.proofs.Appended.{header-appended, rest_of-append}
 use Rattle.mot_groups.proofs.ReadBack.{read_group-bytes_of_group}
 use Rattle.mot_groups.proofs.Only.{read_group-only}
 use Rattle.mot_groups.proofs.group.write_group.Goals as goal
-use Rattle.mot_numbers.specs.GroupKind.{kind_number}
+use Rattle.mot_numbers.specs.PacketLength.{kind_number}
 
 pub returns-clause-written : goal.returns-clause-written
 unfolding bytes_of_group

@@ -4,7 +4,7 @@ use Rattle.std.proofs.Math.Nat.{pow-le-pow_right}
 use Rattle.std.proofs.lemmas.List.{length-take, length-drop}
 use Rattle.mot_journal.proofs.Encoded.{number_read, number_below, All-get_or-below}
 use Rattle.mot_journal.proofs.decoding.number.Goals as goal
-use Rattle.mot_numbers.specs.Fields.{number_in}
+use Rattle.mot_numbers.specs.Reading.{number_in}
 
 pub returns-clause-value : goal.returns-clause-value
 returns-clause-value c =

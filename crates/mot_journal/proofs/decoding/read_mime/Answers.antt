@@ -2,7 +2,7 @@ use Rattle.std.proofs.Common.{◌≡◌, sym, ◌∙◌, ap, subst, take, drop, 
 use Rattle.std.specs.Prelude.{slice_index}
 use Rattle.mot_journal.proofs.Decoded.{mime_none, mime_ok, mime_bad, mime_long, kept-text, wrong-ok}
 use Rattle.mot_journal.proofs.decoding.read_mime.Goals as goal
-use Rattle.mot_objects.specs.Mime.{IsMime}
+use Rattle.mot_objects.specs.Name.{IsMime}
 
 pub returns-then-size-eq0 : goal.returns-then-size-eq0
 returns-then-size-eq0 c = sym (mime_none c.args.bytes.now c.if-size-eq0.true)

@@ -1,11 +1,10 @@
-use Rattle.std.proofs.Common.{[], ◌∷◌, arith}
+use Rattle.std.proofs.Common.{[], ◌∷◌, arith, ⊎_elim, inl, inr}
 use Rattle.std.proofs.lemmas.Result.{on_ok_weaker}
-use Rattle.std.proofs.Common.{⊎_elim, inl, inr}
 use Rattle.disk_model.proofs.Laws.{weakens}
 use Rattle.mot_journal.specs.Image.{area_of}
 use Rattle.mot_journal.specs.Inner.Format.{first_record}
 use Rattle.mot_journal.specs.Journal.{NoneOrFrom}
-use Rattle.mot_journal.specs.Made.{NoneOrMade}
+use Rattle.mot_journal.specs.Making.{NoneOrMade}
 use Rattle.mot_journal.proofs.Making.{first_sound}
 use Rattle.mot_journal.proofs.NewDisk.{first_folds, new_is}
 use Rattle.mot_journal.proofs.formatting.make.Goals as goal

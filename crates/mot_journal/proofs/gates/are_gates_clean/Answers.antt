@@ -1,6 +1,5 @@
 use Rattle.std.proofs.Common.{◌≡◌, ◌<◌, ◌≤◌, ◌+◌, true, ℕ, List, Some, None, length, take, false}
-use Rattle.std.proofs.Common.{refl, sym, ◌∙◌, ap}
-use Rattle.std.proofs.Common.{subst, arith}
+use Rattle.std.proofs.Common.{refl, sym, ◌∙◌, ap, subst, arith}
 use Rattle.std.specs.Prelude.{is_some}
 use Rattle.std.specs.Int.{div_ceil}
 use Rattle.std.proofs.lemmas.List.{length-take}
@@ -9,8 +8,7 @@ use Rattle.disk_model.specs.Failures.{Rises}
 use Rattle.std.proofs.lemmas.Result.{IfOk-from_err}
 use Rattle.mot_journal.proofs.Calls.{calm}
 use Rattle.mot_journal.specs.Image.{gate_reads}
-use Rattle.mot_journal.specs.Inner.Scan.{scan}
-use Rattle.mot_journal.specs.Inner.Steps.{slots_in_half}
+use Rattle.mot_journal.specs.Inner.Steps.{scan, slots_in_half}
 use Rattle.mot_journal.proofs.Scan.{none, scan_is_clean, scanned_on, last_piece}
 use Rattle.mot_journal.proofs.gates.are_gates_clean.Goals as goal
 

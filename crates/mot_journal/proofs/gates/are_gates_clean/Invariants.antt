@@ -1,7 +1,6 @@
 use Rattle.std.proofs.Common.{◌≡◌, ◌+◌, false}
 use Rattle.disk_model.specs.Disk.{OnlyReads}
-use Rattle.mot_journal.specs.Inner.Scan.{scan}
-use Rattle.mot_journal.specs.Inner.Steps.{slots_in_half}
+use Rattle.mot_journal.specs.Inner.Steps.{scan, slots_in_half}
 use Rattle.mot_journal.proofs.Scan.{slots_from}
 use Rattle.mot_journal.proofs.gates.are_gates_clean.Given as goal
 

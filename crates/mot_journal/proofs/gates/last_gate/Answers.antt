@@ -1,7 +1,7 @@
 use Rattle.std.proofs.Common.{◌+◌, ◌*◌, ◌/◌, ◌<◌, ℕ, Bool, not, ◌==◌, List, length, drop, get_or}
 use Rattle.std.proofs.Common.{refl, sym, ◌∙◌, ap, arith, if◌then◌else◌}
 use Rattle.mot_journal.specs.Image.{slots_in}
-use Rattle.mot_journal.specs.Inner.Scan.{scan}
+use Rattle.mot_journal.specs.Inner.Steps.{scan}
 use Rattle.mot_journal.proofs.NextSlot.{slot_longer_than_gate}
 use Rattle.mot_journal.proofs.Scan.{none, next_gate, scan_ends}
 use Rattle.mot_journal.proofs.gates.last_gate.Goals as goal

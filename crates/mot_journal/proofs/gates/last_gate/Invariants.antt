@@ -1,6 +1,6 @@
 use Rattle.std.proofs.Common.{◌≡◌, ◌/◌, drop, length}
 use Rattle.mot_journal.specs.Image.{slots_in}
-use Rattle.mot_journal.specs.Inner.Scan.{scan}
+use Rattle.mot_journal.specs.Inner.Steps.{scan}
 use Rattle.mot_journal.proofs.gates.last_gate.Given as goal
 
 abbrev pub invariant-loop-number : goal.invariant-loop-number

@@ -1,9 +1,9 @@
 use Rattle.std.proofs.Common.{◌≡◌, ℕ, Bool, ◌+◌, ◌-◌, ◌*◌, ◌≤◌, true, length, take, drop, Some}
-use Rattle.std.proofs.Common.{refl, sym, ◌∙◌, ap, arith, rules, subst, inl, inr, is_err, false}
+use Rattle.std.proofs.Common.{refl, sym, ◌∙◌, ap, arith, rules, subst, inl, inr, is_err, false, ◌⊎◌}
+use Rattle.std.proofs.Common.{None}
 use Rattle.std.proofs.lemmas.Bool.{cases_lt}
-use Rattle.std.specs.Prelude.{Result}
+use Rattle.std.specs.Prelude.{Result, slice_index, if◌then◌else◌, ◌==◌, IfSome, List, Option}
 use Rattle.disk_model.specs.Failures.{HasCause, Rises}
-use Rattle.std.specs.Prelude.{slice_index, if◌then◌else◌, ◌==◌}
 use Rattle.std.proofs.Math.Nat.{mul-le-mul_left, mul_comm}
 use Rattle.disk_model.proofs.Laws.{reads_none, reads_on, reads_once}
 use Rattle.disk_model.specs.Disk.{OnlyReads}
@@ -15,20 +15,18 @@ use Rattle.mot_journal.proofs.Loads.{chosen_one, chosen_none, load_refused_of_ha
 use Rattle.mot_journal.proofs.Loads.{written_back, refused, fault_told, fault_of, IsHalfRead}
 use Rattle.mot_journal.proofs.Loads.{reason_told}
 use Rattle.mot_journal.specs.declared.reason.Reason.TheVariants.{Head}
-use Rattle.mot_journal.specs.Inner.Loading.{IsNoHead}
+use Rattle.mot_journal.specs.Inner.Reading.{IsNoHead}
 use Rattle.mot_journal.specs.Reason.{HasReason, IsReasonOf}
 use Rattle.mot_journal.specs.declared.reason.HeadFault.TheVariants.{Short}
 use Rattle.mot_numbers.specs.declared.refusal.Refusal.TheVariants.{DeviceFault, OutOfMemory}
-use Rattle.std.proofs.Common.{◌⊎◌, None}
 use Rattle.mot_journal.specs.declared.reason.Fault.{Fault}
 use Rattle.mot_journal.specs.declared.reason.Reason.{Reason}
 use Rattle.mot_numbers.specs.declared.refusal.Refusal.{Refusal}
-use Rattle.std.specs.Prelude.{IfSome, List, Option}
 use Rattle.mot_journal.proofs.journal.load_with_reason.Given as given
 use Rattle.mot_journal.proofs.journal.load_with_reason.Goals as goal
 use Rattle.mot_journal.proofs.journal.load_with_reason.Goals.{In-Ok, In-Err, After-read-2}
-use Rattle.mot_journal.proofs.journal.load_with_reason.Goals.{After-deref-2}
-use Rattle.mot_journal.proofs.journal.load_with_reason.Goals.{then-head-eq1, else-head-eq1}
+use Rattle.mot_journal.proofs.journal.load_with_reason.Goals.{After-deref-2, then-head-eq1}
+use Rattle.mot_journal.proofs.journal.load_with_reason.Goals.{else-head-eq1}
 use Rattle.mot_numbers.specs.Geometry.{is_valid, length_of, half_size, half_start}
 
 -- the refusal of a fault

@@ -5,8 +5,8 @@ use Rattle.std.proofs.lemmas.List.Elements.{All-nil, All-cons, All-append}
 use Rattle.mot_journal.specs.declared.record.Record.{Record}
 use Rattle.mot_journal.specs.Slot.{slot_count, is_sound, read_slot}
 use Rattle.mot_journal.specs.Image.{DiskRecords}
-use Rattle.mot_journal.specs.Inner.Loading.{IsSlotReason}
-use Rattle.mot_journal.specs.Inner.Loading.IsHalfRefusal.{damaged, no_memory}
+use Rattle.mot_journal.specs.Inner.Reading.{IsSlotReason}
+use Rattle.mot_journal.specs.Inner.Reading.IsHalfRefusal.{damaged, no_memory}
 use Rattle.mot_journal.specs.Reason.{HasReason}
 use Rattle.mot_journal.proofs.Loads.{field_told}
 use Rattle.std.specs.Prelude.{IfSome}

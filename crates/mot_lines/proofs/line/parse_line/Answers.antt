@@ -1,6 +1,6 @@
 use Rattle.std.proofs.Common.{sym, inl}
 use Rattle.mot_lines.proofs.Requests.{line_of-long, line_of-short, request_of-first}
-use Rattle.mot_lines.specs.Words.{words_after}
+use Rattle.mot_lines.specs.Fields.{words_after}
 use Rattle.mot_lines.proofs.line.parse_line.Goals as goal
 
 pub returns-then-line-gt-MAX_LINE : goal.returns-then-line-gt-MAX_LINE

@@ -1,6 +1,6 @@
 use Rattle.std.proofs.Common.{◌≡◌, Err, sym, ap, inl, inr}
 use Rattle.std.proofs.lemmas.Result.{err_from_is_err_and}
-use Rattle.mot_lines.specs.Words.{words_after}
+use Rattle.mot_lines.specs.Fields.{words_after}
 use Rattle.mot_lines.proofs.Requests.{raw_of-kind, raw_of-tid, raw_of-hex, raw_of-all}
 use Rattle.mot_lines.proofs.Words.{raw_of-others}
 use Rattle.mot_lines.proofs.line.parse_raw.Goals as goal

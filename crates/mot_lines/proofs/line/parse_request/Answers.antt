@@ -1,4 +1,4 @@
-use Rattle.mot_lines.specs.Words.{words_after}
+use Rattle.mot_lines.specs.Fields.{words_after}
 use Rattle.mot_lines.specs.Line.{raw_of}
 use Rattle.mot_lines.proofs.Memory.{parsed, raw-needs}
 use Rattle.mot_lines.proofs.line.parse_request.Goals as goal

@@ -1,5 +1,5 @@
 use Rattle.std.proofs.Common.{◌≡◌, ◌++◌, map, take}
-use Rattle.mot_log.specs.Shown.{ascii_byte}
+use Rattle.mot_log.specs.Text.{ascii_byte}
 use Rattle.mot_log.proofs.text.add_ascii.Given as goal
 
 abbrev pub invariant-loop-byte : goal.invariant-loop-byte

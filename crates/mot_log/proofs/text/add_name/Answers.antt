@@ -3,7 +3,7 @@ use Rattle.std.proofs.Common.{subst, sym, true, ℕ}
 use Rattle.std.proofs.lemmas.Str.{IsUtf8-from_is_utf8, is_utf8-from_IsUtf8}
 use Rattle.std.specs.Prelude.{IsUtf8}
 use Rattle.std.specs.Str.{is_utf8}
-use Rattle.mot_log.specs.Shown.{ascii_byte, shown_name}
+use Rattle.mot_log.specs.Text.{ascii_byte, shown_name}
 use Rattle.mot_suffixes.specs.Shown.{shown}
 use Rattle.mot_log.proofs.text.add_name.Goals as goal
 

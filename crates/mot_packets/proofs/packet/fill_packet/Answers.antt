@@ -1,10 +1,10 @@
 use Rattle.std.proofs.Common.{◌≡◌, refl, arith, ap, ◌∙◌}
 use Rattle.std.proofs.lemmas.List.Elements.{All-from_get_or, All-same}
-use Rattle.mot_numbers.specs.Bytes.{IsByte, AreBytes}
+use Rattle.mot_numbers.specs.Reading.{IsByte, AreBytes}
 use Rattle.mot_numbers.proofs.Laws.{code_of-fits, room_of-code}
 use Rattle.mot_packets.specs.Packet.{PacketFields, read_packet}
 use Rattle.mot_packets.specs.Written.{IsPacket, covered_bytes, bytes_of_packet}
-use Rattle.mot_packets.specs.Inner.Header.{fields_of}
+use Rattle.mot_packets.specs.Inner.{fields_of}
 use Rattle.mot_packets.proofs.HeaderWord.{IsLength-room_of, code_of_room-room_of}
 use Rattle.mot_packets.proofs.ReadBack.{AreBytes-bytes_of_packet, read_packet-bytes_of_packet}
 use Rattle.mot_packets.proofs.packet.fill_packet.Goals as goal

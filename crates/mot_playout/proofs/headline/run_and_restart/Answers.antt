@@ -1,5 +1,5 @@
 use Rattle.std.proofs.Common.{[], ◌++◌}
-use Rattle.mot_playout.specs.History.{one_more}
+use Rattle.mot_playout.specs.Lives.{one_more}
 use Rattle.mot_playout.specs.Runs.{accepted_commands, commands_in_flight}
 use Rattle.mot_playout.proofs.Survival.{after_history, after_history_none, passing, if_both_ok}
 use Rattle.mot_playout.proofs.Survival.{if_ok, if_err}

@@ -9,7 +9,7 @@ use Rattle.mot_objects.specs.declared.carousel.Carousel.{Carousel}
 use Rattle.mot_player.specs.Place.{opened_place}
 use Rattle.mot_player.specs.PlayerView.{AreBodiesFor, PlayerView, place_of, turn_with}
 use Rattle.mot_player.specs.Turn.{turn_of_carousel}
-use Rattle.mot_playout.specs.Inner.Plays.{PlaysCarousel}
+use Rattle.mot_playout.specs.Inner.{PlaysCarousel}
 use Rattle.mot_playout.proofs.Turns.{if_ok_both, opened_at, plays_of, plays_same}
 use Rattle.mot_playout.proofs.playing.player_of.Goals as goal
 

@@ -7,11 +7,10 @@ use Rattle.mot_player.proofs.Laws.{steps-are-continuous}
 use Rattle.mot_player.specs.Turn.{turn_of_carousel}
 use Rattle.mot_repository.specs.Opening.{IsOpeningRefusal}
 use Rattle.mot_playout.specs.Playing.{HasPlayedTurn, bytes_of_packets}
-use Rattle.mot_playout.specs.Server.{place_in}
+use Rattle.mot_playout.specs.Runs.{place_in}
 use Rattle.mot_playout.proofs.Openings.{opened_agrees, opened_holds, turn_refused, opened_room}
-use Rattle.mot_playout.proofs.Openings.{opened_still}
-use Rattle.mot_playout.proofs.Openings.{opened_beginning, opened_continuous, opened_length}
-use Rattle.mot_playout.proofs.Openings.{syncs_read}
+use Rattle.mot_playout.proofs.Openings.{opened_still, opened_beginning, opened_continuous}
+use Rattle.mot_playout.proofs.Openings.{opened_length, syncs_read}
 use Rattle.mot_playout.proofs.Numbered.{turn_numbered}
 use Rattle.mot_playout.proofs.Read.{holds_still}
 use Rattle.mot_playout.proofs.restarting.restart.Goals as goal

@@ -7,7 +7,7 @@ use Rattle.disk_model.proofs.Laws.{begins}
 use Rattle.disk_model.specs.Disk.{Costs}
 use Rattle.mot_journal.specs.Slot.{slot_count}
 use Rattle.mot_journal.specs.Journal.{JournalView, HoldsRecords}
-use Rattle.mot_repository.specs.Cost.{calls_for_room}
+use Rattle.mot_repository.specs.Outcome.{calls_for_room}
 use Rattle.mot_repository.proofs.Answering.{no_less, of_three}
 use Rattle.mot_repository.specs.Repository.{IsOf}
 use Rattle.mot_repository.proofs.Moved.{here, folds, moments, held}

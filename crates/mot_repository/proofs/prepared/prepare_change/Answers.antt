@@ -2,14 +2,15 @@ use Rattle.std.proofs.Common.{◌≡◌, None, true, false, sym, ap, subst, ◌�
 use Rattle.std.proofs.lemmas.Result.{err_from_is_err_and}
 use Rattle.mot_carousel.specs.Gap.{AreReordered}
 use Rattle.mot_repository.specs.Outcome.{has_long_name, start_of}
-use Rattle.mot_repository.specs.Inner.InOrder.{view_with}
+use Rattle.mot_repository.specs.Inner.Fold.{view_with}
 use Rattle.mot_repository.specs.Repository.{RepositoryView}
 use Rattle.mot_repository.proofs.ByStart.{start-reordered}
 use Rattle.mot_repository.proofs.Planned.{name_refused, plan_refused, room_refused, IsWorkedOut}
 use Rattle.mot_repository.proofs.Planned.{prepared_is, kept_after}
 use Rattle.mot_journal.specs.declared.record.Record.{Record}
 use Rattle.mot_repository.proofs.prepared.prepare_change.Goals as goal
-use Rattle.mot_repository.proofs.prepared.prepare_change.Goals.{then-is_full+in_ok-given, else-is_full}
+use Rattle.mot_repository.proofs.prepared.prepare_change.Goals.{then-is_full+in_ok-given}
+use Rattle.mot_repository.proofs.prepared.prepare_change.Goals.{else-is_full}
 
 pub returns-then-is_name_too_long-clause-refused : goal.returns-then-is_name_too_long-clause-refused
 returns-then-is_name_too_long-clause-refused c = λ view k going.

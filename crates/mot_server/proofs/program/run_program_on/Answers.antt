@@ -3,7 +3,7 @@ use Rattle.std.proofs.Common.{sym}
 use Rattle.std.proofs.KnownBytes.{Keeps-refl}
 use Rattle.clap.specs.Words.{Row, Text, found_of, rows_of, subcommand_of}
 use Rattle.mot_cli.proofs.Laws.{AreWrong-none, AskBy-matched, motcar_simple}
-use Rattle.mot_cli.specs.Asked.{AskBy}
+use Rattle.mot_cli.specs.Given.{AskBy}
 use Rattle.mot_cli.specs.Command.{motcar_app}
 use Rattle.mot_cli.specs.Task.{AskForNothing, IsTask, IsWhy, LackOption}
 use Rattle.mot_cli.specs.declared.task.NoTask.{NoTask}
@@ -22,9 +22,8 @@ use Rattle.mot_server.proofs.Asking.{number_of_named}
 use Rattle.mot_server.proofs.Coming.{runs}
 use Rattle.mot_server.proofs.Idle.{explained_idle, taskless_idle}
 use Rattle.mot_server.proofs.program.run_program_on.Goals as goal
-use Rattle.mot_server.specs.Inner.Coming.{TellsWhy}
-use Rattle.mot_server.specs.Program.{Ends, IsBeginningRefusal, RunsTo, Uses}
-use Rattle.mot_server.specs.Program.{refused_number}
+use Rattle.mot_server.specs.Inner.{TellsWhy}
+use Rattle.mot_server.specs.Program.{Ends, IsBeginningRefusal, RunsTo, Uses, refused_number}
 
 -- ---- words that are wrong, or ask for help
 

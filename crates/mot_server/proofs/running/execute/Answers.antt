@@ -4,21 +4,20 @@ use Rattle.std.specs.Io.KnownBytes.{Keeps}
 use Rattle.mot_air.specs.Commands.{IsUnplayed, PlaysTask}
 use Rattle.mot_sync_command.specs.Commands.{IsUnsynced, SyncsTask}
 use Rattle.mot_cli.specs.declared.task.Task.{Task}
-use Rattle.mot_cli.specs.declared.task.Task.TheVariants.{Memory, Format, Copy, Play, Sync}
-use Rattle.mot_cli.specs.declared.task.Task.TheVariants.{Health}
+use Rattle.mot_cli.specs.declared.task.Task.TheVariants.{Memory, Format, Copy, Play, Sync, Health}
 use Rattle.mot_cli.specs.declared.task.Task.TheVariants.{PutFiles, WithdrawNames, OnDisk}
 use Rattle.mot_commands.specs.Commands.{DoesOnFile, FormatsFile, FormatsFree, IsUnformatted}
 use Rattle.mot_commands.specs.Commands.{IsUnmade, ServesMemory, only_looks}
 use Rattle.mot_commands.specs.Changing.{PutsFiles, WithdrawsFile, texts}
 use Rattle.mot_commands.specs.Health.{TellsHealth}
 use Rattle.mot_copy_command.specs.Command.{CopiesFile, OpensTwo}
-use Rattle.mot_endpoints.specs.Types.{IsUntyped}
+use Rattle.mot_endpoints.specs.Texts.{IsUntyped}
 use Rattle.mot_files.specs.Call.{Call}
 use Rattle.mot_numbers.specs.declared.refusal.Refusal.{Refusal}
 use Rattle.mot_numbers.specs.declared.refusal.Refusal.TheVariants.{DeviceFault, OutOfMemory}
 use Rattle.mot_outcome.specs.Outcome.{OpensOrReads, status_in}
 use Rattle.mot_playout.specs.Attempts.{fault_of}
-use Rattle.mot_server.specs.Inner.Coming.{ComesOut}
+use Rattle.mot_server.specs.Inner.{ComesOut}
 use Rattle.mot_server.specs.Program.{UsesFor}
 use Rattle.mot_server.proofs.Coming.{comes_so, comes_whole, fault_whole, opens_whole}
 use Rattle.mot_server.proofs.running.execute.Goals as goal

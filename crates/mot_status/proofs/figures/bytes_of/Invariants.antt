@@ -1,5 +1,5 @@
 use Rattle.std.proofs.Common.{◌≡◌, min, take}
-use Rattle.mot_status.specs.Inner.Figures.{bytes_of}
+use Rattle.mot_status.specs.Inner.{bytes_of}
 use Rattle.mot_status.proofs.figures.bytes_of.Given as goal
 
 abbrev pub invariant-loop-object : goal.invariant-loop-object

@@ -1,6 +1,6 @@
 use Rattle.std.proofs.Common.{inl, sym}
 use Rattle.std.proofs.lemmas.Result.{err_from_is_err_and}
-use Rattle.mot_lines.specs.Words.{words_of}
+use Rattle.mot_lines.specs.Fields.{words_of}
 use Rattle.mot_suffixes.proofs.types.type_of_line.Goals as goal
 use Rattle.mot_suffixes.proofs.Said.{said-all, said-content, said-mime, said-suffix, words-wrong}
 

@@ -1,5 +1,5 @@
 use Rattle.std.proofs.Common.{◌≡◌, Err, inl, refl, subst, sym}
-use Rattle.mot_sync_command.specs.Trying.{IsUncopied}
+use Rattle.mot_sync_command.specs.Syncing.{IsUncopied}
 use Rattle.mot_sync_command.proofs.copying.copy_disk.Goals as goal
 use Rattle.mot_update.proofs.Laws.{unopened_is}
 use Rattle.mot_numbers.specs.declared.refusal.Refusal.{Refusal}

@@ -2,7 +2,7 @@ use Rattle.std.proofs.Common.{◌∙◌, Err, ap, inl, inr, refl, subst}
 use Rattle.std.specs.Io.KnownBytes.{Appends}
 use Rattle.std.specs.List.{flat_map}
 use Rattle.mot_log.specs.Text.{look_line}
-use Rattle.mot_sync_command.specs.Inner.Looked.{broken, told, untold}
+use Rattle.mot_sync_command.specs.Inner.{broken, told, untold}
 use Rattle.mot_sync_command.proofs.syncing.look_and_tell.Goals as goal
 use Rattle.mot_numbers.proofs.Laws.{same_error}
 

@@ -1,12 +1,12 @@
-use Rattle.std.proofs.Common.{ℕ, Bool, List, Option, ◌∙◌, ◌≡◌, [], ◌∷◌, ap, false, inl, refl, subst, sym, true}
+use Rattle.std.proofs.Common.{ℕ, Bool, List, Option, ◌∙◌, ◌≡◌, [], ◌∷◌, ap, false, inl, refl, subst}
+use Rattle.std.proofs.Common.{sym, true}
 use Rattle.std.proofs.KnownBytes.{Keeps-refl}
 use Rattle.std.specs.Result.{result_unwrap_or}
 use Rattle.disk_model.specs.Disk.{KeepsLength, OnlySyncs, State}
 use Rattle.disk_store.proofs.Laws.{since_opened}
 use Rattle.disk_store.specs.Begun.{begun_state}
-use Rattle.disk_store.specs.Ram.{ram_state}
-use Rattle.mot_endpoints.specs.Copies.{IsReadAlike}
-use Rattle.mot_endpoints.specs.Opened.{Need, if_given}
+use Rattle.disk_store.specs.File.{ram_state}
+use Rattle.mot_endpoints.specs.Opened.{IsReadAlike, Need, if_given}
 use Rattle.mot_folder.specs.Guard.{guard_of}
 use Rattle.mot_folder.specs.declared.guard.Guard.{Guard}
 use Rattle.mot_files.specs.Call.{Call}

@@ -1,7 +1,7 @@
 use Rattle.std.proofs.Common.{List, false, inl, sym, subst}
 use Rattle.std.proofs.KnownBytes.{Keeps-refl}
 use Rattle.std.specs.Result.{result_unwrap_or}
-use Rattle.mot_sync_command.specs.Inner.Looked.{LooksAndTells}
+use Rattle.mot_sync_command.specs.Inner.{LooksAndTells}
 use Rattle.mot_sync_command.specs.Syncing.{Syncs}
 use Rattle.mot_folder.specs.declared.known.Known.{Known}
 use Rattle.mot_sync_command.proofs.Synced.{syncs}

@@ -3,7 +3,7 @@ use Rattle.std.proofs.KnownBytes.{Keeps-refl}
 use Rattle.std.specs.Prelude.{IsSomeAnd}
 use Rattle.mot_numbers.specs.declared.refusal.Refusal.{Refusal}
 use Rattle.mot_playout.specs.Attempts.{fault_of}
-use Rattle.mot_sync_command.specs.Trying.{IsUncopied}
+use Rattle.mot_sync_command.specs.Syncing.{IsUncopied}
 use Rattle.mot_sync_command.proofs.trying.try_disk.Goals as goal
 
 pub returns : goal.returns

@@ -1,14 +1,13 @@
-use Rattle.std.proofs.Common.{◌≡◌, ◌∙◌, ◌≤◌, ◌<◌, ◌-◌, ℕ, length, None, Ok, Option, Some, []}
-use Rattle.std.proofs.Common.{◌∷◌, refl, sym, ap, subst, arith}
+use Rattle.std.proofs.Common.{◌≡◌, ◌∙◌, ◌≤◌, ◌<◌, ◌-◌, ℕ, length, None, Ok, Option, Some, [], ◌∷◌}
+use Rattle.std.proofs.Common.{refl, sym, ap, subst, arith}
 use Rattle.std.proofs.lemmas.Option.{slice_get_within}
 use Rattle.std.specs.Prelude.{slice_get}
-use Rattle.disk_model.proofs.Laws.{keeps_none, keeps_on}
-use Rattle.disk_model.proofs.Laws.{unchanged_none}
+use Rattle.disk_model.proofs.Laws.{keeps_none, keeps_on, unchanged_none}
 use Rattle.mot_numbers.proofs.Laws.{same_error}
 use Rattle.mot_journal.specs.Image.{Standing}
 use Rattle.mot_repository.specs.Repository.{Holds}
 use Rattle.mot_update.specs.HasRun.{HasRun, marks_of_settling}
-use Rattle.mot_update.specs.Inner.Taking.{IsDoneRightly, commands_if, given_if, marks_if}
+use Rattle.mot_update.specs.Inner.{IsDoneRightly, commands_if, given_if, marks_if}
 use Rattle.mot_update.specs.Looking.{Gives}
 use Rattle.mot_update.specs.declared.settling.SettleOutcome.{SettleOutcome}
 use Rattle.mot_update.specs.Told.{AreAnswers, TellsSince, answers_of}

@@ -1,12 +1,13 @@
-use Rattle.std.proofs.Common.{◌≡◌, ◌∙◌, Bool, true, false, Err, None, Ok, Result, Some, [], ap, refl}
+use Rattle.std.proofs.Common.{◌≡◌, ◌∙◌, Bool, true, false, Err, None, Ok, Result, Some, [], ap}
+use Rattle.std.proofs.Common.{refl}
 use Rattle.disk_model.specs.Disk.{State}
 use Rattle.mot_numbers.specs.declared.refusal.Refusal.{Refusal}
 use Rattle.mot_numbers.proofs.Laws.{same_error}
-use Rattle.mot_playout.specs.Server.{ServerView}
+use Rattle.mot_playout.specs.Runs.{ServerView}
 use Rattle.mot_repository.proofs.Laws.{some_standing}
 use Rattle.mot_update.specs.Faults.{StaysCalm, TellsFaults}
 use Rattle.mot_update.specs.HasRun.{marks_of_settling}
-use Rattle.mot_update.specs.Inner.Taking.{is_command}
+use Rattle.mot_update.specs.Inner.{is_command}
 use Rattle.mot_update.specs.Looking.{was_stored}
 use Rattle.mot_update.specs.declared.settling.Need.{Need}
 use Rattle.mot_update.proofs.Room.{room_for}

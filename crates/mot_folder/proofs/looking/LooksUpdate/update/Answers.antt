@@ -1,24 +1,22 @@
-use Rattle.std.proofs.Common.{◌≡◌, ◌∙◌, ◌||◌, ℕ, Bool, true, false, not, Option}
-use Rattle.std.proofs.Common.{None, []}
-use Rattle.std.proofs.Common.{ap, refl, sym}
+use Rattle.std.proofs.Common.{◌≡◌, ◌∙◌, ◌||◌, ℕ, Bool, true, false, not, Option, None, [], ap, refl}
+use Rattle.std.proofs.Common.{sym}
 use Rattle.disk_model.specs.Disk.{State}
 use Rattle.disk_model.proofs.Laws.{unchanged_none}
 use Rattle.mot_events.specs.Events.{is_listed}
 use Rattle.mot_folder.specs.declared.report.Report.{Report}
 use Rattle.mot_folder.specs.Looked.{HasLookedAtFolder, LooksSoFar, TellsWatch, Watch, is_look_due}
-use Rattle.mot_folder.specs.Looked.{no_look, one_look, packets_left}
-use Rattle.mot_folder.specs.Looked.{packets_left_behind, so_far}
+use Rattle.mot_folder.specs.Looked.{no_look, one_look, packets_left, packets_left_behind, so_far}
 use Rattle.mot_folder.specs.Looked.{watch}
 use Rattle.mot_folder.proofs.looking.LooksUpdate.update.Goals as goal
 use Rattle.mot_journal.specs.Image.{Standing}
 use Rattle.mot_numbers.specs.declared.refusal.Refusal.{Refusal}
 use Rattle.mot_playout.specs.Attempts.{fault_of}
-use Rattle.mot_playout.specs.Server.{ServerView}
+use Rattle.mot_playout.specs.Runs.{ServerView}
 use Rattle.mot_shelf.proofs.Laws.{gives_path}
 use Rattle.mot_shelf.specs.Given.{nothing}
 use Rattle.mot_shelf.specs.Gives.{GaveSo}
 use Rattle.mot_shelf.specs.Reader.{view}
-use Rattle.mot_update.specs.Between.{IsUpdating, may_look}
+use Rattle.mot_update.specs.HasRun.{IsUpdating, may_look}
 use Rattle.mot_update.specs.declared.moment.UpdatePoint.{UpdatePoint}
 use Rattle.mot_update.proofs.Laws.{has_read}
 

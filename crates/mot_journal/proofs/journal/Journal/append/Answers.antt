@@ -1,13 +1,12 @@
 use Rattle.mot_journal.proofs.Calls.{fails, succeeds}
-use Rattle.std.proofs.Common.{ℕ, ◌+◌, ◌<◌}
+use Rattle.std.proofs.Common.{ℕ, ◌+◌, ◌<◌, ◌≡◌, ◌≤◌, true, List, ◌++◌, [], ◌∷◌, length, Some, Ok}
+use Rattle.std.proofs.Common.{refl, sym, ◌∙◌, ap, subst, arith, length-append}
 use Rattle.mot_journal.specs.declared.layout.Layout.{Layout}
 use Rattle.mot_journal.specs.declared.layout.Layout.TheVariants.{One, Two}
-use Rattle.mot_journal.specs.Inner.Places.{start_of_slot}
+use Rattle.mot_journal.specs.Inner.Steps.{start_of_slot}
 use Rattle.mot_journal.proofs.Fill.{slot_ends}
 use Rattle.mot_numbers.specs.Geometry.{area_start, length_of}
 use Rattle.mot_numbers.specs.declared.geometry.Geometry.{Geometry}
-use Rattle.std.proofs.Common.{◌≡◌, ◌≤◌, true, List, ◌++◌, [], ◌∷◌, length, Some, Ok, refl, sym}
-use Rattle.std.proofs.Common.{◌∙◌, ap, subst, arith, length-append}
 use Rattle.disk_model.specs.Disk.{Throughout}
 use Rattle.mot_journal.specs.declared.record.Record.{Record}
 use Rattle.mot_journal.specs.Slot.{is_sound, read_slot, slot_size, bytes_of_slot}

@@ -1,7 +1,8 @@
-use Rattle.std.proofs.Common.{ℕ, ◌≤◌, Bool, List, MatchOption, None, Option, Some, false, length, refl}
+use Rattle.std.proofs.Common.{ℕ, ◌≤◌, Bool, List, MatchOption, None, Option, Some, false, length}
+use Rattle.std.proofs.Common.{refl}
 use Rattle.std.specs.Option.{unwrap_or}
-use Rattle.mot_line_folder.specs.Inner.Said.{IsDue, IsNew, IsUntold}
-use Rattle.mot_line_folder.specs.Inner.Said.IsNew.{due, full}
+use Rattle.mot_line_folder.specs.Inner.{IsDue, IsNew, IsUntold}
+use Rattle.mot_line_folder.specs.Inner.IsNew.{due, full}
 use Rattle.mot_line_folder.specs.declared.said.Stamp.{Stamp}
 use Rattle.mot_line_folder.specs.declared.said.Told.{Told}
 use Rattle.mot_line_folder.proofs.said.Said.is_new.Goals as goal

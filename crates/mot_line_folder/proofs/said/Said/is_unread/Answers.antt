@@ -1,6 +1,6 @@
 use Rattle.std.proofs.Common.{refl, sym}
-use Rattle.mot_line_folder.specs.Inner.Said.IsUnread.{told}
-use Rattle.mot_line_folder.specs.Inner.Said.Remembers.{by}
+use Rattle.mot_line_folder.specs.Inner.IsUnread.{told}
+use Rattle.mot_line_folder.specs.Inner.Remembers.{by}
 use Rattle.mot_line_folder.proofs.Told.{set_contains}
 use Rattle.mot_line_folder.proofs.said.Said.is_unread.Goals as goal
 

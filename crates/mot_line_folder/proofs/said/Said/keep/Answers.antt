@@ -1,7 +1,7 @@
 use Rattle.std.proofs.Common.{[], ◌∷◌, ◌∙◌, refl, sym, subst, arith}
-use Rattle.mot_line_folder.specs.Inner.Said.{Remembers}
-use Rattle.mot_line_folder.specs.Inner.Said.IsDue.{known, new}
-use Rattle.mot_line_folder.specs.Inner.Said.Remembers.{by}
+use Rattle.mot_line_folder.specs.Inner.{Remembers}
+use Rattle.mot_line_folder.specs.Inner.IsDue.{known, new}
+use Rattle.mot_line_folder.specs.Inner.Remembers.{by}
 use Rattle.mot_line_folder.proofs.Told.{not_iff, or_first, set_contains}
 use Rattle.std.proofs.lemmas.List.Elements.{Contains-append_right}
 use Rattle.mot_line_folder.proofs.said.Said.keep.Goals as goal

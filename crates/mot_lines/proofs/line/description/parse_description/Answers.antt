@@ -1,6 +1,6 @@
 use Rattle.std.proofs.Common.{sym, inl}
 use Rattle.std.proofs.lemmas.Result.{err_from_is_err_and}
-use Rattle.mot_lines.specs.Words.{words_after}
+use Rattle.mot_lines.specs.Fields.{words_after}
 use Rattle.mot_lines.proofs.Asked.{describe_name, describe_content, describe_mime, describe_body}
 use Rattle.mot_lines.proofs.Asked.{describe_all}
 use Rattle.mot_lines.proofs.Words.{description_of-others}

@@ -1,6 +1,6 @@
 use Rattle.std.proofs.Common.{◌∷◌, ◌+◌, take, drop, nat_eq, refl, sym, ap, ◌∙◌}
 use Rattle.std.proofs.lemmas.List.Splits.{slice_split_at}
-use Rattle.mot_lines.specs.Words.{words_of}
+use Rattle.mot_lines.specs.Fields.{words_of}
 use Rattle.mot_lines.proofs.Pieces.{none_before, parts_at, split_none, slice_from}
 use Rattle.mot_lines.proofs.line.words.cut_word.Goals as goal
 

@@ -3,7 +3,7 @@ use Rattle.std.specs.List.{list_all}
 use Rattle.std.specs.Char.{is_ascii_digit}
 use Rattle.std.proofs.lemmas.Bool.{eqb-true, eqb-false}
 use Rattle.std.proofs.lemmas.List.{take_all}
-use Rattle.mot_lines.specs.Words.{decimal_value}
+use Rattle.mot_lines.specs.Fields.{decimal_value}
 use Rattle.mot_lines.proofs.Numbers.{number_of_empty, number_of_long, number_of_other}
 use Rattle.mot_lines.proofs.Numbers.{number_of_digits, decimal_value-more, digits-more, digit-high}
 use Rattle.mot_lines.proofs.Numbers.{power-more}

@@ -1,7 +1,7 @@
 use Rattle.std.proofs.Common.{◌≡◌, true, ◌≤◌, ◌<◌, ◌^◌, take, length}
 use Rattle.std.specs.List.{list_all}
 use Rattle.std.specs.Char.{is_ascii_digit}
-use Rattle.mot_lines.specs.Words.{decimal_value}
+use Rattle.mot_lines.specs.Fields.{decimal_value}
 use Rattle.mot_lines.proofs.line.words.parse_number.Given as goal
 
 abbrev pub invariant-loop-digit : goal.invariant-loop-digit

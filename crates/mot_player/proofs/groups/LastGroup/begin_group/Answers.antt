@@ -1,7 +1,7 @@
 use Rattle.std.proofs.Common.{◌≡◌, ℕ, List, Some, ◌++◌, ap, ◌∙◌}
 use Rattle.mot_groups.specs.Group.{bytes_of_group, group_of, segment_content}
-use Rattle.mot_numbers.specs.GroupKind.{kind_number}
-use Rattle.mot_player.specs.LastGroup.{kept_last}
+use Rattle.mot_numbers.specs.PacketLength.{kind_number}
+use Rattle.mot_player.specs.PlayerView.{kept_last}
 use Rattle.mot_player.specs.Place.{next_index}
 use Rattle.mot_player.proofs.groups.LastGroup.begin_group.Goals as goal
 

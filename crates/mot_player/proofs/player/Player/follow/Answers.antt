@@ -1,12 +1,11 @@
 use Rattle.std.proofs.Common.{◌≡◌, ◌<◌, ◌∙◌, ap, sym, subst, ℕ, length, Bool, true, false, refl}
 use Rattle.std.specs.Prelude.{if◌then◌else◌, is_some}
 use Rattle.mot_player.specs.Course.{CourseView}
-use Rattle.mot_player.specs.Followable.{IsFollowable}
+use Rattle.mot_player.specs.Turn.{IsFollowable, Turn}
 use Rattle.mot_player.specs.Inner.Ready.{place_with}
 use Rattle.mot_player.specs.Place.{Place, change_turn, changed, follow}
 use Rattle.mot_player.specs.PlayerView.{AreBodiesFor, PlayerView, place_of, turn_with}
 use Rattle.mot_player.specs.State.{view_of}
-use Rattle.mot_player.specs.Turn.{Turn}
 use Rattle.mot_player.specs.declared.state.State.{State}
 use Rattle.mot_player.proofs.player.Player.follow.Goals as goal
 

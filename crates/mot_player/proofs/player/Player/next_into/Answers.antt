@@ -1,12 +1,12 @@
-use Rattle.std.proofs.Common.{◌≡◌, ◌∙◌, ◌<◌, ℕ, List, Some, false, ap, arith, refl}
-use Rattle.std.proofs.Common.{sym, subst, Bool, Result, Ok, None, eq-eqb, true}
+use Rattle.std.proofs.Common.{◌≡◌, ◌∙◌, ◌<◌, ℕ, List, Some, false, ap, arith, refl, sym, subst}
+use Rattle.std.proofs.Common.{Bool, Result, Ok, None, eq-eqb, true}
 use Rattle.std.specs.Prelude.{◌==◌, IfSome, if◌then◌else◌}
 use Rattle.mot_numbers.specs.declared.refusal.Refusal.{Refusal}
 use Rattle.mot_numbers.proofs.Laws.{same_error}
 use Rattle.mot_packets.specs.Packet.{read_packet}
 use Rattle.mot_packets.specs.Written.{bytes_of_packet}
 use Rattle.mot_player.specs.AnyBodies.{IsStepOfSome}
-use Rattle.mot_player.specs.Bodies.{ReadsBodies}
+use Rattle.mot_player.specs.Turn.{ReadsBodies}
 use Rattle.mot_player.specs.Laws.{IsStep, blank_bodies, bytes_due, bytes_left}
 use Rattle.mot_player.specs.Inner.Ready.{HasTaken, place_with}
 use Rattle.mot_player.specs.State.{view_of}

@@ -8,9 +8,8 @@ use Rattle.mot_player.specs.Inner.Course.{passed}
 use Rattle.mot_player.specs.Inner.Next.{IsNext, TakesEarly, segment_of}
 use Rattle.mot_player.specs.Inner.Entities.{IsOnCourse, entity_bytes, entity_tid}
 use Rattle.mot_player.specs.Inner.Ready.{IsFitted, HasBegun, HasTaken}
-use Rattle.mot_player.specs.LastGroup.{kept_last}
+use Rattle.mot_player.specs.PlayerView.{kept_last, AreBodiesFor, turn_with}
 use Rattle.mot_player.specs.Place.{next_index}
-use Rattle.mot_player.specs.PlayerView.{AreBodiesFor, turn_with}
 use Rattle.mot_player.specs.declared.course.Course.{Course}
 use Rattle.mot_player.specs.declared.groups.LastGroup.{LastGroup}
 use Rattle.mot_player.specs.declared.part.Part.{Part}

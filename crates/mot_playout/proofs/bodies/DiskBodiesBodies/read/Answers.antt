@@ -2,11 +2,11 @@ use Rattle.std.proofs.Common.{◌≡◌, ◌<◌, ◌≤◌, ◌+◌, ℕ, List,
 use Rattle.std.proofs.lemmas.List.{length-map}
 use Rattle.std.specs.Prelude.{OnOk, slice_range}
 use Rattle.mot_numbers.specs.Geometry.{area_start}
-use Rattle.mot_player.specs.Bodies.{body_at}
+use Rattle.mot_player.specs.Turn.{body_at}
 use Rattle.mot_repository.specs.OnDisk.{body_on, extent_at}
 use Rattle.mot_repository.specs.Repository.{RepositoryView}
 use Rattle.mot_playout.proofs.Extents.{bodies_on-lengths, body_at-length, body_at-whole}
-use Rattle.mot_playout.specs.Inner.Bodies.{bodies_on}
+use Rattle.mot_playout.specs.Inner.{bodies_on}
 use Rattle.mot_playout.proofs.bodies.DiskBodiesBodies.read.Given as given
 use Rattle.mot_playout.proofs.bodies.DiskBodiesBodies.read.Goals as goal
 use Rattle.mot_playout.proofs.bodies.DiskBodiesBodies.read.Goals.{After-read_body}

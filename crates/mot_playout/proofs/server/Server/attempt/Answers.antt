@@ -1,6 +1,5 @@
 use Rattle.std.proofs.Common.{◌≡◌, ◌∙◌, ◌⊎◌, inl, inr, refl, sym, ap, subst, [], ◌∷◌, true, false}
-use Rattle.std.proofs.Common.{None}
-use Rattle.std.proofs.Common.{Result, Ok, Err}
+use Rattle.std.proofs.Common.{None, Result, Ok, Err}
 use Rattle.std.proofs.Math.Nat.{le_refl}
 use Rattle.disk_model.specs.Disk.{State}
 use Rattle.mot_numbers.specs.declared.refusal.Refusal.{Refusal}
@@ -10,7 +9,7 @@ use Rattle.mot_objects.specs.declared.command.Done.{Done}
 use Rattle.mot_repository.specs.Answers.{IsAnswered, accepted, failed, refused}
 use Rattle.mot_repository.specs.Repository.{RepositoryView}
 use Rattle.mot_playout.specs.RunEnds.{is_run_ending}
-use Rattle.mot_playout.specs.Server.{ServerView, place_in}
+use Rattle.mot_playout.specs.Runs.{ServerView, place_in}
 use Rattle.mot_playout.proofs.Answered.{ends_here, goes_on_false, goes_on_true, going_at, run_fault}
 use Rattle.mot_playout.proofs.Places.{any_last, stays_there, turns_there}
 use Rattle.mot_playout.proofs.Runs.{after_none, begins, rests}

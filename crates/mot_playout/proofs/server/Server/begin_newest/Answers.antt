@@ -6,7 +6,7 @@ use Rattle.mot_objects.specs.declared.carousel.Carousel.{Carousel}
 use Rattle.mot_player.specs.PlayerView.{PlayerView, place_of, turn_with}
 use Rattle.mot_player.specs.Start.{begin_with, newest}
 use Rattle.mot_repository.specs.Repository.{Agrees, RepositoryView}
-use Rattle.mot_playout.specs.Server.{bodies_of}
+use Rattle.mot_playout.specs.Runs.{bodies_of}
 use Rattle.mot_playout.proofs.Turns.{bodies_kept, plays_of}
 use Rattle.mot_playout.proofs.server.Server.begin_newest.Goals as goal
 

@@ -1,4 +1,4 @@
-use Rattle.mot_playout.specs.Server.{bodies_of}
+use Rattle.mot_playout.specs.Runs.{bodies_of}
 use Rattle.mot_playout.proofs.server.Server.directory_packets.Goals as goal
 
 pub returns-clause-value : goal.returns-clause-value

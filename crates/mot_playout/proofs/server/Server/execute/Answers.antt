@@ -5,11 +5,9 @@ use Rattle.disk_model.specs.Disk.{Costs, Keeps, Throughout}
 use Rattle.mot_journal.specs.Image.{Standing}
 use Rattle.mot_numbers.specs.declared.refusal.Refusal.{Refusal}
 use Rattle.mot_objects.specs.declared.command.Done.{Done}
-use Rattle.mot_repository.specs.Cost.{calls_of_command}
-use Rattle.mot_repository.specs.Outcome.{after_command}
+use Rattle.mot_repository.specs.Outcome.{calls_of_command, after_command}
 use Rattle.std.proofs.lemmas.Result.{IfOk-from_err, MatchResult-from_err}
-use Rattle.disk_model.proofs.Laws.{begins, keeps_none}
-use Rattle.disk_model.proofs.Laws.{unchanged_none}
+use Rattle.disk_model.proofs.Laws.{begins, keeps_none, unchanged_none}
 use Rattle.mot_numbers.specs.declared.geometry.Geometry.{Geometry}
 use Rattle.mot_numbers.proofs.Laws.{same_error}
 use Rattle.mot_player.specs.Place.{change_turn, changed}
@@ -17,7 +15,7 @@ use Rattle.mot_player.specs.PlayerView.{PlayerView, TurnPlan, place_of, turn_wit
 use Rattle.mot_player.specs.Turn.{turn_of_carousel}
 use Rattle.mot_repository.proofs.Laws.{accepted_parts}
 use Rattle.mot_repository.specs.Repository.{Agrees, Holds, IsBeforeOrAfter, RepositoryView}
-use Rattle.mot_playout.specs.Server.{ServerView, bodies_of}
+use Rattle.mot_playout.specs.Runs.{ServerView, bodies_of}
 use Rattle.mot_repository.specs.Answers.{IsAnswered, IsChanged, IsRefusal, accepted, refused}
 use Rattle.mot_repository.specs.Answers.{failed}
 use Rattle.mot_playout.proofs.Going.{OnErr-always}

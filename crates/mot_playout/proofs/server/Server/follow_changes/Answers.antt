@@ -1,7 +1,7 @@
 use Rattle.std.proofs.Common.{◌≡◌, ap, ◌∙◌, refl}
 use Rattle.mot_player.specs.Place.{following}
 use Rattle.mot_player.specs.PlayerView.{PlayerView, place_of}
-use Rattle.mot_playout.specs.Server.{bodies_of}
+use Rattle.mot_playout.specs.Runs.{bodies_of}
 use Rattle.mot_playout.proofs.Turns.{plays_of}
 use Rattle.mot_playout.proofs.server.Server.follow_changes.Goals as goal
 

@@ -2,7 +2,7 @@ use Rattle.std.proofs.Common.{◌≡◌, ◌∙◌, ap, not, refl, subst, sym}
 use Rattle.std.specs.Prelude.{◌==◌}
 use Rattle.mot_player.specs.PlayerView.{PlayerView, place_of}
 use Rattle.mot_repository.specs.Repository.{Agrees, RepositoryView}
-use Rattle.mot_playout.specs.Server.{bodies_of}
+use Rattle.mot_playout.specs.Runs.{bodies_of}
 use Rattle.mot_playout.proofs.Turns.{bodies_kept}
 use Rattle.mot_playout.proofs.server.Server.has_early.Goals as goal
 

@@ -2,7 +2,7 @@ use Rattle.std.proofs.Common.{◌≡◌, ap, ◌∙◌, refl, subst, sym}
 use Rattle.mot_player.specs.Place.{hear_directory}
 use Rattle.mot_player.specs.PlayerView.{PlayerView, place_of}
 use Rattle.mot_repository.specs.Repository.{Agrees, RepositoryView}
-use Rattle.mot_playout.specs.Server.{bodies_of}
+use Rattle.mot_playout.specs.Runs.{bodies_of}
 use Rattle.mot_playout.proofs.Turns.{bodies_kept, plays_of}
 use Rattle.mot_playout.proofs.server.Server.hear_directory.Goals as goal
 

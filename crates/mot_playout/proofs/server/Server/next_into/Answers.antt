@@ -1,14 +1,13 @@
-use Rattle.std.proofs.Common.{◌≡◌, ◌∙◌, ◌<◌, ℕ, Bool, false, List, refl, sym, subst}
-use Rattle.std.proofs.Common.{le-add_right}
+use Rattle.std.proofs.Common.{◌≡◌, ◌∙◌, ◌<◌, ℕ, Bool, false, List, refl, sym, subst, le-add_right}
 use Rattle.std.specs.Prelude.{IfOk}
 use Rattle.disk_model.proofs.Laws.{reads_none, reads_once}
 use Rattle.mot_journal.specs.Image.{Standing}
 use Rattle.mot_player.specs.Laws.{IsStep, bytes_left}
 use Rattle.mot_player.specs.PlayerView as player
 use Rattle.mot_repository.specs.Repository.{HasStanding}
-use Rattle.mot_playout.specs.Inner.Bodies.{bodies_on}
+use Rattle.mot_playout.specs.Inner.{bodies_on}
 use Rattle.mot_playout.specs.Playing.IsReadRefusal.{halted}
-use Rattle.mot_playout.specs.Server.{bodies_of}
+use Rattle.mot_playout.specs.Runs.{bodies_of}
 use Rattle.mot_playout.proofs.Read.{are_bodies_on, bodies_held}
 use Rattle.mot_playout.proofs.ReadRefusals.{at_once, read_refused}
 use Rattle.mot_playout.proofs.server.Server.next_into.Goals as goal

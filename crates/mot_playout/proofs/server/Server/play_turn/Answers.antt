@@ -9,14 +9,12 @@ use Rattle.mot_player.specs.AnyBodies.{IsStepOfSome, PlaysOn, PlaysToTheEnd}
 use Rattle.mot_player.specs.PlayerView as player
 use Rattle.mot_repository.specs.Repository.{HasStanding, Holds}
 use Rattle.mot_repository.proofs.Laws.{read_standing}
-use Rattle.mot_playout.specs.Playing.{IsGoing}
-use Rattle.mot_playout.specs.Playing.{HasPlayed, HasPlayedTurn, bytes_of_packets}
+use Rattle.mot_playout.specs.Playing.{IsGoing, HasPlayed, HasPlayedTurn, bytes_of_packets}
 use Rattle.mot_playout.specs.Playing.IsTurnRefusal.{halted, no_memory}
-use Rattle.mot_playout.specs.Server.{bodies_of, place_in}
-use Rattle.mot_playout.proofs.Going.{HasPlayed-more, HasPlayedTurn-ended, IsGoing-more, IsGoing-none}
-use Rattle.mot_playout.proofs.Going.{MatchResult-failed, OnErr-always, PlaysOn-more}
-use Rattle.mot_playout.proofs.Going.{bytes_of_packets-more, plays_one_more}
-use Rattle.mot_playout.proofs.Going.{HasPlayed-none}
+use Rattle.mot_playout.specs.Runs.{bodies_of, place_in}
+use Rattle.mot_playout.proofs.Going.{HasPlayed-more, HasPlayedTurn-ended, IsGoing-more}
+use Rattle.mot_playout.proofs.Going.{IsGoing-none, MatchResult-failed, OnErr-always, PlaysOn-more}
+use Rattle.mot_playout.proofs.Going.{bytes_of_packets-more, plays_one_more, HasPlayed-none}
 use Rattle.mot_playout.proofs.Read.{standing_still}
 use Rattle.mot_playout.proofs.ReadRefusals.{turn_of_read, fault_of_read}
 use Rattle.mot_playout.proofs.Whole.{turn_reads}

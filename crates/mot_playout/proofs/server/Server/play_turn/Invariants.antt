@@ -4,9 +4,8 @@ use Rattle.mot_journal.specs.Image.{Standing}
 use Rattle.mot_player.specs.AnyBodies.{PlaysOn}
 use Rattle.mot_player.specs.Laws.{bytes_left}
 use Rattle.mot_repository.specs.Repository.{Holds}
-use Rattle.mot_playout.specs.Playing.{IsGoing}
-use Rattle.mot_playout.specs.Playing.{bytes_of_packets}
-use Rattle.mot_playout.specs.Server.{place_in}
+use Rattle.mot_playout.specs.Playing.{IsGoing, bytes_of_packets}
+use Rattle.mot_playout.specs.Runs.{place_in}
 use Rattle.mot_playout.proofs.server.Server.play_turn.Given as goal
 
 abbrev pub invariant-loop-packets : goal.invariant-loop-packets

@@ -5,10 +5,8 @@ use Rattle.std.specs.Global.{Vec}
 use Rattle.std.proofs.lemmas.Option.{slice_get_read}
 use Rattle.disk_model.proofs.Laws.{keeps_all_on}
 use Rattle.mot_numbers.specs.declared.refusal.Refusal.TheVariants.{OutOfMemory}
-use Rattle.mot_playout.specs.RunEnds.{RunLeaves}
-use Rattle.mot_playout.specs.RunEnds.{place_behind}
-use Rattle.mot_playout.specs.Runs.{accepted_commands, IsAfter}
-use Rattle.mot_playout.specs.Server.{place_in}
+use Rattle.mot_playout.specs.RunEnds.{RunLeaves, place_behind}
+use Rattle.mot_playout.specs.Runs.{accepted_commands, IsAfter, place_in}
 use Rattle.mot_playout.proofs.Places.{begins_anew, none_done, stays_there, turns_there}
 use Rattle.mot_playout.proofs.Runs.{Reached, begins, rests, one_longer, marks_after, accepted-true}
 use Rattle.mot_playout.proofs.Runs.{accepted-false}
@@ -16,12 +14,12 @@ use Rattle.mot_playout.specs.RunAnswers.{AreAnswered}
 use Rattle.mot_playout.proofs.RunAnswered.{answered_true, answered_false, answered_end}
 use Rattle.mot_playout.proofs.RunAnswered.{answered_halted, answered_no_memory, answered_whole}
 use Rattle.mot_playout.proofs.RunAnswered.{keeps_layout}
-use Rattle.mot_playout.proofs.Answered.{goes_on_true, goes_on_false, ends_here, run_fault, as_halted}
-use Rattle.mot_playout.proofs.Answered.{no_fault_in, no_fault_of}
+use Rattle.mot_playout.proofs.Answered.{goes_on_true, goes_on_false, ends_here, run_fault}
+use Rattle.mot_playout.proofs.Answered.{as_halted, no_fault_in, no_fault_of}
 use Rattle.mot_playout.proofs.server.Server.run.Given as given
 use Rattle.mot_playout.proofs.server.Server.run.Goals as goal
-use Rattle.mot_playout.proofs.server.Server.run.Goals.{After-execute}
-use Rattle.mot_playout.proofs.server.Server.run.Goals.{in-Ok-execute, in-Err+else-ends_run}
+use Rattle.mot_playout.proofs.server.Server.run.Goals.{After-execute, in-Ok-execute}
+use Rattle.mot_playout.proofs.server.Server.run.Goals.{in-Err+else-ends_run}
 
 -- the command of this round is the one behind those that have marks
 command_at : (g : given.Over) (c : After-execute g)

@@ -5,8 +5,7 @@ use Rattle.mot_journal.specs.Image.{Standing}
 use Rattle.mot_repository.specs.Repository.{Holds}
 use Rattle.mot_playout.specs.RunAnswers.{AreAnswered}
 use Rattle.mot_playout.specs.RunEnds.{place_behind}
-use Rattle.mot_playout.specs.Runs.{accepted_commands, IsAfter}
-use Rattle.mot_playout.specs.Server.{place_in}
+use Rattle.mot_playout.specs.Runs.{accepted_commands, IsAfter, place_in}
 use Rattle.mot_playout.proofs.Runs.{Reached}
 use Rattle.mot_playout.proofs.server.Server.run.Given as goal
 

@@ -1,21 +1,20 @@
 use Rattle.std.proofs.Common.{All, ◌≡◌, List, length, inr, refl, sym, subst, ◌∙◌, arith, rules}
+use Rattle.std.proofs.Common.{Result, Err, ap}
 use Rattle.std.proofs.lemmas.Iterator.Consumers.{YieldsList-turn, YieldsList-end}
 use Rattle.std.proofs.lemmas.Iterator.Adapters.{YieldsList-from_vec}
 use Rattle.std.proofs.lemmas.List.{length_push, map-id}
 use Rattle.std.proofs.lemmas.List.Elements.{All-push}
 use Rattle.mot_journal.specs.declared.record.Record.{Record}
-use Rattle.mot_journal.specs.Catalogue.{Catalogue}
+use Rattle.mot_journal.specs.Catalogue.{Catalogue, is_consistent, new_catalogue}
 use Rattle.mot_repository.specs.Inner.Extents.{catalogue_with}
-use Rattle.mot_repository.specs.Inner.Planned.{IsTyped}
+use Rattle.mot_repository.specs.Inner.Prepared.{IsTyped}
 use Rattle.mot_repository.proofs.Folding.{is_step}
 use Rattle.mot_repository.proofs.FoldSteps.{IsNext, is_next, fold_goes_on, fold_breaks, fold_ends}
 use Rattle.mot_repository.proofs.FoldSteps.{breaks_there, folds_so_far, fold_none, folded}
-use Rattle.mot_journal.specs.Catalogue.{is_consistent, new_catalogue}
 use Rattle.mot_repository.specs.Inner.Faults.{IsFoldReason}
 use Rattle.mot_journal.specs.declared.reason.Fault.{Fault}
 use Rattle.mot_numbers.specs.declared.refusal.Refusal.{Refusal}
 use Rattle.mot_numbers.specs.declared.refusal.Refusal.TheVariants.{Damaged}
-use Rattle.std.proofs.Common.{Result, Err, ap}
 use Rattle.std.specs.Prelude.{IfSome}
 use Rattle.mot_repository.proofs.opening.fold.fold_records.Goals as goal
 use Rattle.mot_repository.proofs.opening.fold.fold_records.Goals.{In-Some}

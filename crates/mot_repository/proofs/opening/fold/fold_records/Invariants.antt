@@ -3,7 +3,7 @@ use Rattle.mot_journal.specs.Image.{catalogue_of, fold_from}
 use Rattle.mot_journal.specs.Catalogue.{is_consistent}
 use Rattle.mot_repository.specs.Inner.Extents.{catalogue_with}
 use Rattle.mot_repository.specs.Inner.Bounds.{AreWithin}
-use Rattle.mot_repository.specs.Inner.Planned.{IsTyped}
+use Rattle.mot_repository.specs.Inner.Prepared.{IsTyped}
 use Rattle.mot_repository.proofs.opening.fold.fold_records.Given as goal
 
 -- the records that are left, folded over what it is by now, give what all of them give

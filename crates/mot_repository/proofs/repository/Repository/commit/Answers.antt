@@ -6,7 +6,7 @@ use Rattle.disk_model.specs.Disk.{State, Costs}
 use Rattle.mot_journal.specs.Image.{Standing}
 use Rattle.mot_objects.specs.declared.command.Done.{Done}
 use Rattle.mot_repository.specs.Answers.{IsChanged, IsHalted}
-use Rattle.mot_repository.specs.Inner.InOrder.{view_with}
+use Rattle.mot_repository.specs.Inner.Fold.{view_with}
 use Rattle.mot_repository.specs.Inner.Prepared.{IsPreparedFor}
 use Rattle.mot_repository.specs.Outcome.{after_command}
 use Rattle.mot_repository.specs.Repository.{RepositoryView, Holds, IsBeforeOrAfter}

@@ -1,7 +1,6 @@
 use Rattle.std.proofs.Common.{◌∙◌, sym, subst}
 use Rattle.std.proofs.lemmas.Result.{IfOk-weaker}
-use Rattle.mot_repository.specs.Inner.InOrder.{IsInOrder}
-use Rattle.mot_repository.specs.Inner.InOrder.{view_with}
+use Rattle.mot_repository.specs.Inner.Fold.{IsInOrder, view_with}
 use Rattle.mot_repository.proofs.Places.{stands_where}
 use Rattle.mot_repository.proofs.repository.Repository.is_clean.Goals as goal
 

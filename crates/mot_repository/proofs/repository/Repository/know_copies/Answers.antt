@@ -1,7 +1,7 @@
 use Rattle.std.proofs.Common.{◌≤◌, length, ap, subst, arith}
 use Rattle.mot_repository.specs.Copy.{CopiesAreSound}
 use Rattle.mot_repository.specs.Inner.Extents.{bytes_of_bodies}
-use Rattle.mot_repository.specs.Inner.InOrder.{view_with}
+use Rattle.mot_repository.specs.Inner.Fold.{view_with}
 use Rattle.mot_repository.specs.Repository.{RepositoryView}
 use Rattle.mot_repository.proofs.Copied.{are_of_copy, bytes-same}
 use Rattle.mot_repository.proofs.repository.Repository.know_copies.Goals as goal

@@ -1,14 +1,12 @@
-use Rattle.std.proofs.Common.{◌≡◌, ◌∙◌, refl, sym, ap, subst, arith}
-use Rattle.std.proofs.Common.{true, false, ℕ, ◌≤◌}
+use Rattle.std.proofs.Common.{◌≡◌, ◌∙◌, refl, sym, ap, subst, arith, true, false, ℕ, ◌≤◌}
 use Rattle.disk_model.proofs.Laws.{at_end}
 use Rattle.mot_journal.specs.declared.layout.Layout.{Layout}
 use Rattle.mot_journal.specs.declared.layout.Layout.TheVariants.{One, Two}
 use Rattle.mot_journal.specs.Journal.{JournalView}
 use Rattle.mot_repository.specs.Answers.{failed}
 use Rattle.mot_repository.specs.Inner.Extents.{catalogue_with}
-use Rattle.mot_repository.specs.Inner.InOrder.{IsInOrder}
+use Rattle.mot_repository.specs.Inner.Fold.{IsInOrder, view_with}
 use Rattle.mot_repository.specs.Inner.Whole.{IsWhole}
-use Rattle.mot_repository.specs.Inner.InOrder.{view_with}
 use Rattle.mot_repository.specs.Repository.{RepositoryView, IsOf}
 use Rattle.mot_repository.proofs.Layouts.{migrates, whole_in_two}
 use Rattle.mot_repository.proofs.Moved.{here, folds, moments, held, rewrites}

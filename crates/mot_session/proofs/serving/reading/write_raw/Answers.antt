@@ -2,9 +2,9 @@ use Rattle.std.proofs.Common.{ap, refl, subst, sym}
 use Rattle.std.specs.List.{flat_map}
 use Rattle.mot_lines.specs.Text.{packet_line}
 use Rattle.mot_numbers.specs.declared.geometry.Geometry.{Geometry}
-use Rattle.mot_session.specs.Output.{Writes}
+use Rattle.mot_session.specs.Served.{Writes}
 use Rattle.mot_session.specs.OnAnyDisk.{no_memory, raw}
-use Rattle.mot_session.specs.Raw.{packets_at}
+use Rattle.mot_session.specs.Session.{packets_at}
 use Rattle.mot_session.proofs.serving.reading.write_raw.Goals as goal
 
 pub returns-in-Ok : goal.returns-in-Ok

@@ -7,7 +7,7 @@ use Rattle.mot_numbers.specs.Geometry.{packet_room}
 use Rattle.std.proofs.lemmas.Result.{err_from_is_err_and}
 use Rattle.mot_lines.specs.Text.{packet_line}
 use Rattle.mot_packets.proofs.Laws.{length-packets_of_group}
-use Rattle.mot_session.specs.Raw.{packets_at}
+use Rattle.mot_session.specs.Session.{packets_at}
 use Rattle.mot_session.specs.Served.{WritesFront}
 use Rattle.mot_session.proofs.Fronts.{WritesFront-after, WritesFront-before}
 use Rattle.mot_session.proofs.Joined.{lines-parts}

@@ -2,7 +2,7 @@ use Rattle.std.proofs.Common.{take}
 use Rattle.std.specs.List.{flat_map}
 use Rattle.std.specs.Io.KnownBytes.{Appends}
 use Rattle.mot_lines.specs.Text.{packet_line}
-use Rattle.mot_session.specs.Raw.{packets_at}
+use Rattle.mot_session.specs.Session.{packets_at}
 use Rattle.mot_session.proofs.serving.reply.write_packets.Given as goal
 
 abbrev pub invariant-loop-number : goal.invariant-loop-number

@@ -1,15 +1,13 @@
 use Rattle.std.proofs.Common.{◌≡◌, Ok, false, refl, sym, ap, ◌∙◌, subst}
-use Rattle.mot_lines.specs.Listing.{listing_text_beside}
-use Rattle.mot_lines.specs.Listing.{listing_text}
+use Rattle.mot_lines.specs.Listing.{listing_text_beside, listing_text}
 use Rattle.mot_lines.specs.Text.{packet_line}
 use Rattle.mot_numbers.specs.declared.geometry.Geometry.{Geometry}
 use Rattle.std.specs.List.{flat_map}
 use Rattle.mot_lines.proofs.Laws.{listing_text-beside}
 use Rattle.mot_lines.specs.declared.line.Line.TheVariants as asks
 use Rattle.mot_repository.specs.Repository.{RepositoryView}
-use Rattle.mot_session.specs.Output.{Writes}
-use Rattle.mot_session.specs.Raw.{packets_at}
-use Rattle.mot_session.specs.Session.{accepted, listing, packets, refused, text_of}
+use Rattle.mot_session.specs.Served.{Writes}
+use Rattle.mot_session.specs.Session.{packets_at, accepted, listing, packets, refused, text_of}
 use Rattle.mot_session.specs.Inner.Writes.{AnswersRequest}
 use Rattle.mot_session.specs.State.{ServerState, state_of}
 use Rattle.mot_session.proofs.Requests.{reads-none}

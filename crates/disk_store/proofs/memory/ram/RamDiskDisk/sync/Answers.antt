@@ -2,7 +2,7 @@ use Rattle.std.proofs.Common.{[], ◌∙◌, false, length, refl, ap, subst}
 use Rattle.std.proofs.lemmas.List.{length-replicate}
 use Rattle.disk_store.specs.Calls.{Synced, after_call, no_content}
 use Rattle.disk_store.specs.Content.{Content, IsLooseIn}
-use Rattle.disk_store.specs.Ram.{calls_in, ram_content}
+use Rattle.disk_store.specs.File.{calls_in, ram_content}
 use Rattle.disk_store.proofs.FileCalls.{content_now}
 use Rattle.disk_store.proofs.RamCalls.{was_noted}
 use Rattle.disk_store.proofs.Recorded.{after_sync_firm, synced as synced_disk}

@@ -2,7 +2,7 @@ use Rattle.std.proofs.Common.{◌+◌, ◌<◌, ◌≤◌, [], ◌∙◌, length
 use Rattle.std.proofs.lemmas.List.Elements.{All-from_get_or}
 use Rattle.disk_store.specs.Calls.{Wrote, after_call, no_content}
 use Rattle.disk_store.specs.Content.{Content, IsLooseIn, after_overwrite}
-use Rattle.disk_store.specs.Ram.{calls_in, ram_content}
+use Rattle.disk_store.specs.File.{calls_in, ram_content}
 use Rattle.disk_store.proofs.FileCalls.{IsWhole, content_now, whole_write}
 use Rattle.disk_store.proofs.Loose.{loose_within}
 use Rattle.disk_store.proofs.RamCalls.{was_noted, whole}
