@@ -1,2 +1,1 @@
 pub mod Disk
-pub mod Failures

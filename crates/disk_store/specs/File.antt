@@ -2,9 +2,8 @@
 use Rattle.std.specs.declared.io.Error.{Error}
 use Rattle.std.specs.Prelude.{◌≡◌, ◌⊎◌, Bool, List, Option, IsTrue, IsFalse, IsSome, IsOk, IsErr}
 use Rattle.std.specs.Prelude.{Result, []}
-use Rattle.disk_model.specs.Failures.{most_failures}
+use Rattle.disk_model.specs.Disk.{most_failures, State}
 use Rattle.disk_model.specs.declared.disk.DiskFault.{DiskFault}
-use Rattle.disk_model.specs.Disk.{State}
 use Rattle.disk_store.specs.Content.{Content, replayed_state}
 use Rattle.disk_store.specs.Calls.{Call, after_call, content_after, no_content, AreRight}
 use Rattle.disk_store.specs.declared.file.start.Start.{Ghosts}

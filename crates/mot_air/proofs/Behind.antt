@@ -3,17 +3,14 @@ use Rattle.std.proofs.Common.{◌≡◌, ◌∙◌, ◌++◌, arith, ⊎_elim, �
 use Rattle.std.proofs.Common.{Err, false, inl, inr, refl, subst, sym}
 use Rattle.std.specs.Prelude.{IsOk, IsSomeAnd}
 use Rattle.disk_model.proofs.Laws.{joins, keeps_on}
-use Rattle.disk_model.specs.Disk.{Elapses, IsHonestDisk, IsStill, Nothing, OnlySyncs}
-use Rattle.disk_model.specs.Disk.{State}
-use Rattle.disk_model.specs.Failures.{Rises}
-use Rattle.mot_update.proofs.Laws.{opened_throughout}
+use Rattle.disk_model.specs.Disk.{Elapses, IsHonestDisk, IsStill, Nothing, OnlySyncs, State, Rises}
+use Rattle.mot_update.proofs.Laws.{opened_throughout, AllAre}
 use Rattle.mot_air.specs.Directory.{IsFrame}
 use Rattle.mot_update.specs.Ending.{IsEnd, Leaves}
 use Rattle.mot_update.specs.Ending as opening
 use Rattle.mot_air.specs.Playing.{HasAired, Plays, Tale}
 use Rattle.mot_feed.specs.declared.manner.Manner.{Manner}
 use Rattle.mot_air.specs.Telling.{first_sources, tale_with}
-use Rattle.mot_update.proofs.Laws.{AllAre}
 use Rattle.mot_update.specs.Opening.{IsUnopened}
 use Rattle.mot_feed.specs.Feeding.{Event, Stage}
 use Rattle.mot_feed.specs.Feeding.AreTold.{no_call}

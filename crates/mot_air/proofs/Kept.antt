@@ -5,8 +5,7 @@ use Rattle.std.specs.Prelude.{IsFalse, IsSomeAnd}
 use Rattle.std.specs.Option.{option_map_or}
 use Rattle.disk_model.specs.Disk.{IsHonestDisk, OnlySyncs, State}
 use Rattle.disk_model.proofs.Laws.{weakens}
-use Rattle.mot_air.specs.Lives.{KeepsDone, AirsOn}
-use Rattle.mot_air.specs.Playing.{Plays, Tale, WritesPackets}
+use Rattle.mot_air.specs.Playing.{KeepsDone, AirsOn, Plays, Tale, WritesPackets}
 use Rattle.mot_feed.specs.declared.manner.Manner.{Manner}
 use Rattle.mot_feed.specs.Feeding.{EndsFeed, Event, Stage, commands_among, fault_at}
 use Rattle.mot_feed.specs.Feeding.EndsFeed.{all_numbers, all_turns, of_call, of_packet, of_write}

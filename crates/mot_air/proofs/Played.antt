@@ -16,8 +16,8 @@ use Rattle.mot_files.specs.declared.system.Handle.{Handle}
 use Rattle.mot_update.proofs.Laws.{ends_off, opened_leaves, AllAre, all_hold, openable}
 use Rattle.mot_endpoints.specs.declared.packets.Target.{Target}
 use Rattle.mot_feed.specs.Feeding.{AreOf, AreTold, Event, Happen, HasFed, IsFeedFault, RulesAreKept}
-use Rattle.mot_feed.specs.Feeding.{Stage, fault_at}
-use Rattle.mot_feed.specs.Often.{Feeds, IsOften, follows_in, is_often, server_for}
+use Rattle.mot_feed.specs.Feeding.{Stage, fault_at, Feeds, IsOften, follows_in, is_often}
+use Rattle.mot_feed.specs.Feeding.{server_for}
 use Rattle.mot_journal.specs.Image.{Standing}
 use Rattle.mot_numbers.specs.Geometry.{IsValid, packet_room, is_valid}
 use Rattle.mot_numbers.specs.declared.geometry.Geometry.{Geometry}

@@ -1,6 +1,5 @@
 pub mod Commands
 pub mod Directory
 pub mod Inner
-pub mod Lives
 pub mod Playing
 pub mod Telling

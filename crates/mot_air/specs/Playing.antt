@@ -1,16 +1,15 @@
 -- What playing a disk writes, and what it leaves of the disk.
 use Rattle.std.specs.Prelude.{◌≡◌, ℕ, ◌<◌, min, Bool, true, false, List, [], ◌++◌, length, Option}
-use Rattle.std.specs.Prelude.{is_some, not, ◌&&◌, ◌==◌}
+use Rattle.std.specs.Prelude.{is_some, not, ◌&&◌, ◌==◌, None}
 use Rattle.std.specs.Option.{option_map_or}
-use Rattle.disk_model.specs.Disk.{State}
+use Rattle.disk_model.specs.Disk.{State, Throughout}
 use Rattle.mot_update.specs.Ending.{EndsBy, Leaves}
 use Rattle.mot_feed.specs.declared.manner.Manner.{Manner}
 use Rattle.mot_feed.specs.Ends.{ServesAll}
 use Rattle.mot_feed.specs.Feeding.{AreOf, AreTold, EndsFeed, Event, Happen, Stage, commands_among}
-use Rattle.mot_feed.specs.Feeding.{fault_at, is_between_turns}
+use Rattle.mot_feed.specs.Feeding.{fault_at, is_between_turns, IsOften, follows_in, look_in}
 use Rattle.mot_feed.specs.Feeding.Stage.{Ready}
 use Rattle.mot_feed.specs.Listening.{HearsFirstChanges, IsHeard, IsHeardInTime, is_quiet}
-use Rattle.mot_feed.specs.Often.{IsOften, follows_in, look_in}
 use Rattle.mot_feed.specs.OnAir.{asks, begins_turn, is_turn}
 use Rattle.mot_journal.specs.Image.{Standing}
 use Rattle.mot_numbers.specs.Geometry.{packet_room}
@@ -25,9 +24,11 @@ use Rattle.mot_player.specs.Repeats.{ReadAsTurn, ReadsOnceAs}
 use Rattle.mot_player.specs.Start.{start_place}
 use Rattle.mot_player.specs.Turn.{turn_of_carousel}
 use Rattle.mot_repository.specs.Repository.{IsOf}
-use Rattle.mot_playout.specs.Runs.{IsAfter, accepted_commands}
+use Rattle.mot_playout.specs.Runs.{IsAfter, accepted_commands, StandsAfterSome, commands_in_flight}
 use Rattle.mot_update.specs.HasRun.{Telling}
 use Rattle.mot_update.specs.declared.moment.UpdatePoint.{UpdatePoint}
+use Rattle.mot_journal.specs.Journal.{standing_from}
+use Rattle.mot_numbers.specs.declared.geometry.Geometry.{Geometry}
 
 -- it is played without end
 abbrev pub is_endless : Manner → Bool
@@ -148,3 +149,36 @@ Plays tale how ending before after start now =
     EndsBy ending
     (Grows before after [] × ((limit : ℕ) (c : Carousel) → tale limit c Ready [] [] [] c))
     (WritesPackets tale how ending before after start now) start now
+
+-- Lives with playing in them: a disk that was formatted is played, perhaps a crash comes, what it
+-- left is played again, and so on.
+
+-- All of these commands are done since the formatting, and nothing else is: what they make of the
+-- new carousel, whose directory has this id, stands on each image that a crash now may leave.
+pub record KeepsDone (g : Geometry) (first : ℕ) (done : List Command) (now : State) :
+    Type 0 where
+  pub standing : Standing
+  pub after : IsAfter (standing_from g first standing.rest) done standing
+  pub each : (image : List ℕ) → now.MayLeave image → IsOf standing image
+
+-- A disk on which these commands were done was played, up to this ending. At each moment since then
+-- a crash leaves all of them, and a beginning of those that were accepted between packets and of
+-- the one in flight; and now it leaves all but the latter. That is the command, of those that are
+-- told, behind the answered ones where a disk fault broke off the last call. At the end of playing
+-- there is no such one, so that the next life goes on from there.
+pub record AirsOn (g : Geometry) (first : ℕ) (done : List Command) (tale : Tale) (how : Manner)
+    (ending : Option Refusal) (before after : Option (List (List ℕ))) (start now : State) :
+    Type 0 where
+  pub standing : Standing
+  pub was : IsAfter (standing_from g first standing.rest) done standing
+  pub writes : WritesPackets tale how ending before after start now standing
+  pub in_flight : List Command
+  pub is : in_flight
+      ≡ commands_in_flight writes.played.commands writes.played.marks (fault_at writes.stage)
+  pub any_moment : Throughout start now (StandsAfterSome (standing_from g first standing.rest) done
+      (commands_among writes.events ++ in_flight))
+  pub at_end : (image : List ℕ) → now.MayLeave image → StandsAfterSome
+      (standing_from g first standing.rest)
+      (done ++ commands_among writes.events) in_flight image
+  pub goes_on : ending ≡ None
+      → (in_flight ≡ []) × KeepsDone g first (done ++ commands_among writes.events) now

@@ -1,6 +1,6 @@
 //! What one life of a disk hands on to the next: whatever was served, run or played in it.
 ghost use Rattle.std.specs.Prelude.{ℕ, [], IfErr, IfOk, IsFalse, List};
-ghost use Rattle.mot_air.specs.Lives.{KeepsDone};
+ghost use Rattle.mot_air.specs.Playing.{KeepsDone};
 ghost use Rattle.mot_numbers.specs.declared.geometry.Geometry.{Geometry};
 ghost use Rattle.mot_objects.specs.declared.command.Command.{Command};
 ghost use Rattle.mot_repository.specs.Opening.{IsPassing};

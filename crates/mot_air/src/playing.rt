@@ -1,8 +1,8 @@
 //! Playing a disk, and making its carousel equal to a folder.
 ghost use Rattle.std.specs.Prelude.{◌≡◌, ◌↔◌, ◌⊎◌, ◌-◌, ℕ, [], IfErr, IsSomeAnd, IsTrue, List};
 ghost use Rattle.std.specs.Prelude.{None, OnOk, Some, false};
-ghost use Rattle.mot_air.specs.Lives.{AirsOn, KeepsDone};
-ghost use Rattle.mot_air.specs.Playing.{Plays, each_packet, place_at_start, tale_of};
+ghost use Rattle.mot_air.specs.Playing.{AirsOn, KeepsDone, Plays, each_packet, place_at_start};
+ghost use Rattle.mot_air.specs.Playing.{tale_of};
 ghost use Rattle.mot_air.specs.Telling.{EndsReading, HandsOut, folder_in, lines_at, no_looks};
 ghost use Rattle.mot_air.specs.Telling.{tale_with, watch_in, watched};
 ghost use Rattle.mot_air.specs.Inner.Beside.{SourcesOf, beside, tells_answered, tells_lines_of};
@@ -13,7 +13,7 @@ ghost use Rattle.mot_folder.specs.Looked.{so_far, watch};
 ghost use Rattle.mot_lines.specs.Lines.{bytes_in_hand};
 ghost use Rattle.mot_numbers.specs.declared.geometry.Geometry.{Geometry};
 ghost use Rattle.mot_objects.specs.declared.command.Command.{Command};
-ghost use Rattle.mot_feed.specs.Often.{server_for};
+ghost use Rattle.mot_feed.specs.Feeding.{server_for};
 ghost use Rattle.mot_journal.specs.Image.{Standing};
 ghost use Rattle.mot_numbers.specs.declared.refusal.Refusal.TheVariants.{OutOfMemory};
 ghost use Rattle.mot_playout.specs.Runs.{place_in};

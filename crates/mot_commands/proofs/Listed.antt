@@ -1,6 +1,6 @@
 -- What is shown of a carousel, with its bodies and without them.
-use Rattle.std.proofs.Common.{◌≡◌, ◌∙◌, ◌++◌, ℕ, List, [], ◌∷◌, ap, inl, inr, length, map, refl, suc}
-use Rattle.std.proofs.Common.{Err, Global, Ok, Result, Some, Vec, subst}
+use Rattle.std.proofs.Common.{◌≡◌, ◌∙◌, ◌++◌, ℕ, List, [], ◌∷◌, ap, inl, inr, length, map, refl}
+use Rattle.std.proofs.Common.{suc, Err, Global, Ok, Result, Some, Vec, subst}
 use Rattle.std.specs.List.{flat_map}
 use Rattle.std.specs.Io.KnownBytes.{Keeps}
 use Rattle.std.specs.Prelude.{Bool, IfOk, MatchResult, Option}
@@ -9,8 +9,7 @@ use Rattle.mot_cli.specs.declared.task.Form.{Form}
 use Rattle.mot_cli.specs.declared.task.Form.TheVariants.{Json, Words}
 use Rattle.mot_commands.specs.Inner.Shown.{object_json_beside, report_beside, shown_beside}
 use Rattle.mot_commands.specs.Json.{numbers_json, object_json, object_members, report_line}
-use Rattle.mot_commands.specs.Report.{Reports, clean_line, layout_line, report_in}
-use Rattle.mot_commands.specs.Shown.{shown_in}
+use Rattle.mot_commands.specs.Report.{Reports, clean_line, layout_line, report_in, shown_in}
 use Rattle.mot_journal.specs.Journal.IsReadingRefusal.{no_memory}
 use Rattle.mot_journal.specs.declared.layout.Layout.{Layout}
 use Rattle.mot_lines.proofs.Laws.{listing_text-beside}

@@ -18,9 +18,8 @@ use Rattle.mot_export.specs.Exporting.{Exports}
 use Rattle.mot_export.specs.Inspecting.{Inspects}
 use Rattle.mot_files.specs.Call.{Call, made_disk, opened_disk, removed}
 use Rattle.mot_files.specs.declared.system.Fault.{Fault}
-use Rattle.mot_commands.specs.Report.{Checks, Formats, Migrates}
+use Rattle.mot_commands.specs.Report.{Checks, Formats, Migrates, Gets, Lists}
 use Rattle.mot_commands.specs.Serving.{Serves}
-use Rattle.mot_commands.specs.Shown.{Gets, Lists}
 use Rattle.mot_journal.specs.Journal.{IsNewDisk}
 use Rattle.mot_numbers.specs.Geometry.{IsValid, length_of}
 use Rattle.mot_numbers.specs.declared.geometry.Geometry.{Geometry}

@@ -6,4 +6,3 @@ pub mod Inner
 pub mod Json
 pub mod Report
 pub mod Serving
-pub mod Shown

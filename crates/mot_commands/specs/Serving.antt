@@ -11,7 +11,7 @@ use Rattle.mot_playout.specs.Runs.{ServerView}
 use Rattle.mot_session.specs.LineByLine.{ServesEach, ServesSome}
 use Rattle.mot_session.specs.declared.serving.TheConstants.{MAX_READS}
 use Rattle.mot_session.specs.Served.{TakesInput}
-use Rattle.mot_session.specs.State.{HasJustOpened, StandsFor, state_of}
+use Rattle.mot_session.specs.Session.{HasJustOpened, StandsFor, state_of}
 
 -- a server just opened, of a disk that stands for this
 pub record IsFresh {D : Type 0} (state : D → State) (s : Standing) (server : ServerView D) :

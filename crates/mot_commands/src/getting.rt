@@ -1,13 +1,12 @@
 //! What `get` does.
 ghost use Rattle.mot_playout.specs.Attempts.{fault_of};
 ghost use Rattle.std.specs.Prelude.{◌≡◌, ◌⊎◌, ◌<◌, IfErr, IfOk, vec_len};
-ghost use Rattle.disk_model.specs.Disk.{OnlyReads};
-ghost use Rattle.disk_model.specs.Failures.{Rises};
+ghost use Rattle.disk_model.specs.Disk.{OnlyReads, Rises};
 ghost use Rattle.mot_numbers.specs.declared.refusal.Refusal.TheVariants.{DeviceFault, OutOfMemory};
 ghost use Rattle.mot_journal.specs.Image.{Standing};
 ghost use Rattle.mot_objects.specs.Name.{IsName};
 ghost use Rattle.mot_commands.specs.Asking.{IsUnnamed};
-ghost use Rattle.mot_commands.specs.Shown.{Gets};
+ghost use Rattle.mot_commands.specs.Report.{Gets};
 ghost use Rattle.mot_commands.specs.Inner.Got.{MissesBody, ReadsBody};
 ghost use Rattle.mot_repository.specs.Repository.{HasStanding, object_body};
 

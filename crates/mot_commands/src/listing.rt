@@ -1,6 +1,6 @@
 //! What `list` does.
 ghost use Rattle.mot_playout.specs.Attempts.{fault_of};
-ghost use Rattle.mot_commands.specs.Shown.{Lists};
+ghost use Rattle.mot_commands.specs.Report.{Lists};
 
 use crate::shown::text_in;
 use crate::working::ended_with;

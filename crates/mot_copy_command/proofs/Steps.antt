@@ -1,15 +1,13 @@
 -- What writes of bodies leave on the new disk, and which disk failed.
-use Rattle.std.proofs.Common.{◌≡◌, ℕ, zero, suc, ◌+◌, ◌-◌, ◌<◌, ◌≤◌, List, [], ◌∷◌, ◌++◌, length, take}
-use Rattle.std.proofs.Common.{drop, slice_range, sym, ap, ◌∙◌, subst, arith, inl}
-use Rattle.std.proofs.Common.{⊎_elim, append-nil, append_assoc}
+use Rattle.std.proofs.Common.{◌≡◌, ℕ, zero, suc, ◌+◌, ◌-◌, ◌<◌, ◌≤◌, List, [], ◌∷◌, ◌++◌, length}
+use Rattle.std.proofs.Common.{take, drop, slice_range, sym, ap, ◌∙◌, subst, arith, inl, ⊎_elim}
+use Rattle.std.proofs.Common.{append-nil, append_assoc}
 use Rattle.std.proofs.Math.Nat.{eq-or-lt_of_le}
 use Rattle.std.proofs.Math.Seq.{take-add}
 use Rattle.std.proofs.lemmas.List.{drop-drop, length-take, take_all}
 use Rattle.std.proofs.lemmas.List.Sums.{sum_by_more, sum_by_more_le}
-use Rattle.disk_model.specs.Disk.{State, AgreeOutside, IsHonestDisk, WritesWithin, Torn}
-use Rattle.disk_model.specs.Failures.{Rises}
-use Rattle.disk_model.proofs.Laws.{agree_trans, agree_more, goes_on, joins}
-use Rattle.disk_model.proofs.Laws.{at_end}
+use Rattle.disk_model.specs.Disk.{State, AgreeOutside, IsHonestDisk, WritesWithin, Torn, Rises}
+use Rattle.disk_model.proofs.Laws.{agree_trans, agree_more, goes_on, joins, at_end}
 use Rattle.mot_copy_command.specs.declared.copying.NotCopied.{NotCopied}
 use Rattle.mot_copy_command.specs.Inner.Steps.{ChangesOnly, IsFault, unreadable, device}
 use Rattle.mot_journal.proofs.Laws.{part}

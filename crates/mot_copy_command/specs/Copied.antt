@@ -1,8 +1,7 @@
 -- What making a copy of a disk does.
 use Rattle.std.specs.Prelude.{◌≡◌, ◌⊎◌, ◌<◌, ◌≤◌, ℕ, List, length, Option, true, false, Result, Ok}
 use Rattle.std.specs.Prelude.{Err, OnOk, IfErr}
-use Rattle.disk_model.specs.Disk.{State, IsStill, IsUnchanged, KeepsLength, Throughout}
-use Rattle.disk_model.specs.Failures.{Rises}
+use Rattle.disk_model.specs.Disk.{State, IsStill, IsUnchanged, KeepsLength, Throughout, Rises}
 use Rattle.mot_copy_command.specs.declared.copying.NotCopied.{NotCopied}
 use Rattle.mot_copy_command.specs.declared.copying.NotCopied.TheVariants.{Refused, Unreadable}
 use Rattle.mot_journal.specs.Geometry.{has_magic}

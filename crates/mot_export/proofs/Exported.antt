@@ -2,8 +2,7 @@
 use Rattle.std.proofs.Common.{◌≡◌, ◌∙◌, ◌<◌, ◌≤◌, ℕ, List, length, Option, Some, Result, Ok, Err}
 use Rattle.std.proofs.Common.{inl, inr, subst, sym}
 use Rattle.std.specs.Prelude.{All, IfErr, IsFalse, OnOk}
-use Rattle.disk_model.specs.Disk.{IsHonestDisk, KeepsLength, State, OnlyReads, OnlySyncs}
-use Rattle.disk_model.specs.Failures.{Rises}
+use Rattle.disk_model.specs.Disk.{IsHonestDisk, KeepsLength, State, OnlyReads, OnlySyncs, Rises}
 use Rattle.mot_journal.specs.Image.{Standing, stands_for}
 use Rattle.mot_lines.proofs.Laws.{export_text-asks}
 use Rattle.mot_lines.specs.Export.{export_text}

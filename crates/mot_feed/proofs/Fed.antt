@@ -10,13 +10,12 @@ use Rattle.disk_model.specs.Disk.{State, IsHonestDisk, IsUnchanged}
 use Rattle.mot_feed.specs.Feeding.{AreOf, AreTold, EndsFeed, Event, FedPacketsAreContinuous, Happen}
 use Rattle.mot_feed.specs.Feeding.{HasFed, RulesAreKept, Stage, commands_among, is_between_turns}
 use Rattle.mot_feed.specs.Feeding.{left_after, left_behind, moment_at, moment_behind, sents_in}
-use Rattle.mot_feed.specs.Feeding.{turns_in, SendsPacket}
+use Rattle.mot_feed.specs.Feeding.{turns_in, SendsPacket, Feeds, is_due, look_in, pause, server_for}
 use Rattle.mot_feed.specs.OnAir.{is_turn}
 use Rattle.mot_feed.specs.Feeding.AreTold.{no_call, one_asked, one_call, one_played}
 use Rattle.mot_feed.specs.Feeding.EndsFeed.{all_numbers, all_turns, of_call, of_packet, of_write}
 use Rattle.mot_feed.specs.Feeding.Stage.{Called, Ready}
 use Rattle.mot_feed.specs.Feeding.Event.{Accepted, Asked, Played}
-use Rattle.mot_feed.specs.Often.{Feeds, is_due, look_in, pause, server_for}
 use Rattle.mot_feed.specs.declared.manner.Manner.{Manner}
 use Rattle.mot_feed.specs.Feeding as one
 use Rattle.mot_feed.proofs.Hearing.{OftenUpTo, asks, left_for, often-accepted, often-all}

@@ -1,10 +1,9 @@
 -- The directory asked for often.
-use Rattle.std.proofs.Common.{◌≡◌, ℕ, ◌-◌, Bool, true, false, not, ◌&&◌, List, [], ◌∷◌, ◌++◌}
-use Rattle.std.proofs.Common.{map, Option, Some, None, refl, sym, ap, ◌∙◌, append_assoc, append-nil}
+use Rattle.std.proofs.Common.{◌≡◌, ℕ, ◌-◌, Bool, true, false, not, ◌&&◌, List, [], ◌∷◌, ◌++◌, map}
+use Rattle.std.proofs.Common.{Option, Some, None, refl, sym, ap, ◌∙◌, append_assoc, append-nil}
 use Rattle.std.specs.Prelude.{if◌then◌else◌}
-use Rattle.mot_feed.specs.Feeding.{Event}
+use Rattle.mot_feed.specs.Feeding.{Event, IsOften, is_due, is_often, pause}
 use Rattle.mot_feed.specs.Feeding.Event.{Accepted, Asked, Played}
-use Rattle.mot_feed.specs.Often.{IsOften, is_due, is_often, pause}
 use Rattle.mot_objects.specs.declared.command.Command.{Command}
 use Rattle.mot_player.specs.Place.{Sent}
 

@@ -7,11 +7,11 @@ use Rattle.std.proofs.lemmas.List.{length-map}
 use Rattle.std.proofs.lemmas.Grind.{div_ceil_times}
 use Rattle.std.specs.Int.{div_ceil}
 use Rattle.std.specs.Prelude.{if◌then◌else◌, is_some, min, nat_le, ◌||◌}
-use Rattle.mot_feed.specs.Feeding.{AreOf, Event, Happen, RulesAreKept, sents_in, turns_in}
+use Rattle.mot_feed.specs.Feeding.{AreOf, Event, Happen, RulesAreKept, sents_in, turns_in, IsOften}
+use Rattle.mot_feed.specs.Feeding.{is_due, is_often, pause}
 use Rattle.mot_feed.specs.Feeding.Event.{Accepted, Asked, Played}
 use Rattle.mot_feed.specs.Listening.{HearsFirstChanges, IsHeardInTime, IsWindow, ListenersHear}
 use Rattle.mot_feed.specs.Listening.{asks_in, is_quiet, is_settled, pauses_within}
-use Rattle.mot_feed.specs.Often.{IsOften, is_due, is_often, pause}
 use Rattle.mot_feed.specs.OnAir.{is_turn}
 use Rattle.mot_numbers.specs.Reading.{is_empty}
 use Rattle.mot_numbers.specs.declared.geometry.TheConstants.{MAX_OBJECTS}

@@ -1,7 +1,7 @@
 -- What taking turns between updates and packets does.
 use Rattle.std.specs.Prelude.{ℕ, ◌≡◌, ◌≢◌, ◌==◌, ◌⊎◌, ◌+◌, ◌-◌, ◌<◌, nat_eq, nat_lt, Bool, true}
 use Rattle.std.specs.Prelude.{false, ◌&&◌, if◌then◌else◌, List, [], ◌∷◌, ◌++◌, length, map, Option}
-use Rattle.std.specs.Prelude.{Some, None, take, ⊤, Result, Ok, Err}
+use Rattle.std.specs.Prelude.{Some, None, take, ⊤, Result, Ok, Err, ◌*◌, max, not, ◌||◌}
 use Rattle.disk_model.specs.Disk.{State}
 use Rattle.mot_journal.specs.Image.{Standing}
 use Rattle.mot_numbers.specs.declared.refusal.Refusal.{Refusal}
@@ -12,7 +12,7 @@ use Rattle.mot_objects.specs.declared.command.Command.{Command}
 use Rattle.mot_packets.specs.Written.{Grows}
 use Rattle.mot_player.specs.Continuity.{IsContinuous}
 use Rattle.mot_player.specs.Laws.{AreSent, packets_sent, IsStep}
-use Rattle.mot_player.specs.Place.{Place, Sent, changed, hear_directory, request}
+use Rattle.mot_player.specs.Place.{Place, Sent, changed, hear_directory, request, directory_packets}
 use Rattle.mot_player.specs.Start.{start_place}
 use Rattle.mot_player.specs.Turn.{Turn, turn_of_carousel}
 use Rattle.mot_playout.specs.RunEnds.{RunLeaves}
@@ -21,6 +21,7 @@ use Rattle.mot_update.specs.HasRun.{Telling, may_look}
 use Rattle.mot_update.specs.Faults.{IsUpdateFault}
 use Rattle.mot_update.specs.declared.moment.UpdatePoint.{UpdatePoint}
 use Rattle.mot_update.specs.declared.moment.UpdatePoint.TheVariants.{AtLook, BetweenTurns, Within}
+use Rattle.mot_feed.specs.declared.manner.Manner.{Manner}
 
 -- what happens while a server is fed from: a command is accepted, the directory is asked for, or a
 -- packet is sent
@@ -206,3 +207,68 @@ pub data SendsPacket (result : Result Bool Refusal) (old new : Place)
       → Grows before after (take count packet ∷ []) → SendsPacket result old new before after
   none : (refusal : Refusal) → refusal ≢ WriteFault → result ≡ Err refusal → new ≡ old
       → Grows before after [] → SendsPacket result old new before after
+
+-- What feeding in a manner does: the directory is asked for often, or not.
+
+-- how many packets go out before the directory is asked for again, at least ten times those that it
+-- takes itself
+abbrev pub pause : ℕ → Place → ℕ
+pause every place = max every (10 * directory_packets place)
+
+-- the directory is due if a turn has ended or none was begun, or if no more packets are to be sent
+-- before it
+abbrev pub is_due : Bool → ℕ → Bool
+is_due ended left = ended || nat_eq left 0
+
+-- So many more packets are sent until the directory is due; it is asked for when it is due, and at
+-- no other time; after the packet that follows, a pause of packets begins, and so on. There is no
+-- number if it was just asked for.
+abbrev pub is_often : ℕ → (ended : Bool) → Option ℕ → List Event → Bool
+is_often every ended left [] = true
+is_often every ended left (Accepted command ∷ events) = is_often every ended left events
+is_often every ended None (Asked ∷ events) = false
+is_often every ended None (Played sent ∷ events) =
+    is_often every sent.ends_turn (Some (pause every sent.place)) events
+is_often every ended (Some left) (Asked ∷ events) =
+    is_due ended left && is_often every ended None events
+is_often every ended (Some left) (Played sent ∷ events) =
+    not (is_due ended left) && is_often every sent.ends_turn (Some (left - 1)) events
+
+-- it is asked for before the first packet, and then often, and no oftener
+abbrev pub IsOften : ℕ → List Event → Type 0
+IsOften every events = is_often every true (Some 0) events ≡ true
+
+-- after how many packets of a turn a look may come: where the directory does not come within turns,
+-- looks come between turns alone
+abbrev pub look_in : Manner → ℕ
+look_in how = if how.directory == 0 then 0 else how.look
+
+-- The server as it is fed: where the directory comes within turns, it follows changes, with at most
+-- so many bodies early; and else it is as it was, and a change begins the turn anew.
+abbrev pub server_for : {D : Type 0} → Manner → ServerView D → ServerView D
+server_for how server = record server {
+  player = record server.player {
+    follows = if how.directory == 0 then server.player.follows else Some how.early;
+  };
+}
+
+-- whether changed turns are followed so, with at most so many bodies early
+abbrev pub follows_in : Manner → Option ℕ
+follows_in how = if how.directory == 0 then None else Some how.early
+
+-- Turns were fed, so many if nothing ended feeding before. All commands that were run are those of
+-- the calls of the update, which was the first and is the last.
+pub record Feeds {D U : Type 0} (tells : U → U → UpdatePoint → Telling) (how : Manner)
+    (ending : Option Refusal) (first last : U) (old new : ServerView D) (start now : State)
+    (s : Standing) (before after : Option (List (List ℕ))) : Type 0 where
+  pub stage : Stage
+  pub events : List Event
+  pub commands : List Command
+  pub marks : List Bool
+  pub fed : HasFed (server_for how old) new start now s commands marks (fault_at stage) events
+  pub told : AreTold tells (look_in how) s.geometry.objects first s.carousel stage events commands
+      marks last fed.leaves.last.carousel
+  pub packets : List (List ℕ)
+  pub are : AreOf events packets
+  pub ends : EndsFeed how.turns events packets before after ending stage
+  pub often : 0 < how.directory → IsOften how.directory events

@@ -1,8 +1,8 @@
 -- Who begins to listen to a feed at any packet.
 use Rattle.std.specs.Prelude.{◌≡◌, ℕ, ◌+◌, ◌*◌, ◌≤◌, ◌<◌, nat_le, Bool, true, false, ◌&&◌, ◌||◌}
 use Rattle.std.specs.Prelude.{List, [], ◌∷◌, ◌++◌, length, Option}
-use Rattle.mot_feed.specs.Feeding.{Accepted, AreOf, Asked, Event, Happen, Played, turns_in}
-use Rattle.mot_feed.specs.Often.{IsOften, pause}
+use Rattle.mot_feed.specs.Feeding.{Accepted, AreOf, Asked, Event, Happen, Played, turns_in, IsOften}
+use Rattle.mot_feed.specs.Feeding.{pause}
 use Rattle.mot_numbers.specs.declared.geometry.TheConstants.{MAX_OBJECTS}
 use Rattle.mot_numbers.specs.declared.numbers.TheConstants.{MAX_SEGMENT, MIN_SEGMENT}
 use Rattle.mot_objects.specs.Carousel.{Carousel, IsSound, AllKeepRules}

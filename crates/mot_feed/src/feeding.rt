@@ -1,8 +1,8 @@
 //! Taking turns between updating the carousel and sending its packets.
 ghost use Rattle.std.specs.Prelude.{◌≡◌, ◌==◌, ◌-◌, ◌<◌, if◌then◌else◌, IfErr, OnOk};
 ghost use Rattle.disk_model.specs.Disk.{KeepsLength};
-ghost use Rattle.mot_feed.specs.Feeding.{IsFeedFault, moment_at};
-ghost use Rattle.mot_feed.specs.Often.{Feeds, is_due, look_in, pause, server_for};
+ghost use Rattle.mot_feed.specs.Feeding.{IsFeedFault, moment_at, Feeds, is_due, look_in, pause};
+ghost use Rattle.mot_feed.specs.Feeding.{server_for};
 ghost use Rattle.mot_journal.specs.Image.{Standing};
 ghost use Rattle.mot_player.specs.Place.{hear_directory};
 ghost use Rattle.mot_repository.specs.Repository.{Agrees, Holds};

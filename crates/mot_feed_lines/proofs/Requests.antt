@@ -9,7 +9,7 @@ use Rattle.mot_lines.specs.declared.line.Line.{Line}
 use Rattle.mot_numbers.specs.declared.refusal.Refusal.{Refusal}
 use Rattle.mot_objects.specs.declared.command.Command.{Command}
 use Rattle.mot_playout.specs.Runs.{ServerView}
-use Rattle.mot_session.specs.State.{command_in}
+use Rattle.mot_session.specs.Session.{command_in}
 use Rattle.mot_update.proofs.Laws.{has_read}
 
 -- false is not true

@@ -11,7 +11,7 @@ use Rattle.mot_lines.proofs.Laws.{whole_lines-end, whole_lines-front}
 use Rattle.mot_numbers.specs.declared.refusal.Refusal.{Refusal}
 use Rattle.mot_objects.specs.declared.command.Command.{Command}
 use Rattle.mot_playout.specs.Runs.{ServerView}
-use Rattle.mot_session.specs.State.{command_in}
+use Rattle.mot_session.specs.Session.{command_in}
 use Rattle.mot_update.proofs.Laws.{has_read, join}
 
 -- ---- bytes

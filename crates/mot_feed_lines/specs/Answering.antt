@@ -6,7 +6,7 @@ use Rattle.mot_lines.specs.Line.{line_of}
 use Rattle.mot_numbers.specs.declared.refusal.Refusal.{Refusal}
 use Rattle.mot_objects.specs.Carousel.{Carousel}
 use Rattle.mot_objects.specs.declared.command.Command.{Command}
-use Rattle.mot_session.specs.State.{command_in}
+use Rattle.mot_session.specs.Session.{command_in}
 use Rattle.mot_update.specs.HasRun.{Telling}
 
 -- the command that a line asks for; or none, where it asks for none, or memory was wanted for it

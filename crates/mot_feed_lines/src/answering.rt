@@ -9,7 +9,7 @@ ghost use Rattle.mot_journal.specs.Image.{Standing};
 ghost use Rattle.mot_lines.specs.Lines.{bytes_in_hand, rest_of};
 ghost use Rattle.mot_lines.specs.Line.{line_of};
 ghost use Rattle.mot_repository.specs.Repository.{Holds};
-ghost use Rattle.mot_session.specs.State.{command_in};
+ghost use Rattle.mot_session.specs.Session.{command_in};
 ghost use Rattle.mot_update.specs.Faults.{TellsFaults};
 
 use crate::intake::Intake;

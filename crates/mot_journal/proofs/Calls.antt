@@ -1,12 +1,10 @@
 -- What a run of calls of a disk keeps, costs and tells of failures.
 use Rattle.std.proofs.Common.{◌≡◌, ℕ, ◌+◌, ◌≤◌, ◌<◌, false, true, Result, Ok, Err, inl, inr, refl}
-use Rattle.std.proofs.Common.{sym}
-use Rattle.std.proofs.Common.{subst, arith}
+use Rattle.std.proofs.Common.{sym, subst, arith}
 use Rattle.std.specs.Prelude.{IsErr}
 use Rattle.std.proofs.lemmas.Bool.{cases_lt}
 use Rattle.std.proofs.lemmas.Result.{IfOk-from_err, on_ok_weaker}
-use Rattle.disk_model.specs.Disk.{State, Costs}
-use Rattle.disk_model.specs.Failures.{HasCause, Rises}
+use Rattle.disk_model.specs.Disk.{State, Costs, HasCause, Rises}
 use Rattle.mot_journal.specs.Inner.Steps.{HasCauseOf}
 
 not_both : false ≡ true → ⊥

@@ -1,16 +1,14 @@
 -- What a journal keeps in memory, and what images have of it.
-use Rattle.std.specs.Prelude.{◌≡◌, ◌⊎◌, ℕ, ◌-◌, Bool, false, List, [], ◌∷◌, ◌++◌, length}
-use Rattle.std.specs.Prelude.{Some, Result, Ok, Err, OnOk, IsOk, IsFalse}
-use Rattle.disk_model.specs.Disk.{State, Throughout}
-use Rattle.disk_model.specs.Failures.{Rises}
+use Rattle.std.specs.Prelude.{◌≡◌, ◌⊎◌, ℕ, ◌-◌, Bool, false, List, [], ◌∷◌, ◌++◌, length, Some}
+use Rattle.std.specs.Prelude.{Result, Ok, Err, OnOk, IsOk, IsFalse}
+use Rattle.disk_model.specs.Disk.{State, Throughout, Rises}
 use Rattle.mot_journal.specs.declared.layout.Layout.{Layout}
 use Rattle.mot_journal.specs.declared.record.Record.{Record}
 use Rattle.mot_journal.specs.Geometry.{has_magic, geometry_of, selected_half}
 use Rattle.mot_journal.specs.Slot.{layout_of}
-use Rattle.mot_journal.specs.Image.{catalogue_of}
-use Rattle.mot_journal.specs.Image.{DiskRecords, Standing, records_of, stands_for, half_of, area_of}
-use Rattle.mot_journal.specs.Image.{rest_of}
-use Rattle.mot_journal.specs.Image.{IsClean, IsInLayoutTwo, IsSecondHalfEmpty}
+use Rattle.mot_journal.specs.Image.{catalogue_of, DiskRecords, Standing, records_of, stands_for}
+use Rattle.mot_journal.specs.Image.{half_of, area_of, rest_of, IsClean, IsInLayoutTwo}
+use Rattle.mot_journal.specs.Image.{IsSecondHalfEmpty}
 use Rattle.mot_numbers.specs.declared.refusal.Refusal.{Refusal}
 use Rattle.mot_numbers.specs.declared.refusal.Refusal.TheVariants.{OutOfMemory, DeviceFault}
 use Rattle.mot_numbers.specs.declared.refusal.Refusal.TheVariants.{NotFormatted, Damaged}

@@ -2,8 +2,7 @@
 use Rattle.std.specs.Prelude.{◌≡◌, ◌⊎◌, ◌↔◌, ◌+◌, ◌*◌, ◌<◌, ℕ, List, true, false, Result}
 use Rattle.std.specs.Prelude.{MatchResult, OnOk, IfErr, IsErrOf, Ok, IsOk}
 use Rattle.disk_model.specs.Disk.{State, Costs, IsFirm, IsStill, IsUnchanged, KeepsLength}
-use Rattle.disk_model.specs.Disk.{Throughout}
-use Rattle.disk_model.specs.Failures.{Rises}
+use Rattle.disk_model.specs.Disk.{Throughout, Rises}
 use Rattle.mot_journal.specs.declared.layout.Layout.TheVariants.{Two}
 use Rattle.mot_journal.specs.Geometry.{has_magic}
 use Rattle.mot_journal.specs.Journal.{HasAreaOf, IsNewDisk, NoneOrFrom}

@@ -2,8 +2,7 @@
 ghost use Rattle.std.specs.Prelude.{◌≡◌, ◌+◌, ◌-◌, ◌*◌, ◌≤◌, ◌<◌, ℕ, List, length, false, OnOk};
 ghost use Rattle.std.specs.Prelude.{IfOk};
 ghost use Rattle.arrayvec.specs.ArrayVec.{array_vec_len};
-ghost use Rattle.disk_model.specs.Disk.{Keeps, OnlySyncs, Throughout, Costs, IsFirm};
-ghost use Rattle.disk_model.specs.Failures.{HasCause};
+ghost use Rattle.disk_model.specs.Disk.{Keeps, OnlySyncs, Throughout, Costs, IsFirm, HasCause};
 ghost use Rattle.mot_journal.specs.declared.layout.Layout.TheVariants.{Two};
 ghost use Rattle.mot_journal.specs.Geometry.{has_magic};
 ghost use Rattle.mot_journal.specs.Slot.{slot_count, AreSound};

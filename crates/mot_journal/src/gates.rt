@@ -1,7 +1,6 @@
 //! The gates of a half, as they are read.
 ghost use Rattle.std.specs.Prelude.{◌≡◌, ◌+◌, ◌/◌, ◌≤◌, length, IfOk, OnOk, IsErr};
-ghost use Rattle.disk_model.specs.Disk.{OnlyReads};
-ghost use Rattle.disk_model.specs.Failures.{Rises};
+ghost use Rattle.disk_model.specs.Disk.{OnlyReads, Rises};
 ghost use Rattle.mot_journal.specs.Image.{are_gates_clean as gates_clean, gate_reads, slots_in};
 ghost use Rattle.mot_journal.specs.Slot.{slot_size};
 ghost use Rattle.mot_journal.specs.Inner.Steps.{scan, slots_in_half};

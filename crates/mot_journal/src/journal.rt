@@ -2,8 +2,7 @@
 ghost use Rattle.std.specs.Prelude.{◌≡◌, ◌≤◌, ◌<◌, ◌+◌, ◌^◌, ◌++◌, List, [], ◌∷◌, length, true, Ok};
 ghost use Rattle.std.specs.Prelude.{OnOk, OnErr, MatchResult, ◌↔◌, IfOk, IfErr, IfSome, IsErr};
 ghost use Rattle.std.specs.Prelude.{IsTrue, IsFalse, All};
-ghost use Rattle.disk_model.specs.Disk.{Keeps, Costs, OnlyReads, Throughout};
-ghost use Rattle.disk_model.specs.Failures.{HasCause, Rises};
+ghost use Rattle.disk_model.specs.Disk.{Keeps, Costs, OnlyReads, Throughout, HasCause, Rises};
 ghost use Rattle.mot_journal.specs.Geometry.{geometry_of};
 ghost use Rattle.mot_journal.specs.Slot.{is_sound, slot_count, AreSound};
 ghost use Rattle.mot_journal.specs.Image.{records_of, has_clean_gates, gate_reads};

@@ -1,11 +1,9 @@
 //! The writes of the journal, as runs of calls of the disk.
 ghost use Rattle.std.specs.Prelude.{◌≡◌, ◌+◌, ◌*◌, ◌^◌, ◌<◌, ◌≤◌, ℕ, length, OnOk};
-ghost use Rattle.disk_model.specs.Disk.{Keeps, Costs, Throughout};
-ghost use Rattle.disk_model.specs.Failures.{HasCause};
-ghost use Rattle.mot_journal.specs.Slot.{slot_count, slot_size};
+ghost use Rattle.disk_model.specs.Disk.{Keeps, Costs, Throughout, HasCause};
+ghost use Rattle.mot_journal.specs.Slot.{slot_count, slot_size, AreSound};
 ghost use Rattle.mot_journal.specs.Inner.Steps.{IsGated, LeavesWritten, HasCauseOf, ChangesWithin};
 ghost use Rattle.mot_journal.specs.Inner.Steps.{HasSlots, Publishes};
-ghost use Rattle.mot_journal.specs.Slot.{AreSound};
 ghost use Rattle.mot_numbers.specs.Geometry.{half_size, half_start as start_of_half, length_of};
 
 use crate::encoding::put_slot_or_zeros;

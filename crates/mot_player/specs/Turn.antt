@@ -7,7 +7,7 @@ use Rattle.mot_directory.specs.Entries.{directory_of}
 use Rattle.mot_groups.specs.Entity.{segments_of}
 use Rattle.mot_groups.specs.Group.{Segment}
 use Rattle.mot_objects.specs.Carousel.{Object, Carousel}
-use Rattle.disk_model.specs.Failures.{Rises}
+use Rattle.disk_model.specs.Disk.{Rises}
 use Rattle.mot_numbers.specs.declared.refusal.Refusal.{Refusal}
 use Rattle.mot_numbers.specs.declared.refusal.Refusal.TheVariants.{DeviceFault}
 use Rattle.mot_objects.specs.Ids.{is_distinct}

@@ -1,7 +1,7 @@
 //! The source of a player's bodies.
 ghost use Rattle.std.specs.Prelude.{◌≡◌, ◌+◌, ◌<◌, ◌≤◌, List, ℕ, length, map, refl, slice_range};
 ghost use Rattle.std.specs.Prelude.{OnOk, IfErr};
-ghost use Rattle.disk_model.specs.Failures.{HasCause};
+ghost use Rattle.disk_model.specs.Disk.{HasCause};
 ghost use Rattle.mot_numbers.specs.declared.refusal.Refusal.TheVariants.{DeviceFault};
 ghost use Rattle.mot_player.specs.Turn.{body_at};
 

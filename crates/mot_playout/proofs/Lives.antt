@@ -1,15 +1,13 @@
 -- What was left of a disk that was formatted here, opened and played.
-use Rattle.std.proofs.Common.{◌≡◌, ◌⊎◌, inl, inr, ℕ, false, List, [], Option, Some, None}
-use Rattle.std.proofs.Common.{Ok, Err, refl, sym, ap, ◌∙◌, subst}
+use Rattle.std.proofs.Common.{◌≡◌, ◌⊎◌, inl, inr, ℕ, false, List, [], Option, Some, None, Ok, Err}
+use Rattle.std.proofs.Common.{refl, sym, ap, ◌∙◌, subst}
 use Rattle.std.specs.Prelude.{IfSome, IsFalse}
-use Rattle.disk_model.specs.Disk.{State}
-use Rattle.disk_model.specs.Failures.{Rises}
-use Rattle.mot_journal.specs.Image.{catalogue_of}
+use Rattle.disk_model.specs.Disk.{State, Rises}
+use Rattle.mot_journal.specs.Image.{catalogue_of, area_of, half_of, journal_in_half}
+use Rattle.mot_journal.specs.Image.{or_not_formatted, records_of, rest_of, stands_for}
 use Rattle.mot_numbers.specs.Refusal.{◌>>=◌}
 use Rattle.mot_journal.specs.Catalogue.{carousel_in, extents_of}
-use Rattle.mot_journal.specs.Geometry.{geometry_of, selected_half}
-use Rattle.mot_journal.specs.Image.{area_of, half_of, journal_in_half, or_not_formatted, records_of}
-use Rattle.mot_journal.specs.Image.{rest_of, stands_for}
+use Rattle.mot_journal.specs.Geometry.{geometry_of, selected_half, has_magic}
 use Rattle.mot_numbers.specs.declared.refusal.Refusal.{Refusal}
 use Rattle.mot_numbers.specs.declared.refusal.Refusal.TheVariants.{NotFormatted}
 use Rattle.mot_journal.specs.Journal.IsReadingRefusal.{not_formatted, damaged, no_memory, device}
@@ -19,7 +17,6 @@ use Rattle.mot_playout.specs.RunEnds.{IsRunFault}
 use Rattle.mot_playout.specs.RunEnds as ends
 use Rattle.mot_playout.proofs.Answered.{not_halted}
 use Rattle.mot_playout.proofs.Histories.{no-geometry}
-use Rattle.mot_journal.specs.Geometry.{has_magic}
 use Rattle.mot_journal.specs.Journal.{NoneOrFrom, standing_from}
 use Rattle.mot_numbers.specs.declared.geometry.Geometry.{Geometry}
 use Rattle.mot_objects.specs.declared.command.Command.{Command}

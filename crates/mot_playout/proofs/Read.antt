@@ -3,8 +3,7 @@ use Rattle.std.proofs.Common.{◌≡◌, false, true, inl, ⊎_elim, ℕ, zero, 
 use Rattle.std.proofs.Common.{Ok, length, map, get_or, refl, sym, ap, ◌∙◌, subst, arith}
 use Rattle.std.proofs.Math.Nat.{eq-or-lt_of_le}
 use Rattle.std.proofs.lemmas.List.{ext_get_or, get_or-map}
-use Rattle.disk_model.specs.Disk.{State, IsHonestDisk, IsUnchanged}
-use Rattle.disk_model.specs.Failures.{Rises}
+use Rattle.disk_model.specs.Disk.{State, IsHonestDisk, IsUnchanged, Rises}
 use Rattle.mot_journal.specs.Image.{Standing, records_of, stands_for}
 use Rattle.mot_journal.specs.Journal.{with_records}
 use Rattle.mot_numbers.specs.declared.geometry.Geometry.{Geometry}

@@ -1,7 +1,7 @@
 -- Why a call that reads a body is refused.
 use Rattle.std.proofs.Common.{◌≡◌, ◌∙◌, ℕ, Result, Ok, Err, true, false, sym, ap, subst}
 use Rattle.std.specs.Prelude.{IsFalse, IsTrue, IfErr, OnErr, OnOk}
-use Rattle.disk_model.specs.Failures.{Rises}
+use Rattle.disk_model.specs.Disk.{Rises}
 use Rattle.mot_numbers.specs.declared.refusal.Refusal.{Refusal}
 use Rattle.mot_numbers.specs.declared.refusal.Refusal.TheVariants.{DeviceFault}
 use Rattle.mot_repository.specs.Repository.{RepositoryView}

@@ -1,8 +1,7 @@
 -- How a run of commands ends, and what it leaves.
 use Rattle.std.specs.Prelude.{◌≡◌, ℕ, Bool, true, false, List, [], ◌∷◌, ◌++◌, Option, IsTrue}
 use Rattle.std.specs.Prelude.{IsFalse, None, Some, ⊤, Ok, Err}
-use Rattle.disk_model.specs.Disk.{State, Throughout}
-use Rattle.disk_model.specs.Failures.{Rises}
+use Rattle.disk_model.specs.Disk.{State, Throughout, Rises}
 use Rattle.mot_journal.specs.Image.{Standing}
 use Rattle.mot_numbers.specs.declared.refusal.Refusal.{Refusal}
 use Rattle.mot_numbers.specs.declared.refusal.Refusal.TheVariants.{OutOfMemory, DeviceFault, Halted}

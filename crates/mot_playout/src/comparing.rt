@@ -1,7 +1,6 @@
 //! Whether a body on the disk has these bytes.
 ghost use Rattle.std.specs.Prelude.{◌≡◌, ◌<◌, ◌↔◌, length, IfOk, IfErr, IsTrue, OnErr, OnOk};
-ghost use Rattle.disk_model.specs.Disk.{OnlyReads};
-ghost use Rattle.disk_model.specs.Failures.{Rises};
+ghost use Rattle.disk_model.specs.Disk.{OnlyReads, Rises};
 ghost use Rattle.mot_journal.specs.Image.{Standing};
 ghost use Rattle.mot_numbers.specs.declared.refusal.Refusal.TheVariants.{DeviceFault};
 ghost use Rattle.mot_repository.specs.OnDisk.{extent_at};

@@ -5,9 +5,8 @@ use Rattle.std.specs.Prelude.{IsFalse, Result, IsErr, IfSome, OnOk, Option, Some
 use Rattle.std.proofs.Math.Nat.{eq-or-lt_of_le}
 use Rattle.std.specs.List.{AllByRecursion}
 use Rattle.disk_model.specs.Disk.{State, IsStill, IsUnchanged, IsFirm, IsHonestDisk, KeepsLength}
-use Rattle.disk_model.specs.Disk.{OnlyReads, OnlySyncs}
+use Rattle.disk_model.specs.Disk.{OnlyReads, OnlySyncs, Rises, HasCause}
 use Rattle.disk_model.proofs.Laws.{keeps_on}
-use Rattle.disk_model.specs.Failures.{Rises, HasCause}
 use Rattle.mot_journal.specs.declared.layout.Layout.{Layout}
 use Rattle.mot_journal.specs.declared.record.Record.{Record}
 use Rattle.mot_journal.specs.Slot.{is_sound}

@@ -1,7 +1,6 @@
 -- What the calls of a repository answer, and what they leave in memory.
 use Rattle.std.specs.Prelude.{◌≡◌, false, Result, Ok, Err, IsTrue, IsFalse}
-use Rattle.disk_model.specs.Disk.{State, IsUnchanged}
-use Rattle.disk_model.specs.Failures.{Rises}
+use Rattle.disk_model.specs.Disk.{State, IsUnchanged, Rises}
 use Rattle.mot_journal.specs.Image.{Standing}
 use Rattle.mot_journal.specs.declared.layout.Layout.TheVariants.{Two}
 use Rattle.mot_numbers.specs.declared.refusal.Refusal.{Refusal}

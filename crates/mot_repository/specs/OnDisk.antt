@@ -1,6 +1,6 @@
 -- What contracts see of a repository.
 use Rattle.std.specs.Prelude.{◌≡◌, ℕ, ◌+◌, List, slice_index_or, slice_range, IsTrue, IsFalse, map}
-use Rattle.disk_model.specs.Failures.{Rises}
+use Rattle.disk_model.specs.Disk.{Rises}
 use Rattle.mot_numbers.specs.declared.refusal.Refusal.{Refusal}
 use Rattle.mot_numbers.specs.declared.refusal.Refusal.TheVariants.{DeviceFault, Halted}
 use Rattle.mot_numbers.specs.declared.geometry.Geometry.{Geometry}

@@ -1,7 +1,6 @@
 -- What an opening gives, and why a disk is not opened.
 use Rattle.std.specs.Prelude.{◌≡◌, ◌⊎◌, List, length, Ok, IsFalse}
-use Rattle.disk_model.specs.Disk.{State, IsFirm}
-use Rattle.disk_model.specs.Failures.{Rises}
+use Rattle.disk_model.specs.Disk.{State, IsFirm, Rises}
 use Rattle.mot_journal.specs.declared.record.Record.{Record}
 use Rattle.mot_journal.specs.Image.{Standing, records_of, stands_for}
 use Rattle.mot_journal.specs.Journal.{IsReadingRefusal, with_records}

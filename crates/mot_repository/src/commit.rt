@@ -1,8 +1,7 @@
 //! A commit as a whole: room in the half, the body, and the record.
 ghost use Rattle.std.specs.Prelude.{◌≡◌, ◌+◌, ◌≤◌, ◌<◌, ℕ, true, length, Ok, OnOk, OnErr, IfErr};
 ghost use Rattle.std.specs.Prelude.{IsFalse};
-ghost use Rattle.disk_model.specs.Disk.{Keeps, Costs, Throughout};
-ghost use Rattle.disk_model.specs.Failures.{HasCause};
+ghost use Rattle.disk_model.specs.Disk.{Keeps, Costs, Throughout, HasCause};
 ghost use Rattle.mot_journal.specs.Slot.{is_sound, slot_count};
 ghost use Rattle.mot_journal.specs.Catalogue.{Catalogue};
 ghost use Rattle.mot_journal.specs.Image.{catalogue_of, Standing};

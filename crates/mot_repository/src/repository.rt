@@ -48,8 +48,7 @@ impl<D: Disk> Model for Repository<D> {
 
 impl<D: Disk> Repository<D> {
     ghost use Rattle.disk_model.specs.Disk.{Keeps, KeepsLength, Costs, IsUnchanged, OnlyReads};
-    ghost use Rattle.disk_model.specs.Disk.{Throughout};
-    ghost use Rattle.disk_model.specs.Failures.{HasCause};
+    ghost use Rattle.disk_model.specs.Disk.{Throughout, HasCause};
     ghost use Rattle.mot_numbers.specs.declared.refusal.Refusal.TheVariants.{DeviceFault};
     ghost use Rattle.mot_numbers.specs.Geometry.{area_start, is_valid};
     ghost use Rattle.mot_objects.specs.declared.command.Command.{Command};

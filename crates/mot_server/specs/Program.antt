@@ -5,7 +5,7 @@ use Rattle.std.specs.Option.{option_map_or}
 use Rattle.clap.specs.Words.{Text, subcommand_of}
 use Rattle.disk_store.specs.declared.file.start.Start.{Ghosts}
 use Rattle.mot_air.specs.Commands.{IsUnplayed, PlaysTask, needs_of}
-use Rattle.mot_sync_command.specs.Commands.{IsUnsynced, SyncsTask, synced_with}
+use Rattle.mot_sync_command.specs.Syncing.{IsUnsynced, SyncsTask, synced_with}
 use Rattle.mot_cli.specs.Command.{motcar_app}
 use Rattle.mot_cli.specs.Task.{AskForNothing, IsTask, LackOption, bad_number}
 use Rattle.mot_cli.specs.declared.task.Task.{Task}

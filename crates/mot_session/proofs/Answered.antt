@@ -28,13 +28,13 @@ use Rattle.mot_playout.proofs.Laws.{after_none, before_or_after, holds_still, mo
 use Rattle.mot_playout.proofs.Laws.{not_halted, not_ok, still_agrees}
 use Rattle.mot_session.specs.Session.{raw_group, packets_at, Reply, Answers, IsAnswer}
 use Rattle.mot_session.specs.Session.{NeedsCarousel, decided, no_memory, accepts, refuses, fails}
-use Rattle.mot_session.specs.Inner.Decision.{Decides, MayWrite, may_be_done, written_by}
+use Rattle.mot_session.specs.Session.{ServerState, StandsFor, Stays, state_of, command_in}
+use Rattle.mot_session.specs.Inner.Writes.{Decides, MayWrite, may_be_done, written_by, Crosses}
+use Rattle.mot_session.specs.Inner.Writes.{ReadsAlone, may_have_done}
 use Rattle.mot_session.specs.Session as session
 use Rattle.mot_session.specs.declared.deciding.Decision.{Decision}
 use Rattle.mot_session.specs.declared.deciding.Decision.TheVariants.{Refused, Accepted, Listing}
 use Rattle.mot_session.specs.declared.deciding.Decision.TheVariants.{Packets, Next, Turn}
-use Rattle.mot_session.specs.State.{ServerState, StandsFor, Stays, state_of, command_in}
-use Rattle.mot_session.specs.Inner.Writes.{Crosses, ReadsAlone, may_have_done}
 use Rattle.mot_session.proofs.Anyhow.{plays-parsed, same_done, same_refusal}
 use Rattle.mot_session.proofs.Outcomes.{done_by, failed_by_reply}
 use Rattle.mot_session.proofs.Written.{stays-none}

@@ -21,11 +21,11 @@ use Rattle.mot_player.specs.Place.{changed, follow, sent_by}
 use Rattle.mot_player.specs.Turn.{Turn, turn_of_carousel}
 use Rattle.mot_player.proofs.Laws.{steps-are-continuous, steps-go_on}
 use Rattle.mot_session.specs.Laws.{SessionsAreContinuous}
-use Rattle.mot_session.specs.State.{PlaysForRequest, HasJustOpened, ServerState}
+use Rattle.mot_session.specs.Session.{PlaysForRequest, HasJustOpened, ServerState, Exchange, Reply}
+use Rattle.mot_session.specs.Session.{refused, listing, played, IsCommandAnswer, accepts, refuses}
+use Rattle.mot_session.specs.Session.{fails, IsAnswer, Answers, decided, halted, no_memory, Session}
+use Rattle.mot_session.specs.Session.{packets_in, packets_played}
 use Rattle.mot_session.specs.Served.{Begins, whole, begun}
-use Rattle.mot_session.specs.Session.{Exchange, Reply, refused, listing, played, IsCommandAnswer}
-use Rattle.mot_session.specs.Session.{accepts, refuses, fails, IsAnswer, Answers, decided, halted}
-use Rattle.mot_session.specs.Session.{no_memory, Session, packets_in, packets_played}
 
 -- steps that led from a place to another, and the packets that they sent
 record Leads (before after : Place) (sent : List (List ℕ)) : Type 0 where

@@ -1,15 +1,13 @@
 -- What a crash leaves of a session, line by line.
-use Rattle.std.proofs.Common.{ℕ, ◌≤◌, ◌⊎◌, inl, inr, Bool, true, false, List, [], ◌∷◌}
-use Rattle.std.proofs.Common.{refl, sym, subst, arith}
+use Rattle.std.proofs.Common.{ℕ, ◌≤◌, ◌⊎◌, inl, inr, Bool, true, false, List, [], ◌∷◌, refl, sym}
+use Rattle.std.proofs.Common.{subst, arith}
 use Rattle.std.specs.Prelude.{IsTrue, IsFalse}
 use Rattle.mot_journal.specs.Image.{Standing}
 use Rattle.mot_lines.specs.Line.{line_of}
 use Rattle.mot_objects.specs.declared.command.Command.{Command}
 use Rattle.mot_playout.specs.Runs.{IsAfter, StandsAfterSome}
-use Rattle.mot_playout.proofs.Laws.{after_none, after_one}
-use Rattle.mot_playout.proofs.Laws.{after_history_none}
-use Rattle.mot_session.specs.Session.{Exchange, Session}
-use Rattle.mot_session.specs.State.{ServerState}
+use Rattle.mot_playout.proofs.Laws.{after_none, after_one, after_history_none}
+use Rattle.mot_session.specs.Session.{Exchange, Session, ServerState}
 use Rattle.mot_session.specs.Inner.Writes.{accepted_in, failed_in}
 use Rattle.mot_session.proofs.Outcomes.{Outcome, answer-failures, halts, nothing, one}
 

@@ -11,7 +11,7 @@ use Rattle.mot_session.specs.declared.serving.output.WriteFault.{WriteFault}
 use Rattle.mot_session.specs.Inner.Anyhow.{AnswersWithAnyhow}
 use Rattle.mot_session.specs.Inner.Writes.{AnswersLine}
 use Rattle.mot_session.specs.LineByLine.{BreaksOff, GoesOn, ServesEach, ServesOne, ServesSome}
-use Rattle.mot_session.specs.State.{Leads}
+use Rattle.mot_session.specs.Session.{Leads}
 use Rattle.mot_session.proofs.Told.{ServedLine-told, StoppedLine-told}
 
 module _ {D : Type 0} (state : D → State) where

@@ -1,9 +1,8 @@
 -- No more device faults are answered than the disk has.
-use Rattle.std.proofs.Common.{◌≡◌, ◌⊎◌, inl, inr, ℕ, ◌+◌, ◌≤◌, Bool, true, false, List, []}
-use Rattle.std.proofs.Common.{◌∷◌}
+use Rattle.std.proofs.Common.{◌≡◌, ◌⊎◌, inl, inr, ℕ, ◌+◌, ◌≤◌, Bool, true, false, List, [], ◌∷◌}
 use Rattle.std.proofs.Common.{Result, Ok, Err, refl, sym, ap, ◌∙◌, subst, arith}
 use Rattle.std.specs.Prelude.{if◌then◌else◌, IsTrue}
-use Rattle.disk_model.specs.Failures.{Rises, most_failures}
+use Rattle.disk_model.specs.Disk.{Rises, most_failures}
 use Rattle.mot_lines.specs.Line.{line_of}
 use Rattle.mot_lines.specs.declared.line.Line.{Line}
 use Rattle.mot_lines.specs.declared.line.Line.TheVariants as asks
@@ -14,10 +13,9 @@ use Rattle.mot_numbers.specs.Refusal.{is_device_fault}
 use Rattle.mot_objects.specs.declared.command.Command.{Command}
 use Rattle.mot_player.specs.Place.{Sent}
 use Rattle.mot_session.specs.Laws.{FaultsAreTheDisks, faults_in, has_fault}
-use Rattle.mot_session.specs.Session.{Reply, refused, listing, played, accepted}
-use Rattle.mot_session.specs.Session.{IsCommandAnswer, accepts, refuses, fails}
-use Rattle.mot_session.specs.Session.{IsAnswer, Answers, decided, halted, no_memory, Session}
-use Rattle.mot_session.specs.State.{ServerState}
+use Rattle.mot_session.specs.Session.{Reply, refused, listing, played, accepted, IsCommandAnswer}
+use Rattle.mot_session.specs.Session.{accepts, refuses, fails, IsAnswer, Answers, decided, halted}
+use Rattle.mot_session.specs.Session.{no_memory, Session, ServerState}
 use Rattle.mot_session.proofs.Crashes.{session-failures}
 use Rattle.mot_session.proofs.Outcomes.{answer-failures, refused-fine}
 

@@ -12,8 +12,7 @@ use Rattle.mot_session.specs.Life.{Told, done_in, fails_in, is_done}
 use Rattle.mot_session.specs.LineByLine.{BreaksOff, ServesOne}
 use Rattle.mot_session.specs.OnAnyDisk.{AnswersAnyhow, BeginsAnyhow}
 use Rattle.mot_session.specs.Served.{BrokenOff, ServedLine, StoppedLine}
-use Rattle.mot_session.specs.Session.{Answers, text_of}
-use Rattle.mot_session.specs.State.{ServerState, command_in}
+use Rattle.mot_session.specs.Session.{Answers, text_of, ServerState, command_in}
 
 module _ (bytes line : List ℕ) (same : line_of bytes ≡ line_of line) where
   module _ (start now : State) (before after : ServerState) (text : List ℕ) where

@@ -8,8 +8,7 @@ use Rattle.std.proofs.lemmas.List.{length-map}
 use Rattle.std.specs.Io.KnownBytes.{Appends, IsAtEnd, Keeps}
 use Rattle.std.specs.List.{AllByRecursion, flat_map}
 use Rattle.std.specs.Prelude.{IsTrue, IsFalse, IfOk, if◌then◌else◌}
-use Rattle.disk_model.specs.Disk.{State, IsHonestDisk, IsUnchanged}
-use Rattle.disk_model.specs.Failures.{Rises}
+use Rattle.disk_model.specs.Disk.{State, IsHonestDisk, IsUnchanged, Rises}
 use Rattle.mot_journal.specs.declared.layout.Layout.TheVariants.{Two}
 use Rattle.mot_journal.specs.Image.{Standing}
 use Rattle.mot_journal.specs.Journal.{standing_from}
@@ -29,15 +28,14 @@ use Rattle.mot_playout.specs.Life.{AreNumbered, carousel_from}
 use Rattle.mot_playout.specs.Runs.{IsAfter, StandsAfterSome, ServerView}
 use Rattle.mot_playout.proofs.Laws.{more, none_of, not_halted, rises_on}
 use Rattle.mot_playout.specs.Lives.{HasDone, LivesOn}
-use Rattle.mot_session.specs.Inner.Decision.{IsKeptFrom}
+use Rattle.mot_session.specs.Inner.Writes.{IsKeptFrom}
 use Rattle.mot_session.specs.Life.{Told, commands_done, done_in, AreRightReplies, fails_in, Tells}
 use Rattle.mot_session.specs.Life.{is_done}
 use Rattle.mot_session.specs.Replies.{IsReply}
 use Rattle.mot_repository.proofs.Laws.{rules_kept}
 use Rattle.mot_session.specs.LineByLine.{BreaksOff, ServesEach, ServesOne, ServesSome}
 use Rattle.mot_session.specs.Served.{EndsServing, TakesInput}
-use Rattle.mot_session.specs.Session.{text_of}
-use Rattle.mot_session.specs.State.{ServerState, StandsFor, state_of, command_in}
+use Rattle.mot_session.specs.Session.{text_of, ServerState, StandsFor, state_of, command_in}
 use Rattle.mot_session.specs.Kept.{HoldsSince, IsToldAndStored}
 use Rattle.mot_session.proofs.Crashes.{halted_or_not}
 use Rattle.mot_session.proofs.Ends.{memory_not_read, read_not_write}

@@ -2,8 +2,7 @@
 use Rattle.std.proofs.Common.{◌≡◌, ◌⊎◌, ℕ, true, List, [], ◌∷◌, ◌++◌, None, Option, Result, Ok, Err}
 use Rattle.std.proofs.Common.{refl, sym, subst}
 use Rattle.std.specs.Prelude.{OnOk, OnErr, if◌then◌else◌}
-use Rattle.disk_model.specs.Disk.{State, IsHonestDisk}
-use Rattle.disk_model.specs.Failures.{Rises}
+use Rattle.disk_model.specs.Disk.{State, IsHonestDisk, Rises}
 use Rattle.mot_journal.specs.Image.{Standing}
 use Rattle.mot_journal.specs.Journal.{standing_from}
 use Rattle.mot_lines.specs.Line.{line_of}
@@ -15,8 +14,7 @@ use Rattle.mot_playout.specs.Lives.{HasDone}
 use Rattle.mot_playout.specs.Runs.{IsAfter, StandsAfterSome, ServerView}
 use Rattle.mot_session.specs.Life.{AreRightReplies, Told, TellsLine, done_in, fails_in, is_done}
 use Rattle.mot_session.specs.LineByLine.{BreaksOff, ServesOne}
-use Rattle.mot_session.specs.Session.{text_of}
-use Rattle.mot_session.specs.State.{StandsFor, state_of, command_in}
+use Rattle.mot_session.specs.Session.{text_of, StandsFor, state_of, command_in}
 use Rattle.mot_session.proofs.Lives.{Step, done_at, done_stands, one_at_most, rules_of, image_of}
 use Rattle.mot_session.proofs.Lives.{kept_by, line_failed, since_before, step_made}
 use Rattle.mot_session.proofs.Ruled.{carousel_at, line-short, right_more, right_reply}

@@ -2,7 +2,7 @@
 use Rattle.std.proofs.Common.{◌≡◌, ◌≤◌, Bool, true, false, List, [], ◌∷◌, Result, Ok, Err, refl, ap}
 use Rattle.std.proofs.Common.{◌∙◌, subst, sym}
 use Rattle.std.specs.Prelude.{IsTrue, IsFalse, if◌then◌else◌}
-use Rattle.disk_model.specs.Failures.{Rises}
+use Rattle.disk_model.specs.Disk.{Rises}
 use Rattle.mot_journal.specs.declared.layout.Layout.{Layout}
 use Rattle.mot_journal.specs.Image.{Standing}
 use Rattle.mot_lines.specs.declared.line.Line.{Line}
@@ -16,8 +16,7 @@ use Rattle.mot_repository.specs.Outcome.{after_command}
 use Rattle.mot_repository.proofs.Laws.{refused_so}
 use Rattle.mot_session.specs.Session.{Reply, refused, listing, packets, played, IsCommandAnswer}
 use Rattle.mot_session.specs.Session.{accepts, refuses, fails, IsAnswer, Answers, decided, halted}
-use Rattle.mot_session.specs.Session.{no_memory}
-use Rattle.mot_session.specs.State.{PlaysForRequest, ServerState, command_in}
+use Rattle.mot_session.specs.Session.{no_memory, PlaysForRequest, ServerState, command_in}
 use Rattle.mot_session.specs.Served.{Begins, whole, begun}
 use Rattle.mot_player.specs.Place.{Sent}
 use Rattle.mot_session.specs.Session as session

@@ -7,7 +7,7 @@ use Rattle.mot_lines.specs.declared.line.Line.TheVariants as asks
 use Rattle.mot_player.specs.Place.{Sent}
 use Rattle.mot_session.specs.declared.serving.output.WriteFault.{WriteFault}
 use Rattle.mot_session.specs.Inner.Writes.{AnswersOne, AnswersRequest, sends, fails}
-use Rattle.mot_session.specs.State.{sent_lines, ServerState}
+use Rattle.mot_session.specs.Session.{sent_lines, ServerState}
 use Rattle.mot_session.proofs.Written.{Answered-turn, AnswersRequest-next_cut}
 use Rattle.mot_session.proofs.Written.{AnswersRequest-turn_cut, BrokenOff-next, BrokenOff-turn}
 use Rattle.mot_session.proofs.Written.{Sends, Sends-more, SendsTurn-ended, SendsWithinTurn}

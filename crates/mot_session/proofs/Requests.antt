@@ -16,7 +16,7 @@ use Rattle.mot_session.specs.declared.serving.output.WriteFault.{WriteFault}
 use Rattle.mot_session.specs.Inner.Writes.{AnswersOne, ReadsAlone, sends}
 use Rattle.mot_session.specs.Served.{Writes}
 use Rattle.mot_session.specs.LineByLine.{GoesOn}
-use Rattle.mot_session.specs.State.{KeepsCarousel, StandsFor, state_of}
+use Rattle.mot_session.specs.Session.{KeepsCarousel, StandsFor, state_of}
 
 module _ {D : Type 0} (old new : ServerView D) (start now : State)
     (reads : ReadsAlone old new start now)

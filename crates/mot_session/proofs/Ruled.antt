@@ -6,7 +6,7 @@ use Rattle.std.specs.List.{list_all}
 use Rattle.std.specs.Prelude.{⊤, All, IsTrue, IsFalse, if◌then◌else◌, nat_le, nat_lt, ◌&&◌, ◌==◌}
 use Rattle.std.specs.Prelude.{not}
 use Rattle.std.specs.Str.{is_utf8}
-use Rattle.disk_model.specs.Failures.{Rises}
+use Rattle.disk_model.specs.Disk.{Rises}
 use Rattle.mot_journal.specs.declared.layout.Layout.TheVariants.{Two}
 use Rattle.mot_journal.specs.Image.{Standing, stands_for}
 use Rattle.mot_objects.specs.declared.command.Item.{Item}
@@ -40,8 +40,7 @@ use Rattle.mot_session.specs.Life.{AreRightReplies, Told}
 use Rattle.mot_session.specs.Replies.{IsRightReply, IsShown}
 use Rattle.mot_session.specs.Session.{Answers, IsAnswer, IsCommandAnswer, NeedsCarousel, Reply}
 use Rattle.mot_session.specs.Session.{accepted, accepts, decided, fails, halted, no_memory, refused}
-use Rattle.mot_session.specs.Session.{refuses, text_of}
-use Rattle.mot_session.specs.State.{KeepsCarousel, ServerState, Stays}
+use Rattle.mot_session.specs.Session.{refuses, text_of, KeepsCarousel, ServerState, Stays}
 use Rattle.mot_session.proofs.Shown.{list-reply, plays-shown, raw-reply}
 
 -- ---- a command of a line has no name that is too long

@@ -4,7 +4,7 @@ use Rattle.std.proofs.Common.{length-append}
 use Rattle.mot_lines.specs.Lines.{bytes_in_hand, HasNoLineEnd, rest_of}
 use Rattle.mot_lines.proofs.Laws.{whole_lines-none, rest_of-none, whole_lines-end, rest_of-end}
 use Rattle.mot_lines.proofs.Laws.{whole_lines-within, rest_of-within}
-use Rattle.mot_session.specs.Inner.Decision.{InHand}
+use Rattle.mot_session.specs.Inner.Writes.{InHand}
 
 -- of no input nothing is in hand, and no lines are counted
 pub InHand-none : (hand : List ℕ) → hand ≡ bytes_in_hand [] → InHand [] hand 0

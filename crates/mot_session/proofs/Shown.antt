@@ -31,12 +31,11 @@ use Rattle.mot_objects.specs.declared.command.Done.{Done}
 use Rattle.mot_packets.specs.Written.{bytes_of_packet}
 use Rattle.mot_packets.proofs.Laws.{length-packets_of_group}
 use Rattle.mot_player.specs.Place.{Place, Request, Sent, request, sent_by}
-use Rattle.mot_session.specs.State.{PlaysForRequest, sent_lines, ServerState}
+use Rattle.mot_session.specs.Session.{PlaysForRequest, sent_lines, ServerState, raw_group}
+use Rattle.mot_session.specs.Session.{raw_packets, Answers, decided, halted, no_memory, IsAnswer}
+use Rattle.mot_session.specs.Session.{IsCommandAnswer, NeedsCarousel, Reply, accepted, accepts}
+use Rattle.mot_session.specs.Session.{fails, listing, packets, played, refused, refuses, text_of}
 use Rattle.mot_session.specs.Replies.{AreAsked, IsReply, IsShown, Shown, ends_of, shown_lines}
-use Rattle.mot_session.specs.Session.{raw_group, raw_packets, Answers, decided, halted, no_memory}
-use Rattle.mot_session.specs.Session.{IsAnswer, IsCommandAnswer, NeedsCarousel, Reply, accepted}
-use Rattle.mot_session.specs.Session.{accepts, fails, listing, packets, played, refused, refuses}
-use Rattle.mot_session.specs.Session.{text_of}
 use Rattle.mot_session.specs.Served.{Begins, whole}
 
 -- ---- bytes that end no line

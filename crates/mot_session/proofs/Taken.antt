@@ -6,7 +6,7 @@ use Rattle.mot_lines.specs.Lines.{bytes_in_hand, HasNoLineEnd, whole_lines, rest
 use Rattle.mot_lines.specs.Line.{line_of}
 use Rattle.mot_lines.proofs.Laws.{whole_lines-end, whole_lines-front, whole_lines-within}
 use Rattle.mot_playout.specs.Runs.{ServerView}
-use Rattle.mot_session.specs.Inner.Decision.{InHand}
+use Rattle.mot_session.specs.Inner.Writes.{InHand}
 use Rattle.mot_session.specs.LineByLine.{BreaksOff, ServesEach, ServesOne, ServesSome}
 use Rattle.mot_session.proofs.Each.{each-more, some-here}
 use Rattle.mot_session.proofs.Kept.{BreaksOff-of_line, ServesOne-of_line}

@@ -20,11 +20,10 @@ use Rattle.mot_session.specs.Life.{Told, done_in, fails_in, is_done}
 use Rattle.mot_session.specs.Session.{Answers, decided, halted, no_memory, IsAnswer}
 use Rattle.mot_session.specs.Session.{IsCommandAnswer, NeedsCarousel, packets, raw_packets}
 use Rattle.mot_session.specs.Session.{Exchange, Reply, accepted, refused, accepts, refuses, fails}
-use Rattle.mot_session.specs.Session.{text_of}
+use Rattle.mot_session.specs.Session.{text_of, ServerState, command_in}
 use Rattle.mot_session.specs.Replies.{AreAsked}
 use Rattle.mot_session.specs.Served.{Begins, whole, begun}
 use Rattle.mot_numbers.specs.declared.geometry.Geometry.{Geometry}
-use Rattle.mot_session.specs.State.{ServerState, command_in}
 use Rattle.mot_session.proofs.Outcomes.{Outcome, begun_outcome, done_by, failed_by_reply, outcome}
 use Rattle.mot_session.specs.Inner.Writes.{accepted_in, failed_in, is_accepting, is_failing}
 

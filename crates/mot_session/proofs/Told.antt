@@ -15,8 +15,8 @@ use Rattle.mot_session.specs.declared.serving.output.WriteFault.{WriteFault}
 use Rattle.mot_session.specs.Inner.Writes.{AnswersLine, Crosses, accepted_in, failed_in}
 use Rattle.mot_session.specs.Served.{ServedLine, StoppedLine}
 use Rattle.mot_session.specs.Life.{Told, done_in, fails_in}
-use Rattle.mot_session.specs.Session.{Exchange, Reply, text_of}
-use Rattle.mot_session.specs.State.{Leads, ServerState, StandsFor, state_of}
+use Rattle.mot_session.specs.Session.{Exchange, Reply, text_of, Leads, ServerState, StandsFor}
+use Rattle.mot_session.specs.Session.{state_of}
 use Rattle.mot_session.specs.Kept.{IsToldAndStored, KeepsAcknowledged}
 use Rattle.mot_session.proofs.Crashes.{behind, made}
 use Rattle.mot_session.proofs.Outcomes.{Outcome, nothing, one, halts, begun_outcome, outcome}

@@ -9,7 +9,7 @@ use Rattle.std.proofs.KnownBytes.{Appends-trans, Appends-kept}
 use Rattle.std.proofs.lemmas.Bool.Decides.{leb_tells}
 use Rattle.std.proofs.lemmas.List.{length-map, replicate_more}
 use Rattle.std.proofs.lemmas.List.Concat.{flat_map-append}
-use Rattle.disk_model.specs.Failures.{Rises}
+use Rattle.disk_model.specs.Disk.{Rises}
 use Rattle.mot_groups.specs.Entity.{all_but_last}
 use Rattle.mot_lines.specs.declared.line.Line.{Line}
 use Rattle.mot_lines.specs.declared.line.Line.TheVariants as asks
@@ -27,11 +27,10 @@ use Rattle.mot_session.specs.declared.serving.output.WriteFault.{WriteFault}
 use Rattle.mot_session.specs.Inner.Writes.{Answered, AnswersWith, AnswersRequest, FailsToSend}
 use Rattle.mot_session.specs.Inner.Writes.{SendsOne, may_have_done}
 use Rattle.mot_session.specs.Served.{Writes, Begins, whole, begun, WritesFront}
-use Rattle.mot_session.specs.State.{PlaysForRequest, sent_line, sent_lines, ServerState}
-use Rattle.mot_session.specs.State.{KeepsCarousel, Stays}
+use Rattle.mot_session.specs.Session.{PlaysForRequest, sent_line, sent_lines, ServerState}
+use Rattle.mot_session.specs.Session.{KeepsCarousel, Stays, Reply, Answers, IsAnswer, decided}
+use Rattle.mot_session.specs.Session.{accepted, listing, packets, played, refused, text_of}
 use Rattle.mot_session.specs.Replies.{AreAsked}
-use Rattle.mot_session.specs.Session.{Reply, Answers, IsAnswer, decided, accepted, listing, packets}
-use Rattle.mot_session.specs.Session.{played, refused, text_of}
 use Rattle.mot_session.proofs.Shown.{sent-length}
 
 pub sent_lines-more : (sents : List Sent) (s : Sent)

@@ -1,3 +1,2 @@
 pub mod Anyhow
-pub mod Decision
 pub mod Writes

@@ -4,7 +4,7 @@ use Rattle.disk_model.specs.Disk.{State, Throughout}
 use Rattle.mot_journal.specs.Image.{Standing}
 use Rattle.mot_objects.specs.declared.command.Command.{Command}
 use Rattle.mot_playout.specs.Runs.{IsAfter, StandsAfterSome}
-use Rattle.mot_session.specs.State.{ServerState}
+use Rattle.mot_session.specs.Session.{ServerState}
 
 -- At each moment since that one of the disk's clock, inside a call of the disk or between two, a
 -- crash leaves what all of the sure commands and a beginning of the others make of s.

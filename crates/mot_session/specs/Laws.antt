@@ -1,7 +1,7 @@
 -- What holds of every raw reply, of every session, and of the replies to lines.
 use Rattle.std.specs.Prelude.{ℕ, ◌≡◌, ◌+◌, ◌⊎◌, ◌<◌, ◌≤◌, Bool, false, List, [], ◌∷◌, ◌++◌, length}
 use Rattle.std.specs.Prelude.{if◌then◌else◌, Option, Some, Result}
-use Rattle.disk_model.specs.Failures.{most_failures}
+use Rattle.disk_model.specs.Disk.{most_failures}
 use Rattle.mot_groups.specs.Group.{read_group}
 use Rattle.mot_lines.specs.declared.line.Line.{Line}
 use Rattle.mot_numbers.specs.Geometry.{IsValid}
@@ -15,9 +15,9 @@ use Rattle.mot_packets.specs.Gather.{gather}
 use Rattle.mot_player.specs.Continuity.{IsContinuous}
 use Rattle.mot_session.specs.Life.{Tells, Told}
 use Rattle.mot_session.specs.Session.{raw_group, raw_packets, Exchange, Reply, Session, played}
-use Rattle.mot_session.specs.Session.{packets_in, packets_played, refused}
+use Rattle.mot_session.specs.Session.{packets_in, packets_played, refused, HasJustOpened}
+use Rattle.mot_session.specs.Session.{ServerState}
 use Rattle.mot_session.specs.Served.{Begins}
-use Rattle.mot_session.specs.State.{HasJustOpened, ServerState}
 
 -- a receiver gathers one group from the packets of a raw reply, and reads in it the segment that
 -- was asked for

@@ -7,4 +7,3 @@ pub mod OnAnyDisk
 pub mod Replies
 pub mod Served
 pub mod Session
-pub mod State

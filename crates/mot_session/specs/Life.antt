@@ -17,7 +17,7 @@ use Rattle.mot_numbers.specs.declared.refusal.Refusal.TheVariants.{ReadFault, Wr
 use Rattle.mot_objects.specs.declared.command.Command.{Command}
 use Rattle.mot_objects.specs.Carousel.{Carousel}
 use Rattle.mot_session.specs.Replies.{IsReply, IsRightReply}
-use Rattle.mot_session.specs.State.{command_in}
+use Rattle.mot_session.specs.Session.{command_in}
 
 -- a line, and the whole text that was written as its reply
 pub record Told : Type 0 where

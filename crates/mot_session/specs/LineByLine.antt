@@ -7,7 +7,7 @@ use Rattle.mot_lines.specs.Line.{line_of}
 use Rattle.mot_playout.specs.Runs.{ServerView}
 use Rattle.mot_session.specs.OnAnyDisk.{AnswersAnyhow, BeginsAnyhow}
 use Rattle.mot_session.specs.Served.{ServedLine, StoppedLine, WritesFront}
-use Rattle.mot_session.specs.State.{Leads}
+use Rattle.mot_session.specs.Session.{Leads}
 
 -- Whatever was asked, the disk's length stays and its failures do not fall, and a halted server
 -- changes nothing.

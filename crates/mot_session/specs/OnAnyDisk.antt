@@ -3,7 +3,7 @@
 use Rattle.std.specs.Prelude.{ℕ, ◌≡◌, Bool, true, List, [], ◌∷◌, ◌++◌, Result, Ok, Err, IsTrue}
 use Rattle.std.specs.Prelude.{IsFalse, if◌then◌else◌}
 use Rattle.std.specs.List.{flat_map}
-use Rattle.disk_model.specs.Failures.{Rises}
+use Rattle.disk_model.specs.Disk.{Rises}
 use Rattle.mot_lines.specs.declared.line.Line.{Line}
 use Rattle.mot_lines.specs.declared.line.Line.TheVariants.{Command, Raw, Next, Turn}
 use Rattle.mot_lines.specs.declared.line.Line.TheVariants as asks

@@ -12,8 +12,8 @@ use Rattle.mot_player.specs.Place.{Sent}
 use Rattle.mot_session.specs.declared.serving.TheConstants.{READ_SIZE}
 use Rattle.mot_session.specs.Kept.{IsToldAndStored}
 use Rattle.mot_session.specs.Life.{Told, done_in, fails_in}
-use Rattle.mot_session.specs.State.{PlaysForRequest, sent_lines, ServerState}
-use Rattle.mot_session.specs.Session.{Reply, played, Answers, text_of}
+use Rattle.mot_session.specs.Session.{PlaysForRequest, sent_lines, ServerState, Reply, played}
+use Rattle.mot_session.specs.Session.{Answers, text_of}
 
 -- the reader gave these bytes, in at most so many reads
 pub record TakesInput (reads : ℕ) (unread left : Option (List ℕ)) (input : List ℕ) : Type 0 where

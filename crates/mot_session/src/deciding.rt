@@ -1,8 +1,8 @@
 //! Deciding the answer to a line.
 ghost use Rattle.std.specs.Prelude.{◌≡◌, Ok, IsTrue, IsFalse};
 ghost use Rattle.mot_session.specs.Inner.Anyhow.{DecidesAnyhow};
-ghost use Rattle.mot_session.specs.Inner.Decision.{Decides, MayWrite, written_by};
-ghost use Rattle.mot_session.specs.State.{Leads};
+ghost use Rattle.mot_session.specs.Inner.Writes.{Decides, MayWrite, written_by};
+ghost use Rattle.mot_session.specs.Session.{Leads};
 
 mod group;
 

@@ -1,10 +1,9 @@
 //! The life of a disk with lines: formatted, opened and served; and then opened and played as a
 //! crash at any moment left it. Its words are input bytes, output bytes and packets alone.
-ghost use Rattle.std.specs.Prelude.{◌≡◌, ◌≤◌, ◌++◌, ℕ, List, [], Some, None, IfOk, IfErr};
-ghost use Rattle.std.specs.Prelude.{◌⊎◌, true, false, if◌then◌else◌, MatchResult};
+ghost use Rattle.std.specs.Prelude.{◌≡◌, ◌≤◌, ◌++◌, ℕ, List, [], Some, None, IfOk, IfErr, ◌⊎◌};
+ghost use Rattle.std.specs.Prelude.{true, false, if◌then◌else◌, MatchResult};
 ghost use Rattle.std.specs.List.{flat_map};
-ghost use Rattle.disk_model.specs.Disk.{IsStill, KeepsLength, OnlySyncs};
-ghost use Rattle.disk_model.specs.Failures.{Rises};
+ghost use Rattle.disk_model.specs.Disk.{IsStill, KeepsLength, OnlySyncs, Rises};
 ghost use Rattle.mot_journal.specs.Geometry.{has_magic};
 ghost use Rattle.mot_journal.specs.declared.layout.Layout.TheVariants.{Two};
 ghost use Rattle.mot_numbers.specs.declared.geometry.Geometry.{Geometry};

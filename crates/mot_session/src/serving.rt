@@ -5,7 +5,7 @@ ghost use Rattle.std.specs.Io.KnownBytes.{Keeps, IsAtEnd};
 ghost use Rattle.mot_lines.specs.Lines.{whole_lines, lines_of};
 ghost use Rattle.mot_numbers.specs.declared.refusal.Refusal.TheVariants.{OutOfMemory, ReadFault};
 ghost use Rattle.mot_playout.specs.Runs.{ServerView};
-ghost use Rattle.mot_session.specs.Inner.Decision.{InHand};
+ghost use Rattle.mot_session.specs.Inner.Writes.{InHand};
 ghost use Rattle.mot_session.specs.LineByLine.{BreaksOff, GoesOn, ServesEach, ServesOne};
 ghost use Rattle.mot_session.specs.LineByLine.{ServesSome};
 ghost use Rattle.mot_session.specs.Laws.{SessionLaws};

@@ -1,3 +1,2 @@
-pub mod Commands
 pub mod Inner
 pub mod Syncing

@@ -1,7 +1,6 @@
 //! A copy of a disk, in memory.
 ghost use Rattle.std.specs.Prelude.{◌≡◌, ◌⊎◌, length, min, take, Err, IfErr, IfOk, MatchResult};
-ghost use Rattle.disk_model.specs.Disk.{IsFirm, OnlyReads, OnlySyncs};
-ghost use Rattle.disk_model.specs.Failures.{Rises};
+ghost use Rattle.disk_model.specs.Disk.{IsFirm, OnlyReads, OnlySyncs, Rises};
 ghost use Rattle.disk_store.specs.File.{ram_state};
 ghost use Rattle.mot_sync_command.specs.Syncing.{IsCopy, IsUncopied};
 ghost use Rattle.mot_numbers.specs.declared.refusal.Refusal.{Refusal};

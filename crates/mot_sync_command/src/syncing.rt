@@ -14,9 +14,9 @@ ghost use Rattle.mot_repository.specs.Repository.{Holds};
 ghost use Rattle.mot_shelf.specs.Gives.{GaveSo};
 ghost use Rattle.mot_shelf.specs.Reader.{reader_path, view};
 ghost use Rattle.mot_shelf.specs.View.{FolderView};
-ghost use Rattle.mot_sync_command.specs.Commands.{IsUnsynced, SyncsBy, SyncsTask, synced_with};
-ghost use Rattle.mot_sync_command.specs.Inner.{LooksAndTells};
+ghost use Rattle.mot_sync_command.specs.Syncing.{IsUnsynced, SyncsBy, SyncsTask, synced_with};
 ghost use Rattle.mot_sync_command.specs.Syncing.{Syncs};
+ghost use Rattle.mot_sync_command.specs.Inner.{LooksAndTells};
 ghost use Rattle.mot_update.specs.Faults.{StaysCalm};
 
 use crate::trying::sync_or_try;

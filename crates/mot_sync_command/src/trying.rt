@@ -1,8 +1,7 @@
 //! What `sync` does to the disk itself, or would do, tried on a copy of it.
 ghost use Rattle.std.specs.Prelude.{false};
 ghost use Rattle.std.specs.Result.{result_unwrap_or};
-ghost use Rattle.mot_sync_command.specs.Commands.{SyncsBy};
-ghost use Rattle.mot_sync_command.specs.Syncing.{Tries};
+ghost use Rattle.mot_sync_command.specs.Syncing.{SyncsBy, Tries};
 ghost use Rattle.mot_playout.specs.Attempts.{fault_of};
 ghost use Rattle.mot_shelf.specs.Reader.{view};
 

@@ -2,8 +2,7 @@
 use Rattle.std.proofs.Common.{◌≡◌, ◌∙◌, ◌⊎◌, List, [], ◌++◌, Bool, Option, Some, Result, Ok, Err}
 use Rattle.std.proofs.Common.{ap, inl, inr, refl, subst}
 use Rattle.std.specs.Prelude.{IsFalse, MatchResult}
-use Rattle.disk_model.specs.Disk.{IsHonestDisk, IsStill, State}
-use Rattle.disk_model.specs.Failures.{Rises}
+use Rattle.disk_model.specs.Disk.{IsHonestDisk, IsStill, State, Rises}
 use Rattle.disk_model.proofs.Laws.{joins}
 use Rattle.mot_update.specs.Ending.{IsEnd, Leaves}
 use Rattle.mot_update.specs.Ending as ending

@@ -1,8 +1,7 @@
 -- Faults of calls one after the other.
 use Rattle.std.proofs.Common.{◌≡◌, ◌∙◌, ◌⊎◌, inl, inr, Result, Ok, Err, refl, sym, subst}
 use Rattle.std.specs.Prelude.{IfErr, MatchResult, OnOk, IsTrue, IsFalse}
-use Rattle.disk_model.specs.Disk.{State}
-use Rattle.disk_model.specs.Failures.{Rises}
+use Rattle.disk_model.specs.Disk.{State, Rises}
 use Rattle.mot_numbers.specs.declared.refusal.Refusal.{Refusal}
 use Rattle.mot_numbers.specs.declared.refusal.Refusal.TheVariants.{DeviceFault, Halted, OutOfMemory}
 use Rattle.mot_playout.specs.RunEnds.{IsRunFault}

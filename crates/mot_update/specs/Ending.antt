@@ -1,7 +1,6 @@
 -- What commands leave of a disk that was opened for them, and how they end.
 use Rattle.std.specs.Prelude.{◌≡◌, ◌⊎◌, ℕ, List, [], ◌++◌, Bool, Option, Some, None, IsSomeAnd}
-use Rattle.disk_model.specs.Disk.{KeepsLength, State, Throughout}
-use Rattle.disk_model.specs.Failures.{Rises}
+use Rattle.disk_model.specs.Disk.{KeepsLength, State, Throughout, Rises}
 use Rattle.mot_update.specs.Opening.{IsOpenable, IsUnopened, OfClean}
 use Rattle.mot_journal.specs.Image.{Standing}
 use Rattle.mot_numbers.specs.declared.refusal.Refusal.{Refusal}

@@ -1,7 +1,6 @@
 -- Why an update ends before its end, on every disk: an honest one or not.
 use Rattle.std.specs.Prelude.{◌≡◌, Result, MatchResult, IsTrue, IsFalse}
-use Rattle.disk_model.specs.Disk.{State}
-use Rattle.disk_model.specs.Failures.{Rises}
+use Rattle.disk_model.specs.Disk.{State, Rises}
 use Rattle.mot_numbers.specs.declared.refusal.Refusal.{Refusal}
 use Rattle.mot_numbers.specs.declared.refusal.Refusal.TheVariants.{OutOfMemory, DeviceFault, Halted}
 use Rattle.mot_playout.specs.Runs.{ServerView}

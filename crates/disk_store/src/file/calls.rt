@@ -1,13 +1,10 @@
 //! The calls on a file as a disk. Each is a system call, noted with its answer, with two exceptions
 //! that fail without one: at the greatest count of failures, and a sync after a failed one.
-ghost use Rattle.std.specs.Prelude.{◌≡◌, ◌⊎◌, ◌+◌, ◌≤◌, [], ◌∷◌, ◌++◌, length, slice_range};
-ghost use Rattle.std.specs.Prelude.{OnOk, OnErr, IsErr};
-ghost use Rattle.disk_store.specs.Calls.{Gave, FailedRead, Wrote, FailedWrite, Synced};
-ghost use Rattle.disk_store.specs.Calls.{FailedSync};
+ghost use Rattle.std.specs.Prelude.{◌≡◌, ◌⊎◌, ◌+◌, ◌≤◌, [], ◌∷◌, ◌++◌, length, slice_range, OnOk};
+ghost use Rattle.std.specs.Prelude.{OnErr, IsErr};
+ghost use Rattle.disk_store.specs.Calls.{Gave, FailedRead, Wrote, FailedWrite, Synced, FailedSync};
 ghost use Rattle.disk_model.specs.Disk.{Keeps, KeepsLength, IsUnchanged, IsStill, WritesWithin};
-ghost use Rattle.disk_model.specs.Failures.{HasCause};
-ghost use Rattle.disk_model.specs.Disk.{IsMarked, IsFirm, LeavesAll};
-ghost use Rattle.disk_model.specs.Failures.{most_failures};
+ghost use Rattle.disk_model.specs.Disk.{HasCause, IsMarked, IsFirm, LeavesAll, most_failures};
 
 use super::{FileDiskFrom, Start};
 use crate::{Disk, DiskFault};

@@ -1,7 +1,7 @@
 //! Which calls of a disk in memory fail, and how many have failed.
 ghost use Rattle.std.specs.Prelude.{◌≡◌, ◌↔◌, ℕ, ◌≤◌, ◌<◌, ◌+◌, IsTrue, if◌then◌else◌};
 ghost use Rattle.std.specs.Bool.{OnFalse};
-ghost use Rattle.disk_model.specs.Failures.{Rises, most_failures};
+ghost use Rattle.disk_model.specs.Disk.{Rises, most_failures};
 
 /// Which of the next calls are to fail. The next call is number 1.
 #[derive(Clone, Copy)]

@@ -44,8 +44,7 @@ impl RamDisk {
 
 impl Disk for RamDisk {
     ghost use Rattle.disk_model.specs.Disk.{Keeps, IsUnchanged, IsStill, IsFirm, WritesWithin};
-    ghost use Rattle.disk_model.specs.Disk.{IsMarked};
-    ghost use Rattle.disk_model.specs.Failures.{HasCause};
+    ghost use Rattle.disk_model.specs.Disk.{IsMarked, HasCause};
     ghost use Rattle.disk_store.specs.File.{ram_state};
     ghost use Rattle.disk_store.specs.Inner.RamSound.{ram_sound};
 

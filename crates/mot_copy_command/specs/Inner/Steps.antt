@@ -1,7 +1,6 @@
 -- What the steps of making a copy leave.
 use Rattle.std.specs.Prelude.{◌≡◌, ◌⊎◌, ℕ, List, false, Ok, take, Bool, Option, map, sum_by}
-use Rattle.disk_model.specs.Disk.{State, AgreeOutside, Torn, Throughout}
-use Rattle.disk_model.specs.Failures.{Rises}
+use Rattle.disk_model.specs.Disk.{State, AgreeOutside, Torn, Throughout, Rises}
 use Rattle.mot_copy_command.specs.declared.copying.NotCopied.{NotCopied}
 use Rattle.mot_copy_command.specs.declared.copying.NotCopied.TheVariants.{Refused, Unreadable}
 use Rattle.mot_journal.specs.declared.layout.Layout.TheVariants.{Two}

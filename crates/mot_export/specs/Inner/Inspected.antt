@@ -6,7 +6,7 @@ use Rattle.mot_journal.specs.Journal.{JournalView}
 use Rattle.mot_player.specs.Place.{Place, directory_packets}
 use Rattle.mot_export.specs.Inspecting.{AreFigures, IsShown}
 use Rattle.mot_export.specs.declared.inspection.Inspection.{Inspection}
-use Rattle.disk_model.specs.Failures.{Rises}
+use Rattle.disk_model.specs.Disk.{Rises}
 use Rattle.mot_numbers.specs.declared.refusal.Refusal.{Refusal}
 use Rattle.mot_numbers.specs.declared.refusal.Refusal.TheVariants.{DeviceFault, WriteFault}
 

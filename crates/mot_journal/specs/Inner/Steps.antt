@@ -2,8 +2,7 @@
 use Rattle.std.specs.Prelude.{◌≡◌, ◌⊎◌, ℕ, ◌+◌, ◌*◌, ◌<◌, ◌≤◌, List, length, take, drop, replicate}
 use Rattle.std.specs.Prelude.{slice_range, slice_get, Option, Some, None, Result, IsErr, Bool, not}
 use Rattle.std.specs.Prelude.{◌&&◌, if◌then◌else◌, [], ◌∷◌, ◌^◌}
-use Rattle.disk_model.specs.Disk.{State, AgreeOutside, Torn, Throughout}
-use Rattle.disk_model.specs.Failures.{Rises, most_failures}
+use Rattle.disk_model.specs.Disk.{State, AgreeOutside, Torn, Throughout, Rises, most_failures}
 use Rattle.mot_journal.specs.declared.layout.Layout.{Layout}
 use Rattle.mot_journal.specs.declared.record.Record.{Record}
 use Rattle.mot_journal.specs.Image.{slots_in}

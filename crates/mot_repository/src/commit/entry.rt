@@ -1,8 +1,7 @@
 //! What a commit writes if the half has room: the body into its gap, and then the record.
 ghost use Rattle.std.specs.Prelude.{◌≡◌, ◌+◌, ◌≤◌, ◌<◌, ◌++◌, [], ◌∷◌, ℕ, List, true, length};
 ghost use Rattle.std.specs.Prelude.{slice_range, Ok, OnOk, OnErr, IfErr, IsFalse};
-ghost use Rattle.disk_model.specs.Disk.{Keeps, Costs, Throughout, WritesWithin};
-ghost use Rattle.disk_model.specs.Failures.{HasCause};
+ghost use Rattle.disk_model.specs.Disk.{Keeps, Costs, Throughout, WritesWithin, HasCause};
 ghost use Rattle.mot_journal.specs.declared.layout.Layout.{Layout};
 ghost use Rattle.mot_journal.specs.declared.record.Record.{Record};
 ghost use Rattle.mot_journal.specs.Slot.{is_sound, slot_count};

@@ -3,7 +3,7 @@ use Rattle.std.specs.Prelude.{◌≡◌, ℕ, Bool, List, Option, Some, None, Re
 use Rattle.std.specs.Prelude.{IsFalse}
 use Rattle.std.specs.List.{flat_map}
 use Rattle.std.specs.Io.KnownBytes.{Appends}
-use Rattle.disk_model.specs.Failures.{Rises}
+use Rattle.disk_model.specs.Disk.{Rises}
 use Rattle.mot_lines.specs.declared.line.Line.{Line}
 use Rattle.mot_lines.specs.declared.line.Line.TheVariants as asks
 use Rattle.mot_lines.specs.Listing.{listing_text_beside}

@@ -9,13 +9,11 @@ ghost use Rattle.mot_numbers.specs.Geometry.{IsValid};
 ghost use Rattle.mot_player.specs.Laws.{bytes_left};
 ghost use Rattle.mot_repository.specs.Repository.{Holds, RepositoryView};
 ghost use Rattle.mot_session.specs.Inner.Anyhow.{AnswersWithAnyhow, DecidesAnyhow, ShowsOne};
-ghost use Rattle.mot_session.specs.Inner.Decision.{Decides, may_be_done};
-ghost use Rattle.mot_session.specs.Inner.Writes.{AnswersLine, AnswersOne, AnswersRequest};
-ghost use Rattle.mot_session.specs.Inner.Writes.{ReadsAlone};
+ghost use Rattle.mot_session.specs.Inner.Writes.{Decides, may_be_done, AnswersLine, AnswersOne};
+ghost use Rattle.mot_session.specs.Inner.Writes.{AnswersRequest, ReadsAlone};
 ghost use Rattle.mot_session.specs.Served.{Writes};
 ghost use Rattle.mot_session.specs.LineByLine.{GoesOn};
-ghost use Rattle.mot_session.specs.Session.{packets_at};
-ghost use Rattle.mot_session.specs.State.{Leads, ServerState, StandsFor, state_of};
+ghost use Rattle.mot_session.specs.Session.{packets_at, Leads, ServerState, StandsFor, state_of};
 
 use super::listing::write_listing;
 use super::output::{WriteFault, write_whole};

@@ -9,7 +9,7 @@ use Rattle.mot_air.proofs.playing.feed_disk.Goals as goal
 use Rattle.mot_air.proofs.playing.feed_disk.Goals.{After-feed-result, After-into_disk}
 use Rattle.mot_feed.proofs.Laws.{grows_nil}
 use Rattle.mot_feed.specs.Feeding.AreTold.{no_call}
-use Rattle.mot_feed.specs.Often.{Feeds}
+use Rattle.mot_feed.specs.Feeding.{Feeds}
 use Rattle.mot_feed.specs.declared.manner.Manner.{Manner}
 use Rattle.mot_journal.specs.Journal as journal
 use Rattle.mot_repository.specs.Opening.{IsOpened}

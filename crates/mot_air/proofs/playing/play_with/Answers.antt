@@ -1,7 +1,6 @@
 use Rattle.std.proofs.Common.{◌⊎◌}
 use Rattle.std.specs.Prelude.{IsSomeAnd}
-use Rattle.mot_air.specs.Lives.{AirsOn}
-use Rattle.mot_air.specs.Playing.{tale_of}
+use Rattle.mot_air.specs.Playing.{AirsOn, tale_of}
 use Rattle.mot_air.proofs.Retold.{fed_as, fed_out}
 use Rattle.mot_air.proofs.playing.play_with.Goals as goal
 use Rattle.mot_update.specs.Opening.{IsUnopened}

@@ -1,7 +1,7 @@
 use Rattle.mot_playout.specs.Attempts.{fault_of}
 use Rattle.std.proofs.Common.{◌≡◌, List, None, Some, ap, inl, inr, refl, subst, sym}
 use Rattle.std.proofs.KnownBytes.{Keeps-refl}
-use Rattle.mot_commands.specs.Shown.{Gets, IsUngot}
+use Rattle.mot_commands.specs.Report.{Gets, IsUngot}
 use Rattle.mot_commands.proofs.Named.{found_nowhere}
 use Rattle.mot_commands.proofs.getting.get_body.Goals as goal
 use Rattle.mot_objects.specs.Carousel.{Carousel, Object}

@@ -3,7 +3,7 @@ use Rattle.std.proofs.Common.{◌≡◌, ◌∙◌, ap, inl, refl, subst, sym}
 use Rattle.std.specs.Prelude.{IfOk}
 use Rattle.std.proofs.KnownBytes.{Keeps-refl}
 use Rattle.mot_commands.specs.Inner.Shown.{shown_beside}
-use Rattle.mot_commands.specs.Shown.{Lists, shown_in}
+use Rattle.mot_commands.specs.Report.{Lists, shown_in}
 use Rattle.mot_commands.proofs.Listed.{shown-beside, told}
 use Rattle.mot_commands.proofs.listing.list_disk.Goals as goal
 use Rattle.mot_objects.specs.declared.carousel.Carousel.{Carousel}

@@ -6,7 +6,7 @@ use Rattle.std.proofs.KnownBytes.{Appends-nil, Appends-trans}
 use Rattle.std.proofs.lemmas.List.{take_all}
 use Rattle.hex.specs.Hex.{encode_lower}
 use Rattle.std.proofs.lemmas.Result.{err_from_is_err_and}
-use Rattle.disk_model.specs.Failures.{Rises}
+use Rattle.disk_model.specs.Disk.{Rises}
 use Rattle.disk_model.proofs.Laws.{reads_none, reads_on, reads_once}
 use Rattle.mot_export.proofs.Printed.{digits-more, digits-none, front-digits, front-piece}
 use Rattle.mot_export.proofs.exporting.write_body.Goals as goal

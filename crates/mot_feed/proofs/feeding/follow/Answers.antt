@@ -2,7 +2,7 @@ use Rattle.std.proofs.Common.{◌≡◌, false, Bool, Some, arith, subst, sym}
 use Rattle.std.proofs.lemmas.Bool.{ne_eqb}
 use Rattle.std.specs.Prelude.{◌==◌, if◌then◌else◌}
 use Rattle.mot_feed.proofs.feeding.follow.Goals as goal
-use Rattle.mot_feed.specs.Often.{server_for}
+use Rattle.mot_feed.specs.Feeding.{server_for}
 use Rattle.mot_feed.specs.declared.manner.Manner.{Manner}
 use Rattle.mot_journal.specs.Image.{Standing}
 use Rattle.mot_player.specs.Place.{following}

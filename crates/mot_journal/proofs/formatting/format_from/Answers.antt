@@ -2,8 +2,7 @@
 use Rattle.std.proofs.Common.{ℕ, ◌+◌, ◌*◌, ◌⊎◌, ◌≡◌, ◌<◌, ◌≤◌, ◌↔◌, inl, inr, Ok, Err, refl, arith}
 use Rattle.std.proofs.Common.{sym, ◌∙◌, subst, List, Bool, true, false}
 use Rattle.std.specs.Prelude.{Result}
-use Rattle.disk_model.specs.Disk.{State, IsHonestDisk, IsStill, Throughout}
-use Rattle.disk_model.specs.Failures.{Rises}
+use Rattle.disk_model.specs.Disk.{State, IsHonestDisk, IsStill, Throughout, Rises}
 use Rattle.disk_model.proofs.Laws.{unchanged_none, keeps_none, keeps_on, begins, stays, joins}
 use Rattle.mot_journal.specs.Geometry.{has_magic}
 use Rattle.mot_journal.specs.Journal.{HasAreaOf, NoneOrFrom}

@@ -4,7 +4,7 @@ use Rattle.std.specs.Prelude.{is_some}
 use Rattle.std.specs.Int.{div_ceil}
 use Rattle.std.proofs.lemmas.List.{length-take}
 use Rattle.disk_model.proofs.Laws.{reads_on, reads_once}
-use Rattle.disk_model.specs.Failures.{Rises}
+use Rattle.disk_model.specs.Disk.{Rises}
 use Rattle.std.proofs.lemmas.Result.{IfOk-from_err}
 use Rattle.mot_journal.proofs.Calls.{calm}
 use Rattle.mot_journal.specs.Image.{gate_reads}

@@ -3,10 +3,9 @@ use Rattle.std.proofs.Common.{refl, sym, ◌∙◌, ap, arith, rules, subst, inl
 use Rattle.std.proofs.Common.{None}
 use Rattle.std.proofs.lemmas.Bool.{cases_lt}
 use Rattle.std.specs.Prelude.{Result, slice_index, if◌then◌else◌, ◌==◌, IfSome, List, Option}
-use Rattle.disk_model.specs.Failures.{HasCause, Rises}
+use Rattle.disk_model.specs.Disk.{HasCause, Rises, OnlyReads}
 use Rattle.std.proofs.Math.Nat.{mul-le-mul_left, mul_comm}
 use Rattle.disk_model.proofs.Laws.{reads_none, reads_on, reads_once}
-use Rattle.disk_model.specs.Disk.{OnlyReads}
 use Rattle.mot_journal.specs.Geometry.{geometry_of}
 use Rattle.mot_journal.specs.Journal.IsReadingRefusal.{not_formatted, no_memory, device}
 use Rattle.mot_journal.proofs.Heads.{short_has_none}

@@ -1,12 +1,11 @@
 use Rattle.std.proofs.Common.{◌≡◌, ◌+◌, ◌-◌, ◌∙◌, ℕ, List, ◌++◌, refl, sym, ap, arith, length, take}
-use Rattle.std.proofs.Common.{drop, true, false, not, Bool, subst}
+use Rattle.std.proofs.Common.{drop, true, false, not, Bool, subst, length-take}
 use Rattle.std.proofs.Math.Seq.{take-add}
 use Rattle.std.proofs.lemmas.List.{take_all}
 use Rattle.std.proofs.lemmas.Slice.Eq.{bytes_eq-Decides}
 use Rattle.std.specs.Prelude.{bytes_eq, slice_range}
-use Rattle.std.proofs.Common.{length-take}
 use Rattle.disk_model.proofs.Laws.{reads_none, reads_on, reads_once}
-use Rattle.disk_model.specs.Failures.{Rises}
+use Rattle.disk_model.specs.Disk.{Rises}
 use Rattle.mot_numbers.proofs.Laws.{same_error}
 use Rattle.std.proofs.lemmas.Result.{IfOk-from_err}
 use Rattle.mot_repository.proofs.Laws.{read_standing}

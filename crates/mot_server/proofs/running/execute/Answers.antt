@@ -2,7 +2,7 @@ use Rattle.std.proofs.Common.{List, [], ◌≡◌, ◌⊎◌, Option, refl, subs
 use Rattle.std.proofs.KnownBytes.{Keeps-refl}
 use Rattle.std.specs.Io.KnownBytes.{Keeps}
 use Rattle.mot_air.specs.Commands.{IsUnplayed, PlaysTask}
-use Rattle.mot_sync_command.specs.Commands.{IsUnsynced, SyncsTask}
+use Rattle.mot_sync_command.specs.Syncing.{IsUnsynced, SyncsTask}
 use Rattle.mot_cli.specs.declared.task.Task.{Task}
 use Rattle.mot_cli.specs.declared.task.Task.TheVariants.{Memory, Format, Copy, Play, Sync, Health}
 use Rattle.mot_cli.specs.declared.task.Task.TheVariants.{PutFiles, WithdrawNames, OnDisk}

@@ -1,5 +1,5 @@
 use Rattle.mot_session.proofs.Answered.{Answers-refused, writes-none}
-use Rattle.mot_session.specs.State.{state_of}
+use Rattle.mot_session.specs.Session.{state_of}
 use Rattle.std.proofs.Common.{refl}
 use Rattle.mot_session.specs.OnAnyDisk.{no_request}
 use Rattle.mot_session.proofs.deciding.decide.Goals as goal

@@ -2,11 +2,10 @@ use Rattle.std.proofs.Common.{refl, ap}
 use Rattle.std.specs.Prelude.{Ok}
 use Rattle.mot_lines.specs.declared.line.Line.TheVariants as asks
 use Rattle.mot_session.specs.declared.deciding.Decision.TheVariants as decision
-use Rattle.mot_session.specs.State.{state_of}
+use Rattle.mot_session.specs.Session.{state_of, packets_at}
 use Rattle.mot_session.proofs.Answered.{Answers-list, Answers-raw, Decides-shown, writes-none}
 use Rattle.std.specs.List.{flat_map}
 use Rattle.mot_lines.specs.Text.{packet_line}
-use Rattle.mot_session.specs.Session.{packets_at}
 use Rattle.mot_session.specs.OnAnyDisk.{listed, no_memory, raw}
 use Rattle.mot_session.proofs.Anyhow.{anyhow-shown}
 use Rattle.mot_session.proofs.deciding.decide_request.Goals as goal

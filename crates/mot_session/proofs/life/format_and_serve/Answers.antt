@@ -1,13 +1,13 @@
 use Rattle.std.proofs.Common.{◌≡◌, ◌⊎◌, [], ◌++◌, Some, subst, sym}
 use Rattle.std.specs.List.{flat_map}
-use Rattle.disk_model.specs.Failures.{Rises}
+use Rattle.disk_model.specs.Disk.{Rises}
 use Rattle.mot_journal.specs.Journal.{standing_from}
 use Rattle.mot_playout.specs.Life.{carousel_from}
 use Rattle.mot_numbers.proofs.Laws.{same_error}
 use Rattle.mot_playout.proofs.Laws.{keeps_commands, none_kept, none_or_left}
 use Rattle.mot_session.specs.Life.{AreRightReplies, commands_done, fails_in}
-use Rattle.mot_session.proofs.Lives.{done_at, done_stands, kept_new, left_or_stands}
-use Rattle.mot_session.proofs.Lives.{served_so, some_of}
+use Rattle.mot_session.proofs.Lives.{done_at, done_stands, kept_new, left_or_stands, served_so}
+use Rattle.mot_session.proofs.Lives.{some_of}
 use Rattle.mot_session.proofs.life.format_and_serve.Goals as goal
 
 pub returns-clause-told : goal.returns-clause-told

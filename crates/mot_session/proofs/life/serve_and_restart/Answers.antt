@@ -1,5 +1,5 @@
 use Rattle.std.proofs.Common.{[], ◌++◌, subst}
-use Rattle.disk_model.specs.Failures.{Rises}
+use Rattle.disk_model.specs.Disk.{Rises}
 use Rattle.mot_journal.specs.Journal.{standing_from}
 use Rattle.mot_playout.specs.Playing.{bytes_of_packets}
 use Rattle.mot_playout.proofs.Laws.{if_err, keeps_commands, passing}

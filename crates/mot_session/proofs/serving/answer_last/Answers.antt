@@ -8,7 +8,7 @@ use Rattle.mot_session.proofs.Each.{each-more, some-here}
 use Rattle.mot_session.proofs.Ends.{fault_of_end, not_none}
 use Rattle.mot_session.proofs.Requests.{goes_on-none}
 use Rattle.mot_session.proofs.Kept.{BreaksOff-of_line, ServesOne-of_line}
-use Rattle.mot_session.specs.Inner.Decision.{InHand}
+use Rattle.mot_session.specs.Inner.Writes.{InHand}
 use Rattle.mot_session.proofs.serving.answer_last.Given as given
 use Rattle.mot_session.proofs.serving.answer_last.Goals as goal
 use Rattle.mot_session.proofs.serving.answer_last.Goals.{Then-is_empty, Else-is_empty}

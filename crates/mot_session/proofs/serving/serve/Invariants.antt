@@ -1,7 +1,7 @@
 use Rattle.std.proofs.Common.{ℕ, ◌*◌, ◌≤◌, List}
 use Rattle.mot_lines.specs.Lines.{whole_lines}
 use Rattle.mot_session.specs.declared.serving.TheConstants.{READ_SIZE}
-use Rattle.mot_session.specs.Inner.Decision.{InHand}
+use Rattle.mot_session.specs.Inner.Writes.{InHand}
 use Rattle.mot_session.specs.LineByLine.{GoesOn, ServesEach}
 use Rattle.mot_session.specs.Served.{TakesInput}
 use Rattle.mot_session.proofs.serving.serve.Given as goal

@@ -18,7 +18,7 @@ use Rattle.mot_playout.specs.Attempts.{fault_of}
 use Rattle.mot_shelf.specs.View.{FolderView, folder_at}
 use Rattle.mot_suffixes.specs.Types.{SuffixType}
 use Rattle.mot_sync_command.proofs.syncing.sync.Goals as goal
-use Rattle.mot_sync_command.specs.Commands.{IsUnsynced, SyncsBy, SyncsTask, synced_with}
+use Rattle.mot_sync_command.specs.Syncing.{IsUnsynced, SyncsBy, SyncsTask, synced_with}
 
 -- whichever it was, the disk is as long as before
 keeps_by : (dry_run : Bool) (table : List SuffixType) (guard : Guard)

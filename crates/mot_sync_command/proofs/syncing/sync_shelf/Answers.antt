@@ -1,7 +1,7 @@
 use Rattle.std.proofs.Common.{◌≡◌, ◌∙◌, List, ap, false, subst, sym}
 use Rattle.mot_folder.specs.declared.guard.Guard.{Guard}
 use Rattle.std.specs.Result.{result_unwrap_or}
-use Rattle.mot_sync_command.specs.Commands.{SyncsBy}
+use Rattle.mot_sync_command.specs.Syncing.{SyncsBy}
 use Rattle.mot_sync_command.proofs.syncing.sync_shelf.Goals as goal
 use Rattle.mot_playout.specs.Attempts.{fault_of}
 use Rattle.mot_shelf.specs.Reader.{view}

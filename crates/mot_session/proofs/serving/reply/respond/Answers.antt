@@ -2,7 +2,7 @@ use Rattle.std.proofs.Common.{◌∙◌}
 use Rattle.std.proofs.lemmas.Result.{err_from_is_err_and}
 use Rattle.disk_model.proofs.Laws.{keeps_on, unchanged_on}
 use Rattle.mot_lines.specs.Line.{line_of}
-use Rattle.mot_session.specs.State.{state_of}
+use Rattle.mot_session.specs.Session.{state_of}
 use Rattle.mot_session.proofs.Answered.{Crosses-line, Decides-parsed}
 use Rattle.mot_session.proofs.Requests.{stands-read}
 use Rattle.mot_session.proofs.Written.{AnswersWith-kept}

@@ -1,17 +1,17 @@
-use Rattle.std.proofs.Common.{◌≡◌, [], arith, subst}
+use Rattle.std.proofs.Common.{◌≡◌, [], arith, subst, ◌<◌, ◌+◌, ◌∷◌, ◌++◌, ◌∙◌, ap, length-append}
+use Rattle.std.proofs.Common.{refl, sym}
 use Rattle.std.specs.Prelude.{IsFalse}
 use Rattle.std.proofs.KnownBytes.{Appends-nil}
 use Rattle.std.proofs.lemmas.Result.{err_from_is_err_and}
-use Rattle.mot_session.specs.State.{state_of}
+use Rattle.mot_session.specs.Session.{state_of}
 use Rattle.mot_session.proofs.Replies.{next-broken, next-cut, next-more}
 use Rattle.mot_session.proofs.Requests.{holds-read, reads-more, reads-none}
 use Rattle.mot_session.proofs.Written.{Answered-next, Sends, Sends-none}
-use Rattle.std.proofs.Common.{◌<◌, ◌+◌, ◌∷◌, ◌++◌, ◌∙◌, ap, length-append, refl, sym}
 use Rattle.mot_journal.specs.Image.{Standing}
 use Rattle.mot_repository.specs.Repository.{RepositoryView, Holds}
 use Rattle.mot_session.specs.Replies.{shown_lines}
-use Rattle.mot_session.proofs.Anyhow.{next-broken as next-broken_anyhow}
-use Rattle.mot_session.proofs.Anyhow.{next-all, next-cut as next-cut_anyhow, one-more}
+use Rattle.mot_session.proofs.Anyhow.{next-broken as next-broken_anyhow, next-all}
+use Rattle.mot_session.proofs.Anyhow.{next-cut as next-cut_anyhow, one-more}
 use Rattle.mot_session.proofs.serving.reply.write_next.Given as given
 use Rattle.mot_session.proofs.serving.reply.write_next.Goals as goal
 use Rattle.mot_session.proofs.serving.reply.write_next.Goals.{After-write_next_packet}

@@ -6,7 +6,7 @@ use Rattle.mot_player.specs.Place.{Sent}
 use Rattle.mot_repository.specs.Repository.{Holds}
 use Rattle.mot_session.specs.Inner.Writes.{ReadsAlone}
 use Rattle.mot_session.specs.Replies.{Shown, shown_lines}
-use Rattle.mot_session.specs.State.{sent_lines, state_of}
+use Rattle.mot_session.specs.Session.{sent_lines, state_of}
 use Rattle.mot_session.proofs.Written.{Sends}
 use Rattle.mot_session.proofs.serving.reply.write_next.Given as goal
 

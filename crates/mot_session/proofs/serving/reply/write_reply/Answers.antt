@@ -8,8 +8,8 @@ use Rattle.mot_lines.specs.declared.line.Line.TheVariants as asks
 use Rattle.mot_repository.specs.Repository.{RepositoryView}
 use Rattle.mot_session.specs.Served.{Writes}
 use Rattle.mot_session.specs.Session.{packets_at, accepted, listing, packets, refused, text_of}
+use Rattle.mot_session.specs.Session.{ServerState, state_of}
 use Rattle.mot_session.specs.Inner.Writes.{AnswersRequest}
-use Rattle.mot_session.specs.State.{ServerState, state_of}
 use Rattle.mot_session.proofs.Requests.{reads-none}
 use Rattle.mot_session.proofs.Written.{AnswersRequest-written}
 use Rattle.mot_session.proofs.Anyhow.{anyhow-played, anyhow-written}

@@ -4,7 +4,7 @@ use Rattle.std.proofs.KnownBytes.{Appends-nil}
 use Rattle.std.proofs.lemmas.Result.{err_from_is_err_and}
 use Rattle.mot_journal.specs.Image.{Standing}
 use Rattle.mot_repository.specs.Repository.{RepositoryView, Holds}
-use Rattle.mot_session.specs.State.{state_of}
+use Rattle.mot_session.specs.Session.{state_of}
 use Rattle.mot_session.proofs.Anyhow as anyhow
 use Rattle.mot_session.proofs.Replies.{SentSoFar, turn-broken, turn-cut, turn-ended, turn-more}
 use Rattle.mot_session.proofs.Requests.{holds-read, reads-more, reads-none}

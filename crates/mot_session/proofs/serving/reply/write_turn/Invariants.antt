@@ -3,7 +3,7 @@ use Rattle.mot_journal.specs.Image.{Standing}
 use Rattle.mot_player.specs.Laws.{bytes_left}
 use Rattle.mot_repository.specs.Repository.{Holds}
 use Rattle.mot_session.specs.Inner.Writes.{ReadsAlone}
-use Rattle.mot_session.specs.State.{state_of}
+use Rattle.mot_session.specs.Session.{state_of}
 use Rattle.mot_session.proofs.Anyhow.{ShownSoFar}
 use Rattle.mot_session.proofs.Replies.{SentSoFar}
 use Rattle.mot_session.proofs.serving.reply.write_turn.Given as goal
