@@ -108,11 +108,11 @@ CITED_BY_NONE = [
     ("mot_playout/Playing", "IsGoing", "private functions of `mot_playout`, and its proofs"),
     ("mot_listening/Entities", "packet_lengths group_lengths segment_lengths entity_lengths turn_lengths",
      "private functions of `turn_size` and of `inspect_disk`"),
-    ("mot_feed/Sending", "SendsPacket", "private functions of `mot_feed`, and its proofs"),
+    ("mot_feed/Feeding", "SendsPacket", "private functions of `mot_feed`, and its proofs"),
     ("mot_folder/Log", "TellsAnswers TellsOf not_accepted waiting_in", "private functions of `look_at_folder`"),
     ("mot_line_folder/LineFiles", "refusal_of", "private functions of `Spool`"),
     ("mot_shelf/Gives", "GoesOnSo", "private functions of `look_at_folder`"),
-    ("mot_cli/Asked", "AskBy", "proofs of `mot_server`"),
+    ("mot_cli/Given", "AskBy", "proofs of `mot_server`"),
     ("mot_update/Looking", "unknown_names withdraw_all HasSettled", "private functions of `look`"),
 ]
 
