@@ -4,8 +4,6 @@ use Rattle.mot_objects.specs.Ids.{contains, next_free_id}
 use Rattle.mot_objects.specs.declared.object.Object.{Object}
 use Rattle.mot_objects.specs.declared.carousel.Carousel.{Carousel}
 
-pub mod Using
-
 -- The circle of transport ids, on which 1 comes after 65,535.
 
 -- the id so many places above one

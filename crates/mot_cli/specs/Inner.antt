@@ -9,9 +9,6 @@ use Rattle.mot_cli.specs.declared.parts.Kind.TheVariants.{Word, Words, Path, Num
 use Rattle.mot_cli.specs.declared.parts.Kind.{Kind}
 use Rattle.mot_cli.specs.declared.parts.Verb.{Verb}
 
-pub mod Found
-
-
 -- A command line that is put together of rows.
 
 -- where there was memory for it, it is this one, and no argument of it is for all levels

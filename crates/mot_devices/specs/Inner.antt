@@ -10,7 +10,6 @@ use Rattle.mot_files.specs.declared.system.How.{How}
 use Rattle.mot_devices.specs.Tables.{HolderIs, IsSwap, short_bytes}
 use Rattle.mot_devices.specs.declared.short_name.ShortName.{ShortName}
 use Rattle.mot_devices.specs.declared.short_name.TheConstants.{LONGEST}
-pub mod Uses
 
 -- Reading what is open.
 

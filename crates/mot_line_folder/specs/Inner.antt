@@ -9,9 +9,6 @@ use Rattle.mot_events.specs.declared.event.Why.TheVariants.{Unsaid}
 use Rattle.mot_numbers.specs.declared.refusal.Refusal.{Refusal}
 use Rattle.mot_numbers.specs.declared.refusal.Refusal.TheVariants.{OutOfMemory}
 
-pub mod Notices
-
-
 -- The names of a folder about which the log has a line.
 
 -- no entry is about the name

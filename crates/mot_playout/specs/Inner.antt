@@ -10,9 +10,6 @@ use Rattle.mot_player.specs.Turn.{IsTurnOf, turn_of_carousel}
 use Rattle.std.proofs.Common.{le-add_right}
 use Rattle.disk_model.proofs.Laws.{keeps_none, unchanged_none}
 
-pub mod Plays
-pub mod Unread
-
 -- The bodies of a repository, as its disk gives them.
 
 -- so many bytes: those that there are, and zeros behind them
