@@ -50,6 +50,6 @@ IsOfFile name refusal why n = (n ≡ notice.File name refusal why)
 
 -- A further notice waits behind the others. Only where all of so many places are taken there may be
 -- no memory for it.
-abbrev pub Adds : (Notice → Type 0) → (room : ℕ) → (old new : List Notice) → Type 0
-Adds is room old new =
-    ((n : Notice) × is n × (new ≡ old ++ n ∷ [])) ⊎ ((new ≡ old) × (room ≤ length old))
+abbrev pub Adds : (Notice → Type 0) → (room : ℕ) → (before after : List Notice) → Type 0
+Adds is room before after =
+    ((n : Notice) × is n × (after ≡ before ++ n ∷ [])) ⊎ ((after ≡ before) × (room ≤ length before))
