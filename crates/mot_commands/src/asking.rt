@@ -11,7 +11,7 @@ use crate::getting::name_of;
 use disk_store::OpenFault;
 use mot_files::{ReadFailure, System, read_file};
 use mot_numbers::Refusal;
-use mot_objects::{Body, Carousel, Command, Content, MAX_BODY, Mime, Name};
+use mot_objects::{Body, Carousel, Command, Item, MAX_BODY};
 use mot_suffixes::FileTypes;
 use std::alloc::Global;
 use std::io::Write;
@@ -71,7 +71,13 @@ fn file_request<Y: System, E: Write>(
     };
     let place = carousel.place_of(&name);
     let body = body_of_file(system, alloc, path, errors)?;
-    Ok(put_at(place, name, file_type.content, mime, body))
+    let item = Item {
+        name,
+        content: file_type.content,
+        mime,
+        body,
+    };
+    Ok(put_at(place, item))
 }
 
 /// What follows the last `/` of a path; all of it, if there is none.
@@ -111,29 +117,13 @@ fn body_of_file<Y: System, E: Write>(
 }
 
 /// The command that puts an object, or replaces the one of its name at a place.
-fn put_at(
-    place: Option<usize>,
-    name: Name,
-    content: Content,
-    mime: Option<Mime>,
-    body: Body,
-) -> Command
-    ensures { (type : SuffixType) → content ≡ type.content → mime ≡ type.mime
-        → result ≡ put_at place name type body }
+fn put_at(place: Option<usize>, item: Item) -> Command
+    ensures { (type : SuffixType) → item.content ≡ type.content → item.mime ≡ type.mime
+        → result ≡ put_at place item.name type item.body }
 {
     match place {
-        Some(_) => Command::Replace {
-            name,
-            content,
-            mime,
-            body,
-        },
-        None => Command::Put {
-            name,
-            content,
-            mime,
-            body,
-        },
+        Some(_) => item.into_replace(),
+        None => item.into_put(),
     }
 }
 
