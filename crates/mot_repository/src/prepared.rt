@@ -16,7 +16,6 @@ ghost use Rattle.mot_repository.specs.Repository.{RepositoryView};
 
 mod placing;
 
-use crate::by_start::sorted_by_start;
 use crate::inventory::Inventory;
 use crate::records::{record_of_change, records_of};
 use mot_carousel::{first_fit, plan};
@@ -100,8 +99,7 @@ pub(crate) fn prepare_change<'a>(
     let Some(start) = start else {
         return Err(Refusal::NoRoom);
     };
-    let extents = extents_after(alloc, inventory, command, start)?;
-    let by_start = sorted_by_start(alloc, &extents)?;
+    let (extents, by_start) = extents_after(alloc, inventory, command, start)?;
     let given = if is_full {
         records_of(alloc, inventory)?
     } else {

@@ -1,5 +1,5 @@
 -- What is kept in memory, as the catalogue that records make.
-use Rattle.std.specs.Prelude.{ℕ, List, map, sum_by, [], ◌∷◌, ◌≡◌, length, Ok}
+use Rattle.std.specs.Prelude.{ℕ, List, map, sum_by, [], ◌∷◌, ◌≡◌, length, Ok, Bool, ◌&&◌, nat_eq}
 use Rattle.mot_journal.specs.Catalogue.{Placed, Catalogue}
 use Rattle.mot_objects.specs.declared.carousel.Carousel.{Carousel}
 use Rattle.mot_objects.specs.declared.object.Object.{Object}
@@ -58,3 +58,7 @@ pub record IsLoaded (bytes : List ℕ) (j : JournalView) (carousel : Carousel)
   pub read : records_of bytes ≡ Ok (with_records j records)
   pub count : j.count ≡ length records
   pub fold : catalogue_of j.geometry.objects records ≡ Ok (catalogue_with carousel extents)
+
+-- this extent, and no other
+abbrev pub is_extent : ℕ × ℕ → ℕ × ℕ → Bool
+is_extent extent other = nat_eq other.0 extent.0 && nat_eq other.1 extent.1

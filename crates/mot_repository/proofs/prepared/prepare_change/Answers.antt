@@ -1,6 +1,5 @@
-use Rattle.std.proofs.Common.{◌≡◌, None, true, false, sym, ap, subst, ◌∙◌, rules, Vec, Global}
+use Rattle.std.proofs.Common.{◌≡◌, None, true, false, sym, ap, ◌∙◌, rules, Vec, Global}
 use Rattle.std.proofs.lemmas.Result.{err_from_is_err_and}
-use Rattle.mot_carousel.specs.Gap.{AreReordered}
 use Rattle.mot_repository.specs.Outcome.{has_long_name, start_of}
 use Rattle.mot_repository.specs.Inner.Fold.{view_with}
 use Rattle.mot_repository.specs.Repository.{RepositoryView}
@@ -75,11 +74,10 @@ invariant_of-result c =
       typed = c.in_ok-record.ensures.typed;
     } in
     record {
-      paired = rw c.in_ok-extents.ensures
+      paired = rw c.in_ok-extents.ensures.extents
           (kept_after view c.args.command.now c.in_ok-change.change.next c.in_ok-change.change.done
           c.in-Some.start c.in_ok-record.record is).paired;
-      reordered = subst (λ l. AreReordered l c.in_ok-by_start.by_start.items)
-          c.deref-2.ensures.value c.in_ok-by_start.ensures;
+      reordered = c.in_ok-extents.ensures.reordered;
     }
 
 pub returns-clause-prepared : goal.returns-clause-prepared
@@ -115,4 +113,4 @@ returns-clause-prepared c = λ view k told.
           cc
     ]))
     (rw geometry (search rules))
-    c.body_bytes-body.ensures.value (rw (carousel, extents) c.in_ok-extents.ensures)
+    c.body_bytes-body.ensures.value (rw (carousel, extents) c.in_ok-extents.ensures.extents)
