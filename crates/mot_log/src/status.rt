@@ -1,4 +1,6 @@
 //! The text of the status, in the exposition format of Prometheus.
+ghost use Rattle.std.specs.Prelude.{◌≤◌, length};
+
 use crate::Counters;
 use crate::text::{add, add_name, add_number, add_reason, add_refusal};
 use mot_events::{LookEvent, LookResult, LookStep, is_listed};
@@ -125,8 +127,8 @@ pub fn write_status(
     let disk = disk.as_slice();
     text.clear();
     for (family, value) in values_of(figures, counters, events) {
-        add_family(text, family)?;
-        begin_sample(text, family, disk)?;
+        let name = add_family(text, family)?;
+        begin_sample(text, name, disk)?;
         end_sample(text, value)?;
     }
     add_version(text, disk, figures.version)?;
@@ -164,28 +166,32 @@ fn values_of(
     ]
 }
 
-/// The name of a family of the table.
-fn name_of(family: &str) -> &str {
-    match family.split_once(' ') {
-        Some((name, _)) => name,
-        None => family,
-    }
-}
-
-/// Adds what a family is, and its type.
-fn add_family(text: &mut Vec<u8>, family: &str) -> Result<(), AllocError> {
-    let name = name_of(family);
+/// Adds what a family is, and its type; the name of its samples.
+fn add_family<'a>(text: &mut Vec<u8>, family: &'a str) -> Result<&'a [u8], AllocError> {
+    let (name, _) = family.as_bytes().split_at(name_length(family));
     add(text, "# HELP ")?;
     add(text, family)?;
     add(text, "\n# TYPE ")?;
-    add(text, name)?;
-    let is_counter = name.ends_with("_total");
-    add(text, if is_counter { " counter\n" } else { " gauge\n" })
+    text.extend_from_slice(name)?;
+    let is_counter = name.ends_with(b"_total");
+    add(text, if is_counter { " counter\n" } else { " gauge\n" })?;
+    Ok(name)
+}
+
+/// How many bytes the name of a family of the table has.
+fn name_length(family: &str) -> usize
+    ensures { result ≤ length family.now }
+{
+    let bytes = family.as_bytes();
+    bytes
+        .iter()
+        .position(|byte| *byte == b' ')
+        .unwrap_or(bytes.len())
 }
 
 /// Adds the name of a sample of a family, and its first label, that of the disk.
-fn begin_sample(text: &mut Vec<u8>, family: &str, disk: &[u8]) -> Result<(), AllocError> {
-    add(text, name_of(family))?;
+fn begin_sample(text: &mut Vec<u8>, name: &[u8], disk: &[u8]) -> Result<(), AllocError> {
+    text.extend_from_slice(name)?;
     text.extend_from_slice(disk)
 }
 
@@ -212,17 +218,17 @@ fn add_label(text: &mut Vec<u8>, front: &str, value: &[u8]) -> Result<(), AllocE
 
 /// Adds which program it is.
 fn add_version(text: &mut Vec<u8>, disk: &[u8], version: &str) -> Result<(), AllocError> {
-    add_family(text, VERSION)?;
-    begin_sample(text, VERSION, disk)?;
+    let name = add_family(text, VERSION)?;
+    begin_sample(text, name, disk)?;
     add_label(text, ",version=\"", version.as_bytes())?;
     end_sample(text, 1)
 }
 
 /// Adds how often each refusal came.
 fn add_refusals(text: &mut Vec<u8>, disk: &[u8], counters: &Counters) -> Result<(), AllocError> {
-    add_family(text, REFUSED)?;
+    let name = add_family(text, REFUSED)?;
     for refusal in &COUNTED {
-        begin_sample(text, REFUSED, disk)?;
+        begin_sample(text, name, disk)?;
         add(text, ",reason=\"")?;
         add_refusal(text, *refusal)?;
         add(text, "\"")?;
@@ -238,18 +244,21 @@ fn add_files(
     disk: &[u8],
     events: &[LookEvent],
 ) -> Result<(), AllocError> {
-    add_family(text, FILES_REFUSED)?;
+    let name = add_family(text, FILES_REFUSED)?;
+    let mut sample = Vec::new(alloc);
+    begin_sample(&mut sample, name, disk)?;
     for (place, event) in events.iter().enumerate() {
-        add_file(text, alloc, disk, &events[..place], event)?;
+        add_file(text, alloc, sample.as_slice(), &events[..place], event)?;
     }
     Ok(())
 }
 
-/// Adds the sample of a file, if it was refused, unless one of the events before it is shown alike.
+/// Adds the sample of a file, which begins so, if it was refused, unless one of the events before it
+/// is shown alike.
 fn add_file(
     text: &mut Vec<u8>,
     alloc: Global,
-    disk: &[u8],
+    sample: &[u8],
     before: &[LookEvent],
     event: &LookEvent,
 ) -> Result<(), AllocError> {
@@ -263,7 +272,7 @@ fn add_file(
     }
     let mut reason = Vec::new(alloc);
     add_reason(&mut reason, *refusal, why)?;
-    begin_sample(text, FILES_REFUSED, disk)?;
+    text.extend_from_slice(sample)?;
     add(text, ",command=\"")?;
     add(text, step.word())?;
     add_label(text, "\",name=\"", shown.as_slice())?;
@@ -298,11 +307,11 @@ fn add_objects(
     disk: &[u8],
     objects: &[Object],
 ) -> Result<(), AllocError> {
-    add_family(text, ON_AIR)?;
+    let name = add_family(text, ON_AIR)?;
     for object in objects {
         let mut shown = Vec::new(alloc);
         add_name(&mut shown, object.name.as_bytes())?;
-        begin_sample(text, ON_AIR, disk)?;
+        begin_sample(text, name, disk)?;
         add_label(text, ",name=\"", shown.as_slice())?;
         add(text, ",id=\"")?;
         add_number(text, u64::from(object.tid.get()))?;
