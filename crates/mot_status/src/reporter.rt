@@ -55,6 +55,9 @@ pub struct Reporter<'a, S: System + Drop, W: Write + Drop> {
     looks: u64,
     /// After how many packets the status is written again.
     next: u64,
+    /// After how many packets there is news: none before the next status, if no look began and
+    /// nothing was told.
+    quiet_until: u64,
     /// What a turn takes, if that is known.
     size: Option<TurnMeasurement>,
     /// Of how many changes the time is known.
@@ -87,6 +90,7 @@ impl<'a, S: System + Drop, W: Write + Drop> Reporter<'a, S, W> {
             has_begun: false,
             looks: 0,
             next: 0,
+            quiet_until: 0,
             size: None,
             changes: 0,
             last_change: 0,
@@ -95,9 +99,13 @@ impl<'a, S: System + Drop, W: Write + Drop> Reporter<'a, S, W> {
         }
     }
 
-    /// Tells which disk is played, by which program.
+    /// Counts the packet that ended a turn; before the first turn tells which disk is played, by which
+    /// program.
     #[inline(never)]
-    fn tell_start<D: Disk>(&mut self, server: &Server<D>, alloc: Global) {
+    fn begin_turn<D: Disk>(&mut self, server: &Server<D>, alloc: Global) {
+        if self.has_begun {
+            return self.log.counters.count_packet(true);
+        }
         self.has_begun = true;
         self.size = measure(self.size, server, alloc);
         let objects = server.carousel().objects.len() as u64;
@@ -138,21 +146,22 @@ impl<'a, S: System + Drop, W: Write + Drop> Reporter<'a, S, W> {
     }
 
     /// Tells what the last look met, if there was one since the last call; notes when the last
-    /// change was made; and writes the status, if that is due.
+    /// change was made; and writes the status after a look, and if that is due.
     #[inline(never)]
     fn tell_news<D: Disk, U: LookHistory>(
         &mut self,
         server: &Server<D>,
         alloc: Global,
         update: &U,
-        is_due: bool,
     ) {
+        let is_due = self.log.counters.packets >= self.next || update.looks() != self.looks;
         self.tell_looked(update);
         self.note_changes();
         if is_due {
             self.next = next_after(self.log.counters.packets);
             self.tell_status(server, alloc, update.events());
         }
+        self.quiet_until = self.next;
     }
 
     /// Writes the status, if a file of it is given, and tells of a fault of it once.
@@ -194,6 +203,7 @@ impl<'a, S: System + Drop, W: Write + Drop> Reporter<'a, S, W> {
 impl<'a, S: System + Drop, W: Write + Drop> Tells for Reporter<'a, S, W> {
     /// Counts an event, and writes its line to the log, if it has one.
     fn tell(&mut self, event: &Event<'_>) {
+        self.quiet_until = 0;
         self.log.tell(event);
     }
 }
@@ -203,10 +213,9 @@ impl<'a, S: System + Drop, W: Write + Drop> Watch for Reporter<'a, S, W> {
     /// taken since the last.
     #[inline(always)]
     fn begin<D: Disk>(&mut self, server: &Server<D>, alloc: Global, moment: UpdatePoint) {
-        if self.has_begun {
-            self.log.counters.count_packet(ends_turn(moment));
-        } else {
-            self.tell_start(server, alloc);
+        match moment {
+            UpdatePoint::BetweenTurns => self.begin_turn(server, alloc),
+            UpdatePoint::AtLook | UpdatePoint::Within => self.log.counters.count_packet(false),
         }
     }
 
@@ -214,6 +223,7 @@ impl<'a, S: System + Drop, W: Write + Drop> Watch for Reporter<'a, S, W> {
     #[inline(always)]
     fn begin_look(&mut self, is_look: bool) {
         if is_look {
+            self.quiet_until = 0;
             self.look_began = time_of(&mut self.status);
         }
     }
@@ -222,19 +232,9 @@ impl<'a, S: System + Drop, W: Write + Drop> Watch for Reporter<'a, S, W> {
     /// status after a look and after each 1,000 packets.
     #[inline(always)]
     fn end<D: Disk, U: LookHistory>(&mut self, server: &Server<D>, alloc: Global, update: &U) {
-        let counters = &self.log.counters;
-        let is_due = counters.packets >= self.next || update.looks() != self.looks;
-        if is_due || counters.changes != self.changes {
-            self.tell_news(server, alloc, update, is_due);
+        if self.log.counters.packets >= self.quiet_until {
+            self.tell_news(server, alloc, update);
         }
-    }
-}
-
-/// Whether a turn has ended.
-fn ends_turn(moment: UpdatePoint) -> bool {
-    match moment {
-        UpdatePoint::BetweenTurns => true,
-        _ => false,
     }
 }
 
