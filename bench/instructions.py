@@ -120,7 +120,7 @@ class Bench:
         return (counts[1] - counts[0]) / 32
 
     def looks(self):
-        for files in (40, 250, 1_000):
+        for files in (40, 250, 500, 1_000):
             folder = self.room / f"files{files}"
             folder.mkdir()
             for it in range(files):
@@ -163,9 +163,10 @@ def main():
     options = argparse.ArgumentParser(description=__doc__, formatter_class=argparse.RawDescriptionHelpFormatter)
     options.add_argument("--compare", action="store_true", help="fails if one takes 5 % more than docs/SPEED.md says")
     given = options.parse_args()
-    if not shutil.which("valgrind"):
-        print("bench/instructions.py: skipped: there is no valgrind")
-        return
+    for tool in ("valgrind", "cc", "sqlite3"):
+        if not shutil.which(tool):
+            print(f"instructions: skipped: no {tool}")
+            return
     print(f"{'instructions':60} {'motcar':>14} {'C':>14} {'SQLite':>14}")
     with tempfile.TemporaryDirectory() as room:
         bench = Bench(room)
@@ -176,7 +177,7 @@ def main():
         wrong = [f"{name}: {ours:,.0f}, and docs/SPEED.md says {last.get(name, 'nothing')}" for name, ours in bench.rows
                  if ours > MORE * last.get(name, 0)]
         print("\n".join(wrong))
-        print(f"{len(bench.rows) - len(wrong)} passed, {len(wrong)} failed")
+        print(f"instructions: {len(bench.rows) - len(wrong)} of {len(bench.rows)} rows as they should be")
         sys.exit(bool(wrong))
 
 

@@ -1,6 +1,6 @@
 -- The command line, in the words of `clap`.
-use Rattle.std.specs.Prelude.{[], codes}
-use Rattle.clap.specs.Words.{App, new_app, with_rule, with_subcommand}
+use Rattle.std.specs.Prelude.{List, [], ◌∷◌, codes, false, map}
+use Rattle.clap.specs.Words.{App, new_app, with_rule}
 use Rattle.mot_cli.specs.Parts.{disk_app, flag_rule, motcar_top, number_rule, path_rule}
 use Rattle.mot_cli.specs.Parts.{word_rule, words_rule}
 
@@ -64,25 +64,16 @@ get_app = with_rule (disk_app (codes "get")) (word_rule (codes "NAME"))
 abbrev pub inspect_app : App
 inspect_app = with_json (with_rule (disk_app (codes "inspect")) (number_rule (codes "rate")))
 
--- the program with all its commands
+-- the commands, and the program with all of them
+abbrev pub verb_apps : List App
+verb_apps =
+    format_app ∷ play_app ∷ sync_app ∷ health_app ∷ with_json (disk_app (codes "list")) ∷ put_app
+    ∷ withdraw_app ∷ get_app ∷ disk_app (codes "serve") ∷ inspect_app
+    ∷ with_json (disk_app (codes "check")) ∷ copy_app ∷ disk_app (codes "export")
+    ∷ disk_app (codes "migrate") ∷ memory_app ∷ []
+
 abbrev pub motcar_app : App
-motcar_app =
-    with_subcommand (with_subcommand (with_subcommand (with_subcommand (with_subcommand
-    (with_subcommand (with_subcommand (with_subcommand (with_subcommand (with_subcommand
-    (with_subcommand (with_subcommand (with_subcommand (with_subcommand (with_subcommand
-    (record { top = motcar_top; subs = [] })
-    format_app.top)
-    play_app.top)
-    sync_app.top)
-    health_app.top)
-    (with_json (disk_app (codes "list"))).top)
-    put_app.top)
-    withdraw_app.top)
-    get_app.top)
-    (disk_app (codes "serve")).top)
-    inspect_app.top)
-    (with_json (disk_app (codes "check"))).top)
-    copy_app.top)
-    (disk_app (codes "export")).top)
-    (disk_app (codes "migrate")).top)
-    memory_app.top
+motcar_app = record {
+  top = record motcar_top { is_leaf = false };
+  subs = map (λ (a : App). a.top) verb_apps;
+}

@@ -1,7 +1,9 @@
-use Rattle.std.specs.Prelude.{◌≡◌, ℕ, false, IfOk, List, [], ◌∷◌, Result, Option, Some, None}
-use Rattle.clap.specs.Words.{App, Rule, app_of, new_app, with_rule, with_subcommand}
+use Rattle.std.specs.Prelude.{◌≡◌, ℕ, false, true, IfOk, List, [], ◌∷◌, Result, Option, Some, None}
+use Rattle.clap.specs.Words.{App, Rule, Text, app_of, fault_of, is_simple_and_free, matches_of}
+use Rattle.clap.specs.Words.{new_app, subcommand_of, with_rule, with_subcommand}
 use Rattle.clap.specs.declared.builder.Command.{Command}
 use Rattle.clap.specs.declared.builder.Command.TheViews.{out-Command}
+use Rattle.mot_cli.specs.Command.{motcar_app}
 use Rattle.mot_cli.specs.Parts.{flag_rule, motcar_top, number_rule, path_rule, word_rule}
 use Rattle.mot_cli.specs.Parts.{words_rule}
 use Rattle.mot_cli.specs.declared.parts.Argument.{Argument}
@@ -48,6 +50,13 @@ empty_app = record { top = motcar_top; subs = [] }
 
 abbrev pub line_app : List Verb → App
 line_app verbs = with_all with_verb empty_app verbs
+
+-- the words mean for a part of the commands what they mean for all
+pub record MeansAlike (app : App) (words : List Text) : Type 0 where
+  pub is_simple : is_simple_and_free app ≡ true
+  pub matches : matches_of app words ≡ matches_of motcar_app words
+  pub subcommand : subcommand_of app words ≡ subcommand_of motcar_app words
+  pub faults : fault_of app words ≡ fault_of motcar_app words
 
 -- What words give.
 

@@ -1,12 +1,14 @@
 //! The command line, in clap's words.
-ghost use Rattle.std.specs.Prelude.{map, IfErr, IfOk};
+ghost use Rattle.std.specs.Prelude.{◌≡◌, map, Contains, IfErr, IfOk, IfSome};
 ghost use Rattle.clap.specs.Words.{HasKind, HasMatchesOf, fault_of};
-ghost use Rattle.mot_cli.specs.Command.{motcar_app};
+ghost use Rattle.mot_cli.specs.Command.{motcar_app, verb_apps};
+ghost use Rattle.mot_cli.specs.Inner.{MeansAlike, line_app, verb_app};
 
 use crate::parts::{Argument, DISK, Kind, Verb, command_line};
 use clap::{ArgMatches, Error};
 use std::alloc::Global;
 use std::convert::AsStr;
+use std::slice;
 
 /// What the top help says below the list of commands.
 const NOTES: &str = "\
@@ -268,6 +270,35 @@ pub fn motcar_matches<'a, S: AsStr>(alloc: Global, words: &'a [S]) -> Result<Arg
     ensures matches { IfOk result (HasMatchesOf motcar_app (map S.text words.now)) }
     ensures kinds { IfErr result (HasKind (fault_of motcar_app (map S.text words.now))) }
 {
-    let command = command_line(alloc, VERBS)?;
+    let command = command_line(alloc, verbs_for(VERBS, words))?;
     command.after_help(NOTES).try_get_matches_from(words)
+}
+
+/// Of these commands, which are all, those that the words may mean: the one that the first word names,
+/// or all. (A command line of one command is made with a tenth of the instructions.)
+fn verbs_for<'v, S: AsStr>(verbs: &'v [Verb], words: &[S]) -> &'v [Verb]
+    requires each { map verb_app verbs.now ≡ verb_apps }
+    requires all { line_app verbs.now ≡ motcar_app }
+    ensures { MeansAlike (line_app result.now) (map S.text words.now) }
+{
+    let Some(word) = words.first() else {
+        return verbs;
+    };
+    match verb_named(verbs, word.as_str()) {
+        Some(verb) => slice::from_ref(verb),
+        None => verbs,
+    }
+}
+
+/// The command of this name.
+fn verb_named<'v>(verbs: &'v [Verb], name: &str) -> Option<&'v Verb>
+    ensures { IfSome result (λ verb.
+        Contains verbs.now verb.now × (verb.now.name.now ≡ name.now)) }
+{
+    for verb in verbs {
+        if verb.name == name {
+            return Some(verb);
+        }
+    }
+    None
 }
