@@ -64,9 +64,9 @@ pub fn refusal_text(refusal: Refusal) -> TextLine
     let mut text = TextLine::new();
     array_append(&mut text, b"refused ");
     array_append(&mut text, buffer.format(refusal.number()).as_bytes());
-    array_append(&mut text, b" ");
+    text.push(b' ');
     array_append(&mut text, refusal.name().as_bytes());
-    array_append(&mut text, b"\n");
+    text.push(b'\n');
     text
 }
 
@@ -80,7 +80,7 @@ pub fn done_text(done: Done) -> TextLine
     append_taken(&mut text, done.object);
     array_append(&mut text, b"directory ");
     array_append(&mut text, buffer.format(done.directory.get()).as_bytes());
-    array_append(&mut text, b"\n");
+    text.push(b'\n');
     text
 }
 
@@ -96,7 +96,7 @@ pub fn carousel_text(carousel: &Carousel) -> TextLine
     append_field(&mut text, u32::from(carousel.directory.get()));
     append_field(&mut text, u32::from(carousel.cursor.get()));
     array_append(&mut text, buffer.format(carousel.objects.len()).as_bytes());
-    array_append(&mut text, b"\n");
+    text.push(b'\n');
     text
 }
 
@@ -112,9 +112,9 @@ pub fn object_text(object: &Object) -> TextLine
     append_field(&mut text, u32::from(object.content.subtype()));
     append_field(&mut text, object.length.get());
     array_append(&mut text, object.name.as_bytes());
-    array_append(&mut text, b" ");
+    text.push(b' ');
     append_mime(&mut text, &object.mime);
-    array_append(&mut text, b"\n");
+    text.push(b'\n');
     text
 }
 
@@ -125,11 +125,11 @@ pub fn put_text(object: &Object) -> TextLine
     let mut text = TextLine::new();
     array_append(&mut text, b"put ");
     array_append(&mut text, object.name.as_bytes());
-    array_append(&mut text, b" ");
+    text.push(b' ');
     append_field(&mut text, u32::from(object.content.content_type()));
     append_field(&mut text, u32::from(object.content.subtype()));
     append_mime(&mut text, &object.mime);
-    array_append(&mut text, b" ");
+    text.push(b' ');
     text
 }
 
@@ -142,7 +142,7 @@ pub fn period_text(period: Period) -> TextLine
     if period.get() != 0 {
         array_append(&mut text, b"period ");
         array_append(&mut text, buffer.format(period.get()).as_bytes());
-        array_append(&mut text, b"\n");
+        text.push(b'\n');
     }
     text
 }
@@ -167,7 +167,7 @@ fn append_field(text: &mut TextLine, number: u32)
 {
     let mut buffer = Buffer::new();
     array_append(text, buffer.format(number).as_bytes());
-    array_append(text, b" ");
+    text.push(b' ');
 }
 
 /// The MIME type, or `-` for none.
@@ -178,6 +178,6 @@ fn append_mime(text: &mut TextLine, mime: &Option<Mime>)
 {
     match mime {
         Some(mime) => array_append(text, mime.as_bytes()),
-        None => array_append(text, b"-"),
+        None => text.push(b'-'),
     }
 }
