@@ -113,7 +113,8 @@ pub fn cut_packet_into(
         is_last,
         address,
     };
-    packet.clear();
+    // An empty one is six stores; to clear it would be a call.
+    *packet = Packet::new();
     fill_packet(packet, header, useful);
 }
 
