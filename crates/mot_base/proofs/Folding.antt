@@ -1,14 +1,16 @@
 -- A word folded into those behind it: the divisor's sixteenth power has four terms.
-use Rattle.std.proofs.Common.{◌≡◌, ℕ, zero, suc, ◌+◌, ◌-◌, ◌*◌, ◌/◌, ◌%◌, ◌^◌, ◌<◌, Bool, true}
+use Rattle.std.proofs.Common.{◌≡◌, ℕ, zero, suc, ◌+◌, ◌-◌, ◌*◌, ◌/◌, ◌%◌, ◌<◌, Bool, true}
 use Rattle.std.proofs.Common.{false, not, ◌&&◌, List, [], ◌∷◌, ◌++◌, length, replicate, refl, sym}
-use Rattle.std.proofs.Common.{ap, ◌∙◌, arith, length-append, append_assoc, append-nil}
+use Rattle.std.proofs.Common.{ap, ◌∙◌, arith, length-append, append-nil}
 use Rattle.std.proofs.lemmas.List.{length-replicate}
 use Rattle.std.proofs.lemmas.Bool.{and_parts}
 use Rattle.std.specs.Int.RustNames.{bit_xor}
 use Rattle.mot_base.specs.Checksum.{xor, bits_of, added_to_front, remainder}
-use Rattle.mot_base.proofs.Bits.{add_zeros, add_parts, length_bits, bits_xor, bits_cat, low_bits}
+use Rattle.mot_base.specs.Inner.{bits_of_word}
+use Rattle.mot_base.proofs.Bits.{add_zeros, add_parts}
 use Rattle.mot_base.proofs.Linear.{remainder-add, zeros_first, add_nothing, to_own_zeros}
 use Rattle.mot_base.proofs.Linear.{front_left}
+use Rattle.mot_base.proofs.Words.{length_word, moved_word, add_word}
 
 -- ---- sums
 
@@ -209,88 +211,42 @@ fold_front m j xs tail e steps same =
 
 -- ---- the words that it is folded into
 
--- words are added bit by bit, and what stands behind them too
-pub add_word : (a b : ℕ) (front rest : List Bool) →
-    added_to_front (bits_of 64 a ++ front) (bits_of 64 b ++ rest)
-    ≡ bits_of 64 (bit_xor a b) ++ added_to_front front rest
-add_word a b front rest =
-    add_parts (bits_of 64 a) (bits_of 64 b) front rest (length_bits 64 a ∙ sym (length_bits 64 b))
-    ∙ ap (λ l. l ++ added_to_front front rest) (sym (bits_xor 64 a b))
-
-zero_bits : bits_of 48 0 ≡ replicate 48 false
-unfolding bits_of
-zero_bits = refl
-
-zero_low : bits_of 16 0 ≡ replicate 16 false
-unfolding bits_of
-zero_low = refl
-
-moved_down : (x : ℕ) → x < 2 ^ 16 → bits_of 64 x ≡ replicate 48 false ++ bits_of 16 x
-moved_down x h =
-    ap (bits_of 64) (let e : x ≡ 0 * 2 ^ 16 + x = omega arith in e) ∙ bits_cat 48 0 16 x h
-    ∙ ap (λ l. l ++ bits_of 16 x) zero_bits
-
-moved_up : (a : ℕ) → bits_of 64 (a * 65536 % 18446744073709551616)
-    ≡ bits_of 48 a ++ replicate 16 false
-moved_up a =
-    low_bits 64 (a * 65536)
-    ∙ ap (bits_of 64) (let e : a * 65536 ≡ a * 2 ^ 16 + 0 = omega arith in e)
-    ∙ bits_cat 48 a 16 0 (omega arith) ∙ ap (λ l. bits_of 48 a ++ l) zero_low
-
-two_parts : (a : ℕ) → bits_of 64 a ≡ bits_of 16 (a / 281474976710656) ++ bits_of 48 a
-two_parts a =
-    ap (bits_of 64) (let e : a ≡ a / 281474976710656 * 2 ^ 48 + a % 2 ^ 48 = omega arith in e)
-    ∙ bits_cat 16 (a / 281474976710656) 48 (a % 2 ^ 48) (omega arith)
-    ∙ ap (λ l. bits_of 16 (a / 281474976710656) ++ l) (low_bits 48 a)
-
 -- where a word is added: into three words, of which two share it
-folded_words : (a : ℕ) → a < 18446744073709551616 → folded (bits_of 64 a)
-    ≡ bits_of 64 a ++ (bits_of 64 (a / 281474976710656)
-    ++ (bits_of 64 (a * 65536 % 18446744073709551616) ++ (bits_of 64 a ++ [])))
+folded_words : (a : ℕ) → a < 18446744073709551616 → folded (bits_of_word a)
+    ≡ bits_of_word a ++ (bits_of_word (a * 281474976710656 % 18446744073709551616)
+    ++ (bits_of_word (a / 65536) ++ (bits_of_word a ++ [])))
 folded_words a h =
-    let word : List Bool = bits_of 64 a in
-    let high : List Bool = bits_of 16 (a / 281474976710656) in
-    let low : List Bool = bits_of 48 a in
-    let gap : List Bool = replicate 48 false in
-    let last : List Bool = replicate 16 false in
-    let down : bits_of 64 (a / 281474976710656) ≡ gap ++ high =
-    moved_down (a / 281474976710656) (omega arith) in
-    let middle : word ++ (last ++ word) ≡ high ++ ((low ++ last) ++ word) =
-    ap (λ l. l ++ (last ++ word)) (two_parts a) ∙ append_assoc high low (last ++ word)
-    ∙ ap (λ l. high ++ l) (sym (append_assoc low last word)) in
-    ap (λ l. word ++ (gap ++ l)) middle
-    ∙ ap (λ l. word ++ l) (sym (append_assoc gap high ((low ++ last) ++ word)))
-    ∙ ap (λ l. word ++ (l ++ ((low ++ last) ++ word))) (sym down)
-    ∙ ap (λ l. word ++ (bits_of 64 (a / 281474976710656) ++ (l ++ word))) (sym (moved_up a))
-    ∙ ap (λ l. word ++ (bits_of 64 (a / 281474976710656)
-    ++ (bits_of 64 (a * 65536 % 18446744073709551616) ++ l))) (sym (append-nil word))
+    let word : List Bool = bits_of_word a in
+    ap (λ l. word ++ (replicate 48 false ++ (word ++ (replicate 16 false ++ l))))
+    (sym (append-nil word))
+    ∙ ap (λ l. word ++ l) (sym (moved_word a (word ++ []) h))
 
 -- the first of five words, folded into those behind it, leaves the same remainder
 pub word_folded : (a b c d next n : ℕ) (rest : List Bool) → a < 18446744073709551616 →
-    remainder (304 + n) (bits_of 64 a ++ (bits_of 64 b ++ (bits_of 64 c ++ (bits_of 64 d
-    ++ (bits_of 64 next ++ rest)))))
-    ≡ remainder (240 + n) (bits_of 64 (bit_xor a b) ++ (bits_of 64 (bit_xor (a / 281474976710656) c)
-    ++ (bits_of 64 (bit_xor (a * 65536 % 18446744073709551616) d)
-    ++ (bits_of 64 (bit_xor a next) ++ rest))))
+    remainder (304 + n) (bits_of_word a ++ (bits_of_word b ++ (bits_of_word c ++ (bits_of_word d
+    ++ (bits_of_word next ++ rest)))))
+    ≡ remainder (240 + n) (bits_of_word (bit_xor a b)
+    ++ (bits_of_word (bit_xor (a * 281474976710656 % 18446744073709551616) c)
+    ++ (bits_of_word (bit_xor (a / 65536) d) ++ (bits_of_word (bit_xor a next) ++ rest))))
 word_folded a b c d next n rest h =
-    let high : ℕ = a / 281474976710656 in
-    let low : ℕ = a * 65536 % 18446744073709551616 in
-    let fifth : List Bool = bits_of 64 next ++ rest in
-    let fourth : List Bool = bits_of 64 d ++ fifth in
-    let third : List Bool = bits_of 64 c ++ fourth in
-    let second : List Bool = bits_of 64 b ++ third in
-    let sum : added_to_front (folded (bits_of 64 a)) second
-    ≡ bits_of 64 (bit_xor a b) ++ (bits_of 64 (bit_xor high c)
-    ++ (bits_of 64 (bit_xor low d) ++ (bits_of 64 (bit_xor a next) ++ rest))) =
+    let up : ℕ = a * 281474976710656 % 18446744073709551616 in
+    let down : ℕ = a / 65536 in
+    let fifth : List Bool = bits_of_word next ++ rest in
+    let fourth : List Bool = bits_of_word d ++ fifth in
+    let third : List Bool = bits_of_word c ++ fourth in
+    let second : List Bool = bits_of_word b ++ third in
+    let sum : added_to_front (folded (bits_of_word a)) second
+    ≡ bits_of_word (bit_xor a b) ++ (bits_of_word (bit_xor up c)
+    ++ (bits_of_word (bit_xor down d) ++ (bits_of_word (bit_xor a next) ++ rest))) =
     ap (λ l. added_to_front l second) (folded_words a h)
-    ∙ add_word a b (bits_of 64 high ++ (bits_of 64 low ++ (bits_of 64 a ++ []))) third
-    ∙ ap (λ l. bits_of 64 (bit_xor a b) ++ l)
-    (add_word high c (bits_of 64 low ++ (bits_of 64 a ++ [])) fourth
-    ∙ ap (λ l. bits_of 64 (bit_xor high c) ++ l)
-    (add_word low d (bits_of 64 a ++ []) fifth
-    ∙ ap (λ l. bits_of 64 (bit_xor low d) ++ l)
+    ∙ add_word a b (bits_of_word up ++ (bits_of_word down ++ (bits_of_word a ++ []))) third
+    ∙ ap (λ l. bits_of_word (bit_xor a b) ++ l)
+    (add_word up c (bits_of_word down ++ (bits_of_word a ++ [])) fourth
+    ∙ ap (λ l. bits_of_word (bit_xor up c) ++ l)
+    (add_word down d (bits_of_word a ++ []) fifth
+    ∙ ap (λ l. bits_of_word (bit_xor down d) ++ l)
     (add_word a next [] rest
-    ∙ ap (λ l. bits_of 64 (bit_xor a next) ++ l) (add_nothing rest)))) in
-    fold_front 256 n (bits_of 64 a) second (length_bits 64 a) (omega arith)
-    (agree (bits_of 64 a) (length_bits 64 a))
+    ∙ ap (λ l. bits_of_word (bit_xor a next) ++ l) (add_nothing rest)))) in
+    fold_front 256 n (bits_of_word a) second (length_word a) (omega arith)
+    (agree (bits_of_word a) (length_word a))
     ∙ ap (remainder (240 + n)) sum

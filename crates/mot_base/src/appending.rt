@@ -48,7 +48,9 @@ pub fn array_append_number<const ROOM: usize>(out: &mut ArrayVec<u8, ROOM>, numb
     ensures items { out.new.items ≡ out.old.items ++ to_be_bytes w16 number }
     ensures len { array_vec_len out.new ≡ array_vec_len out.old + 2 }
 {
-    array_append(out, &bytes_of_number(number));
+    let [high, low] = number.to_be_bytes();
+    out.push(high);
+    out.push(low);
 }
 
 /// The two bytes of a number, its high byte first.

@@ -30,6 +30,16 @@ fn fault(error: io::Error) -> Fault {
     }
 }
 
+/// Why a write was refused: its error, made anew of the system's number, or of its kind if it has
+/// none. So a write that is taken has no room of an error to move.
+#[inline(never)]
+pub(crate) fn unwritten(code: Option<i32>, kind: ErrorKind) -> Fault {
+    fault(match code {
+        Some(code) => io::Error::from_raw_os_error(code),
+        None => io::Error::from(kind),
+    })
+}
+
 /// The error of a call on a handle that stands for nothing.
 pub(crate) fn closed() -> io::Error {
     io::Error::from(ErrorKind::InvalidInput)

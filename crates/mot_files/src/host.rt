@@ -3,7 +3,7 @@
 ghost use Rattle.std.specs.Prelude.{◌≡◌, ◌≤◌, [], IfOk, length};
 ghost use Rattle.mot_files.specs.Host.{calls_of};
 
-use crate::answers::{closed, locked, real_path, seen, time_of_day, told};
+use crate::answers::{closed, locked, real_path, seen, time_of_day, told, unwritten};
 use crate::call_log::CallLog;
 use crate::system::{Event, Fault, FileStat, Handle, How, System, Time};
 use crate::table::Table;
@@ -164,7 +164,10 @@ impl<'a> System for HostSystem<'a> {
 
     #[inline(always)]
     fn write(&mut self, handle: Handle, bytes: &[u8]) -> Result<usize, Fault> {
-        let answer = told(self.write_to(handle, bytes));
+        let answer = match self.write_to(handle, bytes) {
+            Ok(count) => Ok(count),
+            Err(error) => Err(unwritten(error.raw_os_error(), error.kind())),
+        };
         self.calls.note(&Event::Wrote(handle, answer), bytes, &[]);
         answer
     }

@@ -19,6 +19,11 @@ use mot_numbers::{Address, MAX_ADDRESS, PacketLength};
 /// The bytes of the longest packet.
 pub const MAX_PACKET: usize = 96;
 
+/// The bytes of the data field of the shortest packet, and of the longest.
+const SHORTEST_ROOM: usize = 19;
+
+const LONGEST_ROOM: usize = 91;
+
 /// A packet's bytes: 24, 48, 72 or 96 of them (EN 300 401, clause 5.3.2).
 pub type Packet = ArrayVec<u8, MAX_PACKET>;
 
@@ -113,7 +118,8 @@ pub fn cut_packet_into(
         is_last,
         address,
     };
-    packet.clear();
+    // An empty one is six stores; to clear it would be a call.
+    *packet = Packet::new();
     fill_packet(packet, header, useful);
 }
 
@@ -131,10 +137,25 @@ fn fill_packet(packet: &mut Packet, header: Header, useful: &[u8])
     let room = header.length.room();
     array_append_number(packet, header.word());
     packet.push(useful.len() as u8);
-    array_append(packet, useful);
+    append_useful(packet, useful);
     append_zeros(packet, room - useful.len());
     let checksum = crc16(packet.as_slice());
     array_append_number(packet, checksum);
+}
+
+/// Adds bytes for which there is room. With their number known, as of a full data field of the
+/// shortest packet and of the longest, they are copied without a call.
+#[inline(always)]
+fn append_useful(packet: &mut Packet, useful: &[u8])
+    requires { array_vec_len packet.old + length useful.now ≤ MAX_PACKET }
+    ensures items { packet.new.items ≡ packet.old.items ++ useful.now }
+    ensures len { array_vec_len packet.new ≡ array_vec_len packet.old + length useful.now }
+{
+    match useful.len() {
+        SHORTEST_ROOM => array_append(packet, &useful[..SHORTEST_ROOM]),
+        LONGEST_ROOM => array_append(packet, &useful[..LONGEST_ROOM]),
+        _ => array_append(packet, useful),
+    }
 }
 
 /// Adds zeros for which there is room.

@@ -298,6 +298,8 @@ impl State {
             ≡ (packet_sent (place_with self.old bodies) self.old.group.items
             self.old.sent).ends_turn }
     {
+        let room = self.full_length.room();
+        let is_last = self.group.len() - self.sent <= room;
         // One packet a call, since a turn may change between two. `write_packets` of `mot_session`
         // has a loop over all packets of a group, which is not sent but shown.
         cut_packet_into(
@@ -308,8 +310,6 @@ impl State {
             self.address,
             self.index,
         );
-        let room = self.full_length.room();
-        let is_last = self.group.len() - self.sent <= room;
         let ends_turn = is_last && self.course.has_ended(self.turn.entity_count());
         self.sent = if is_last { 0 } else { self.sent + room };
         self.index = (self.index + 1) % 4;

@@ -17,5 +17,5 @@ returns-in-len8-up-clause-bits c = λ tail.
     (omega arith) (omega arith) (omega arith) (omega arith)
     (omega arith) (omega arith) (omega arith) (omega arith) in
     ap (λ l. bits_of_bytes l ++ tail) (eight_front bytes c.in-len8-up.len_at_least)
-    ∙ next_word c.from_be_bytes-word.result eight others tail refl small
-    c.from_be_bytes-word.ensures
+    ∙ next_word c.from_le_bytes-word.result eight others tail refl small
+    c.from_le_bytes-word.ensures

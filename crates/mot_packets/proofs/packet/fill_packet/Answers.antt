@@ -18,7 +18,7 @@ whole c =
     let before : c.append_zeros.new.packet.items ≡ covered_bytes p =
     rw (
       c.append_zeros.ensures.items,
-      c.array_append.ensures.items,
+      c.append_useful.ensures.items,
       c.push.ensures.items,
       c.array_append_number.ensures.items,
       c.requires.empty,
