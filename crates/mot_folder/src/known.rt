@@ -83,7 +83,7 @@ impl KnownFiles {
         ensures { IfSome result (λ stamp. IsKnownWith self.now.known.items (name.now, stamp)) }
     {
         for known in &self.known {
-            if known.name.as_bytes() == name.as_bytes() {
+            if known.name == *name {
                 return Some(known.stamp);
             }
         }
@@ -175,7 +175,7 @@ fn is_there(known: &Known, carousel: &Carousel) -> bool
 fn is_here(known: &Known, object: &Object) -> bool
     ensures { result ≡ is_here known.now object.now }
 {
-    object.name.as_bytes() == known.name.as_bytes()
+    object.name == known.name
         && object.tid.get() == known.tid.get()
         && object.version == known.version
 }

@@ -96,14 +96,15 @@ pub(crate) fn list<S: System + Drop>(
     types: &FileTypes,
     report: &mut Report,
     carousel: &Carousel,
-) -> Result<FileNames, Unlisted>
+) -> Result<(FileNames, usize), Unlisted>
     // Nothing is withdrawn but by names that last.
     ensures { (given : Given)
         × Gives (view S.calls shelf.old) nothing (view S.calls shelf.new) given
         × MatchResult result
-        (λ names. Lists types.now (stage (reader_path shelf.old) nothing report.old 0 [])
-        (stage_of (reader_path shelf.new) given report.new names)
-        × (unknown_objects names.names.items carousel.now.objects.items ≢ []
+        (λ listed. Lists types.now (stage (reader_path shelf.old) nothing report.old 0 [])
+        (stage_of (reader_path shelf.new) given report.new listed.0)
+        × (listed.1 ≡ length (unknown_objects listed.0.names.items carousel.now.objects.items))
+        × (unknown_objects listed.0.names.items carousel.now.objects.items ≢ []
         → (before : List (List ℕ)) × (given.kept_names ≡ before ++ reader_path shelf.old ∷ [])))
         (λ unlisted. ListsNot types.now (stage (reader_path shelf.old) nothing report.old 0 [])
         (stage (reader_path shelf.new) given report.new 0 []) unlisted.refusal) }
@@ -111,11 +112,12 @@ pub(crate) fn list<S: System + Drop>(
     let mut names = FileNames::new(alloc);
     shelf.open()?;
     read_names(shelf, alloc, types, &mut names, report)?;
-    if count_unknown(&names, carousel) == 0 {
-        return Ok(names);
+    let going = count_unknown(&names, carousel);
+    if going == 0 {
+        return Ok((names, going));
     }
     shelf.keep_names()?;
-    Ok(names)
+    Ok((names, going))
 }
 
 /// How many objects of the carousel have none of the names.

@@ -27,7 +27,7 @@ ghost use Rattle.mot_playout.specs.Attempts.{fault_of};
 
 use crate::folder::Folder;
 use crate::guard::{is_kept, kept_so};
-use crate::listing::{Unlisted, count_unknown, list, why_unlisted};
+use crate::listing::{Unlisted, list, why_unlisted};
 use crate::report::Report;
 use disk_model::Disk;
 use mot_events::{LookEvent, LookResult, LookStep, is_listed};
@@ -72,20 +72,23 @@ pub fn look_at_folder<S: System + Drop, D: Disk>(
 {
     folder.shelf.begin();
     folder.report.begin();
-    match list(
+    let going = match list(
         &mut folder.shelf,
         alloc,
         folder.types,
         &mut folder.report,
         server.carousel(),
     ) {
-        Ok(names) => folder.names = names,
+        Ok((names, going)) => {
+            folder.names = names;
+            going
+        }
         Err(why) => return end_unlisted(folder, why),
-    }
+    };
     if is_kept(folder.guard, &folder.names, server.carousel()) {
         return end_kept(folder, server.carousel());
     }
-    look_at_names(alloc, server, folder)
+    look_at_names(alloc, server, folder, going)
 }
 
 /// Ends a look at a folder that is not listed.
@@ -126,11 +129,13 @@ fn end_kept<S: System + Drop>(
     folder.report.end()
 }
 
-/// Makes the carousel equal to the files of these names, of a folder that was listed.
+/// Makes the carousel equal to the files of these names, of a folder that was listed. So many
+/// objects go.
 fn look_at_names<S: System + Drop, D: Disk>(
     alloc: Global,
     server: &mut Server<D>,
     folder: &mut Folder<'_, S>,
+    going: usize,
 ) -> Result<(), Refusal>
     requires updates { is_kept folder.old.guard folder.old.names.names.items
         (length (unknown_objects folder.old.names.names.items
@@ -155,7 +160,6 @@ fn look_at_names<S: System + Drop, D: Disk>(
     let path = folder.shelf.shown();
     let is_new = !folder.was_listed;
     note_if(&mut folder.report, path, is_new, LookResult::Listed);
-    let going = count_unknown(&folder.names, server.carousel());
     let all = server.carousel().objects.len();
     let note = LookResult::Going(going as u64, all as u64);
     note_if(&mut folder.report, path, going > all / 2, note);

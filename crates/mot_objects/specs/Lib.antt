@@ -1,5 +1,6 @@
 pub mod Carousel
 pub mod Ids
+pub mod Inner
 pub mod Laws
 pub mod Name
 pub mod Stands

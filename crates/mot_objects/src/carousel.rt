@@ -45,9 +45,6 @@ impl Carousel {
         ensures place { result ≡ index_of name.now self.now.objects.items }
         ensures within { IfSome result (λ place. place < vec_len self.now.objects) }
     {
-        let name = name.as_bytes();
-        self.objects
-            .iter()
-            .position(|object| object.name.as_bytes() == name)
+        self.objects.iter().position(|object| object.name == *name)
     }
 }

@@ -1,6 +1,7 @@
 //! The name of an object.
 ghost use Rattle.std.specs.Prelude.{◌≡◌, ◌↔◌, ℕ, List, IsOk, IfOk, IfErr, IsTrue};
 ghost use Rattle.mot_numbers.specs.declared.refusal.Refusal.TheVariants.{BadName};
+ghost use Rattle.mot_objects.specs.Inner.{sum_of};
 ghost use Rattle.mot_objects.specs.Name.{IsName, text_bytes};
 
 use crate::text::Text;
@@ -17,6 +18,9 @@ pub const MAX_NAME: usize = 255;
 #[derive(Drop)]
 pub struct Name {
     text: Text,
+    /// Names of different sums are different: so most are told apart without their bytes.
+    sum: u32,
+    ghost summed: { sum ≡ sum_of (text_bytes text) },
 }
 
 impl Model for Name {
@@ -37,8 +41,9 @@ impl Name {
         if !is_name(&bytes) {
             return Err(Refusal::BadName);
         }
+        let sum = sum_of(&bytes);
         let text = Text::Alone(bytes);
-        Ok(Name { text })
+        Ok(Name { text, sum })
     }
 
     /// The name's bytes.
@@ -56,8 +61,35 @@ impl Clone for Name {
     #[inline(always)]
     fn clone(&self) -> Result<Self, AllocError> {
         let text = self.text.clone()?;
-        Ok(Name { text })
+        let sum = self.sum;
+        Ok(Name { text, sum })
     }
+}
+
+impl PartialEq for Name {
+    ghost use Rattle.std.specs.Prelude.{bytes_eq};
+    ghost use Rattle.std.specs.Cmp.Rules.{comparing};
+    ghost use Rattle.std.proofs.Common.{rules};
+
+    ghost eq = { bytes_eq };
+
+    ghost laws = { Prim.search (comparing, rules) };
+
+    #[inline(always)]
+    fn eq(&self, other: &Name) -> bool {
+        self.sum == other.sum && self.as_bytes() == other.as_bytes()
+    }
+}
+
+/// A sum in which each byte counts by its place.
+fn sum_of(bytes: &[u8]) -> u32
+    ensures { result ≡ sum_of bytes.now }
+{
+    let mut sum: u32 = 0;
+    for byte in bytes {
+        sum = sum.wrapping_mul(31).wrapping_add(u32::from(*byte));
+    }
+    sum
 }
 
 /// Whether these bytes keep the rule of a name.

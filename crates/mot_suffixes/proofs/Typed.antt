@@ -1,5 +1,5 @@
 -- What files of a name are: the suffix of the name, and the last of the types that have it.
-use Rattle.std.proofs.Common.{◌≡◌, ◌∙◌, ◌++◌, ◌<◌, ◌+◌, ◌-◌, ℕ, suc, Bool, true, false, List, []}
+use Rattle.std.proofs.Common.{◌≡◌, ◌∙◌, ◌++◌, ◌<◌, ◌≤◌, ◌+◌, ◌-◌, ℕ, suc, Bool, true, false, List, []}
 use Rattle.std.proofs.Common.{◌∷◌}
 use Rattle.std.proofs.Common.{Option, Some, None, All, ap, arith, cond, drop, get_or, length}
 use Rattle.std.proofs.Common.{nat_eq, refl, sym, take, add-one, drop-cons, take-append-drop}
@@ -78,16 +78,18 @@ last_of_suffix-push suffix (first ∷ types) type = rw (last_of_suffix-push suff
     (one_of (str_eq_ignore_ascii_case type.suffix suffix) type (last_of_suffix suffix types)
     (if str_eq_ignore_ascii_case first.suffix suffix then Some first else None))
 
--- one type more was looked at
-pub last_of_suffix-more : (suffix : List ℕ) (types : List SuffixType) (at : ℕ) (type : SuffixType)
-    → at < length types → type ≡ get_or types at type
-    → last_of_suffix suffix (take (at + 1) types)
+-- the last type was looked at
+pub last_of_suffix-back : (suffix : List ℕ) (types : List SuffixType) (type : SuffixType)
+    → 1 ≤ length types → type ≡ get_or types (length types - 1) type
+    → last_of_suffix suffix types
     ≡ (if str_eq_ignore_ascii_case type.suffix suffix then Some type
-    else last_of_suffix suffix (take at types))
-last_of_suffix-more suffix types at type low is =
-    ap (last_of_suffix suffix) (take_more types at type low
-    ∙ ap (λ t. take at types ++ t ∷ []) (sym is))
-    ∙ last_of_suffix-push suffix (take at types) type
+    else last_of_suffix suffix (take (length types - 1) types))
+last_of_suffix-back suffix types type some is =
+    let before = take (length types - 1) types in
+    ap (last_of_suffix suffix) (sym (take_all (length types - 1 + 1) types (omega (arith, some)))
+    ∙ take_more types (length types - 1) type (omega (arith, some))
+    ∙ ap (λ t. before ++ t ∷ []) (sym is))
+    ∙ last_of_suffix-push suffix before type
 
 -- the test of the code is that of the definition
 pub same-suffix : (same : Bool) (a b : List ℕ)
@@ -99,14 +101,14 @@ same-suffix false a b is = sym (false_from_ne_true (str_eq_ignore_ascii_case a b
     let e : false ≡ true = is.1 ((bytes_eq-Decides (map to_ascii_lowercase a)
     (map to_ascii_lowercase b)).0 t) in cc))
 
--- it is the last so far
+-- it is the one
 pub last_of_suffix-is : (same : Bool) (type : SuffixType) (before : Option SuffixType)
     → {test : Bool} → test ≡ same → test ≡ true
     → (if same then Some type else before) ≡ Some type
 last_of_suffix-is true type before e t = refl
 last_of_suffix-is false type before e t = absurd (cc)
 
--- or the one before stays
+-- or not
 pub last_of_suffix-other : (same : Bool) (type : SuffixType) (before : Option SuffixType)
     → {test : Bool} → test ≡ same → test ≡ false
     → (if same then Some type else before) ≡ before

@@ -170,13 +170,14 @@ fn find_last<'a>(types: &'a [FileType], suffix: &[u8]) -> Option<&'a FileType>
     ensures found { IfSome result (λ it. last_of_suffix suffix.now types.now ≡ Some it.now) }
     ensures none { IfNone result (last_of_suffix suffix.now types.now ≡ None) }
 {
-    let mut found = None;
-    for file_type in types {
-        if file_type.suffix.eq_ignore_ascii_case(suffix) {
-            found = Some(file_type);
+    let mut rest = types;
+    while let [others @ .., last] = rest {
+        if last.suffix.eq_ignore_ascii_case(suffix) {
+            return Some(last);
         }
+        rest = others;
     }
-    found
+    None
 }
 
 /// Whether a line says nothing.

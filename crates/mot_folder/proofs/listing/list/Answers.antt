@@ -47,8 +47,8 @@ returns-in_err-read_names g c =
           c.read_names.new.names.names.items) stop.field-0.0.refusal all.2),
     )
 
-pub returns-then-count_unknown-eq0 : goal.returns-then-count_unknown-eq0
-returns-then-count_unknown-eq0 g c =
+pub returns-then-going-eq0 : goal.returns-then-going-eq0
+returns-then-going-eq0 g c =
     let path = reader_path c.args.shelf.now in
     let opened = and_listed nothing path in
     let all = c.in_ok-read_names.ensures opened in (
@@ -59,8 +59,9 @@ returns-then-count_unknown-eq0 g c =
         lists_all c.args.types.now path nothing c.args.report.now (reader_path c.open.new.self) opened
             _ _ refl c.in_ok-open.ensures.same refl c.new-names.ensures.counted
             c.new-names.ensures.none _ all.2,
+        c.count_unknown-going.ensures,
         λ some. absurd (some (nil_from_length _
-            (sym c.count_unknown.ensures ∙ c.if-count_unknown-eq0.true))),
+            (sym c.count_unknown-going.ensures ∙ c.if-going-eq0.true))),
       ),
     )
 
@@ -82,6 +83,7 @@ returns g c =
       (
         lists_kept types _ _ (reader_path c.keep_names.new.self) kept _ lists
             c.in_ok-keep_names.ensures.same refl,
+        c.count_unknown-going.ensures,
         λ some. (all.0.kept_names, ap (λ p. all.0.kept_names ++ p ∷ []) lists.later.same),
       ),
     )

@@ -239,7 +239,7 @@ returns-in_err-look-clause-looked g c = λ since first gives listed s holds hone
     c.in_err-look.ensures.same in
     let known = c.args.folder.now.files.known.items in
     let started_so = started known c.start.new.self _ old.view s holds.agrees
-    (ap (λ (k : memory.Carousel). k.objects.items) (sym c.carousel-3.ensures.value))
+    (ap (λ (k : memory.Carousel). k.objects.items) (sym c.carousel-2.ensures.value))
     c.start.ensures.known in (
       given,
       x.1,
@@ -303,7 +303,7 @@ returns-clause-looked g c = λ since first gives listed s holds honest.
     let known = c.args.folder.now.files.known.items in
     let last = looks.0.runs.run.leaves.last in
     let started_so = started known c.start.new.self _ old.view s holds.agrees
-    (ap (λ (k : memory.Carousel). k.objects.items) (sym c.carousel-3.ensures.value))
+    (ap (λ (k : memory.Carousel). k.objects.items) (sym c.carousel-2.ensures.value))
     c.start.ensures.known in
     let were : AllByRecursion (λ k. Among known k × (has_it s.carousel k ≡ true))
     source.files.known.items =
@@ -322,7 +322,7 @@ returns-clause-looked g c = λ since first gives listed s holds honest.
           (all_on (λ k at. at.0) source.files.known.items were)
           (has_now new.view last looks.0.runs.run.leaves.agrees) x.2.1) c.finish.new.self.known.items
           (subst (λ (k : memory.Carousel). AllByRecursion (IsKept source.files k.objects.items)
-          c.finish.new.self.known.items) c.carousel-4.ensures.value c.finish.ensures))
+          c.finish.new.self.known.items) c.carousel-3.ensures.value c.finish.ensures))
           c.end_listed.result c.end_listed.ensures.fault
           (λ ok. (on_ok c.end_listed.result _ c.end_listed.ensures.whole ok).1),
     )

@@ -1,10 +1,13 @@
-use Rattle.std.proofs.Common.{◌≡◌, IfNone, IfSome, None, Some, take}
+use Rattle.std.proofs.Common.{◌≡◌, ◌≤◌, length}
 use Rattle.mot_suffixes.proofs.types.find_last.Given as goal
 use Rattle.mot_suffixes.specs.Types.{last_of_suffix}
 
-abbrev pub invariant-loop-file_type : goal.invariant-loop-file_type
-invariant-loop-file_type l = record {
-  found : IfSome l.found (λ it. last_of_suffix l.suffix (take l.file_type-index l.types)
-      ≡ Some it.now);
-  none : IfNone l.found (last_of_suffix l.suffix (take l.file_type-index l.types) ≡ None);
+-- none was found behind the rest
+abbrev pub invariant-loop-rest : goal.invariant-loop-rest
+invariant-loop-rest l = record {
+  same : last_of_suffix l.suffix l.types ≡ last_of_suffix l.suffix l.rest;
+  shorter : length l.rest ≤ length l.types;
 }
+
+abbrev pub decreases-loop-rest : goal.decreases-loop-rest
+decreases-loop-rest l = length l.rest

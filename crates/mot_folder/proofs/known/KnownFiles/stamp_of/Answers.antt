@@ -12,9 +12,6 @@ returns-then-eq c =
           c.loop-known-test.true)
           (subst (λ l. c.known-item.result ≡ slice_index_or l c.loop-known.known-index
           c.known-item.result) c.deref-known-items.ensures.value c.known-item.is),
-      sym c.as_bytes.ensures.value
-          ∙ (bytes_eq-Decides c.as_bytes.result.now c.as_bytes-in-loop-known.result.now).0
-          (sym c.eq.ensures ∙ c.if-eq.true)
-          ∙ c.as_bytes-in-loop-known.ensures.value,
+      (bytes_eq-Decides c.known-item.result.name c.args.name.now).0 (sym c.eq.ensures ∙ c.if-eq.true),
       refl,
     )

@@ -5,10 +5,6 @@ use Rattle.mot_objects.proofs.name.Name.new.Goals as goal
 not_both : false ≡ true → ⊥
 not_both e = cc
 
-pub invariant_of-result : goal.invariant_of-result
-invariant_of-result c =
-    subst (λ b. IsName b) c.deref.ensures.value (c.if-not-is_name.ensures.0 refl)
-
 pub returns-then-not-is_name-clause-valid : goal.returns-then-not-is_name-clause-valid
 returns-then-not-is_name-clause-valid c = (
   λ e. absurd (not_both e),
