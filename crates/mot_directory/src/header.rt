@@ -140,7 +140,7 @@ fn append_name(out: &mut Vec<u8>, name: &Name)
     let name = name.as_bytes();
     append_length(out, CONTENT_NAME, 1 + name.len());
     append(out, &[UTF_8]);
-    append(out, name);
+    append_text(out, name);
 }
 
 /// Adds MimeType, if there is one.
@@ -155,11 +155,13 @@ fn append_mime(out: &mut Vec<u8>, mime: &Option<Mime>)
     if let Some(mime) = mime {
         let mime = mime.as_bytes();
         append_length(out, MIME_TYPE, mime.len());
-        append(out, mime);
+        append_text(out, mime);
     }
 }
 
-/// Adds the beginning of a parameter, before so many bytes of data.
+/// Adds the beginning of a parameter, before so many bytes of data. As a call it would keep the
+/// vector that all of the directory is added to in memory.
+#[inline(always)]
 fn append_length(out: &mut Vec<u8>, id: u8, len: usize)
     requires id { id < 2 ^ 6 }
     requires len { len < 2 ^ 15 }
@@ -174,6 +176,57 @@ fn append_length(out: &mut Vec<u8>, id: u8, len: usize)
         append(out, &[len as u8]);
     } else {
         append_number(out, EXTENSION | len as u16);
+    }
+}
+
+/// Adds a text, for which there is room, eight bytes at a time.
+#[inline(always)]
+fn append_text(out: &mut Vec<u8>, text: &[u8])
+    requires { vec_len out.old + length text.now ≤ vec_capacity out.old }
+    ensures items { out.new.items ≡ out.old.items ++ text.now }
+    ensures len { vec_len out.new ≡ vec_len out.old + length text.now }
+    ensures capacity { vec_capacity out.new ≡ vec_capacity out.old }
+{
+    let mut rest = text;
+    while let [a, b, c, d, e, f, g, h, others @ ..] = rest {
+        append(out, &[*a, *b, *c, *d, *e, *f, *g, *h]);
+        rest = others;
+    }
+    append_below_eight(out, rest);
+}
+
+/// Adds fewer than eight bytes.
+#[inline(always)]
+fn append_below_eight(out: &mut Vec<u8>, text: &[u8])
+    requires few { length text.now < 8 }
+    requires room { vec_len out.old + length text.now ≤ vec_capacity out.old }
+    ensures items { out.new.items ≡ out.old.items ++ text.now }
+    ensures len { vec_len out.new ≡ vec_len out.old + length text.now }
+    ensures capacity { vec_capacity out.new ≡ vec_capacity out.old }
+{
+    match text {
+        [a, b, c, d, others @ ..] => {
+            append(out, &[*a, *b, *c, *d]);
+            append_below_four(out, others);
+        }
+        _ => append_below_four(out, text),
+    }
+}
+
+/// Adds fewer than four bytes.
+#[inline(always)]
+fn append_below_four(out: &mut Vec<u8>, text: &[u8])
+    requires few { length text.now < 4 }
+    requires room { vec_len out.old + length text.now ≤ vec_capacity out.old }
+    ensures items { out.new.items ≡ out.old.items ++ text.now }
+    ensures len { vec_len out.new ≡ vec_len out.old + length text.now }
+    ensures capacity { vec_capacity out.new ≡ vec_capacity out.old }
+{
+    match text {
+        [a, b, c] => append(out, &[*a, *b, *c]),
+        [a, b] => append(out, &[*a, *b]),
+        [a] => append(out, &[*a]),
+        _ => {}
     }
 }
 

@@ -34,12 +34,14 @@ impl From<AllocError> for SlotFault {
     }
 }
 
-/// The record of an open slot, or its first field with a fault.
+/// The record of an open slot, or its first field with a fault. If its MIME type is the `last` one,
+/// it shares its bytes, and takes no memory for them.
 pub(crate) fn read_record(
     alloc: Global,
     geometry: &Geometry,
     layout: Layout,
     slot: &[u8],
+    last: Option<&Mime>,
 ) -> Result<Record, SlotFault>
     requires { length slot.now ≡ slot_size layout }
     ensures read { IfOk result (λ entry. read_slot geometry.now layout slot.now ≡ Some entry) }
@@ -53,7 +55,7 @@ pub(crate) fn read_record(
         return Err(SlotFault::Field(FieldFault::Last));
     };
     let period = Period::new(number(slot, 2, 3)).unwrap();
-    let action = read_action(alloc, geometry, layout, slot)?;
+    let action = read_action(alloc, geometry, layout, slot, last)?;
     Ok(Record {
         period,
         directory,
@@ -79,6 +81,7 @@ fn read_action(
     geometry: &Geometry,
     layout: Layout,
     slot: &[u8],
+    last: Option<&Mime>,
 ) -> Result<Action, SlotFault>
     requires { length slot.now ≡ slot_size layout }
     ensures read { IfOk result
@@ -89,7 +92,7 @@ fn read_action(
     let kind = number(slot, 1, 1) as u8;
     match kind.saturating_sub(layout.kind_base()) {
         1 => Ok(Action::Nothing),
-        2 => read_set(alloc, geometry, layout, slot),
+        2 => read_set(alloc, geometry, layout, slot, last),
         3 => match TransportId::new(number(slot, 9, 2) as u16) {
             Some(tid) => Ok(Action::Remove { tid }),
             None => Err(SlotFault::Field(FieldFault::Object)),
@@ -104,6 +107,7 @@ fn read_set(
     geometry: &Geometry,
     layout: Layout,
     slot: &[u8],
+    last: Option<&Mime>,
 ) -> Result<Action, SlotFault>
     requires long { length slot.now ≡ slot_size layout }
     requires sets { IsOfKind layout 2 slot.now }
@@ -134,7 +138,7 @@ fn read_set(
     if end > u64::from(area) {
         return Err(SlotFault::Field(FieldFault::Extent { end, area }));
     }
-    let (name, mime) = read_texts(alloc, geometry, layout, slot)?;
+    let (name, mime) = read_texts(alloc, geometry, layout, slot, last)?;
     Ok(Action::Set {
         tid,
         version,
@@ -152,6 +156,7 @@ fn read_texts(
     geometry: &Geometry,
     layout: Layout,
     slot: &[u8],
+    last: Option<&Mime>,
 ) -> Result<(Name, Option<Mime>), SlotFault>
     requires long { length slot.now ≡ slot_size layout }
     requires sets { IsOfKind layout 2 slot.now }
@@ -169,7 +174,7 @@ fn read_texts(
         return Err(SlotFault::Field(FieldFault::Name { length }));
     };
     let rest = &slot[end..];
-    let Some(mime) = read_mime(alloc, rest)? else {
+    let Some(mime) = read_mime(alloc, rest, last)? else {
         let length = number(rest, 0, 1) as u8;
         return Err(SlotFault::Field(FieldFault::Mime { length }));
     };
@@ -191,7 +196,11 @@ fn read_name(alloc: Global, layout: Layout, bytes: &[u8]) -> Result<Option<Name>
 
 /// The MIME type whose length is the first byte, or that there is none; `None` if it breaks its
 /// rule.
-fn read_mime(alloc: Global, bytes: &[u8]) -> Result<Option<Option<Mime>>, AllocError>
+fn read_mime(
+    alloc: Global,
+    bytes: &[u8],
+    last: Option<&Mime>,
+) -> Result<Option<Option<Mime>>, AllocError>
     requires { 1 + MAX_MIME < length bytes.now }
     ensures { IfOk result (λ mime. mime ≡ mime_from bytes.now) }
 {
@@ -202,7 +211,13 @@ fn read_mime(alloc: Global, bytes: &[u8]) -> Result<Option<Option<Mime>>, AllocE
     if size > MAX_MIME {
         return Ok(None);
     }
-    match Mime::new(bytes[1..1 + size].to_vec(alloc)?) {
+    let text = &bytes[1..1 + size];
+    if let Some(last) = last
+        && last.as_bytes() == text
+    {
+        return Ok(Some(Some(last.clone()?)));
+    }
+    match Mime::new(text.to_vec(alloc)?) {
         Ok(mime) => Ok(Some(Some(mime))),
         Err(_) => Ok(None),
     }

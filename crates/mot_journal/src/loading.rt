@@ -12,8 +12,9 @@ ghost use Rattle.mot_numbers.specs.declared.geometry.TheConstants.{MAX_OBJECTS};
 use crate::decoding::{SlotFault, number, read_record};
 use crate::encoding::OPEN;
 use crate::formatting::MAGIC;
-use crate::{Fault, Geometry, HeadFault, Layout, Reason, Record, Size};
+use crate::{Action, Fault, Geometry, HeadFault, Layout, Reason, Record, Size};
 use mot_numbers::{MAX_ADDRESS, MAX_OBJECTS, MAX_SEGMENT, MIN_SEGMENT, Refusal};
+use mot_objects::Mime;
 use std::alloc::Global;
 
 /// The geometry that the first 64 bytes of a disk of this length give, or why they give none.
@@ -97,6 +98,14 @@ fn slot_at<'a>(geometry: &Geometry, layout: Layout, half: &'a [u8], place: usize
     }
 }
 
+/// The MIME type of the last record, if it has one.
+fn last_mime(records: &[Record]) -> Option<&Mime> {
+    match &records.last()?.action {
+        Action::Set { mime, .. } => mime.as_ref(),
+        _ => None,
+    }
+}
+
 /// The records of a half up to its first closed gate, or its first slot that breaks the format.
 pub(crate) fn records_of_half(
     alloc: Global,
@@ -123,7 +132,7 @@ pub(crate) fn records_of_half(
         if slot[0] != OPEN {
             return Ok(records);
         }
-        match read_record(alloc, geometry, layout, slot) {
+        match read_record(alloc, geometry, layout, slot, last_mime(&records)) {
             Ok(entry) => records.push_reserved(entry),
             Err(SlotFault::Field(fault)) => {
                 let slot = place as u16;
