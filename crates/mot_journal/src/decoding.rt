@@ -1,5 +1,5 @@
 //! The record of a slot, as it is read.
-ghost use Rattle.std.specs.Prelude.{◌≡◌, ◌+◌, ◌-◌, ◌^◌, ◌<◌, ◌≤◌, length, drop, Some, IfErr, IfOk};
+ghost use Rattle.std.specs.Prelude.{◌≡◌, ◌+◌, ◌-◌, ◌^◌, ◌<◌, ◌≤◌, length, drop, Some, IfErr, IfOk, IsTrue};
 ghost use Rattle.mot_journal.specs.Faults.{IsOfKind};
 ghost use Rattle.mot_journal.specs.Geometry.{number_at};
 ghost use Rattle.mot_journal.specs.Slot.{slot_size, read_slot, longest_name};
@@ -194,6 +194,22 @@ fn read_name(alloc: Global, layout: Layout, bytes: &[u8]) -> Result<Option<Name>
     }
 }
 
+/// Whether both are the same bytes. (They are few: the library's comparison takes three times the
+/// instructions.)
+fn are_same(one: &[u8], other: &[u8]) -> bool
+    ensures { IsTrue result → one.now ≡ other.now }
+{
+    if one.len() != other.len() {
+        return false;
+    }
+    for at in 0..one.len() {
+        if one[at] != other[at] {
+            return false;
+        }
+    }
+    true
+}
+
 /// The MIME type whose length is the first byte, or that there is none; `None` if it breaks its
 /// rule.
 fn read_mime(
@@ -213,7 +229,7 @@ fn read_mime(
     }
     let text = &bytes[1..1 + size];
     if let Some(last) = last
-        && last.as_bytes() == text
+        && are_same(last.as_bytes(), text)
     {
         return Ok(Some(Some(last.clone()?)));
     }

@@ -2,8 +2,6 @@ use Rattle.std.proofs.Common.{◌≡◌, ℕ, ◌+◌, ◌-◌, List, sym, ◌�
 use Rattle.std.specs.Prelude.{slice_index}
 use Rattle.mot_journal.proofs.Decoded.{mime_none, mime_ok, mime_bad, mime_long, kept-text, wrong-ok}
 use Rattle.mot_journal.proofs.decoding.read_mime.Goals as goal
-use Rattle.std.proofs.lemmas.Bool.Decides.{Decides-eqb}
-use Rattle.std.proofs.lemmas.Slice.Eq.{slice_eq-Decides}
 use Rattle.mot_objects.specs.Name.{IsMime}
 
 pub returns-then-size-eq0 : goal.returns-then-size-eq0
@@ -19,8 +17,7 @@ returns c =
     let bytes : List ℕ = drop 1 c.args.bytes.now in
     let size : ℕ = slice_index c.args.bytes.now 0 in
     let found : c.as_bytes.result.now ≡ take (1 + size - 1) bytes =
-    (slice_eq-Decides Decides-eqb c.as_bytes.result.now (take (1 + size - 1) bytes) _
-    c.eq.ensures).0 c.if-eq.true in
+    c.are_same.ensures c.if-are_same.true in
     let width : 1 + size - 1 ≡ size = omega arith in
     let text : c.in-Some.last.now ≡ take size bytes =
     sym value ∙ found ∙ ap (λ n. take n bytes) width in
