@@ -1,6 +1,5 @@
 pub mod Carousel
 pub mod Ids
-pub mod Inner
 pub mod Laws
 pub mod Name
 pub mod Stands

@@ -1,7 +1,8 @@
--- The names of objects (own rule: what stands between the spaces of a line).
-use Rattle.std.specs.Prelude.{ℕ, ◌<◌, ◌≤◌, ◌&&◌, ◌==◌, not, nat_lt, List, length, IsUtf8, Bool, ◌≢◌}
+-- What an object is, without its body: its name (own rule: what stands between the spaces of a line),
+-- its content and its MIME type, and the texts that keep names and MIME types.
+use Rattle.std.specs.Prelude.{ℕ, ◌+◌, ◌*◌, ◌%◌, ◌^◌, ◌<◌, ◌≤◌, ◌&&◌, ◌==◌, not, nat_lt, List, length, IsUtf8, Bool, ◌≢◌}
 use Rattle.std.specs.Prelude.{[], ◌∷◌, bytes_eq, codes}
-use Rattle.std.specs.List.{AllPass, list_all}
+use Rattle.std.specs.List.{AllPass, fold, list_all}
 use Rattle.mot_objects.specs.declared.name.TheConstants.{MAX_NAME}
 use Rattle.std.specs.Str.{is_utf8}
 use Rattle.mot_numbers.specs.Geometry.{is_within}
@@ -21,6 +22,13 @@ abbrev pub is_name : ℕ → List ℕ → Bool
 is_name longest bytes =
     is_within 1 longest (length bytes) && is_utf8 bytes && list_all
     (λ b. nat_lt 32 b && not (b == 127)) bytes
+
+-- a sum of a name's bytes, in which each counts by its place
+abbrev pub and_byte : (sum byte : ℕ) → ℕ
+and_byte sum byte = (sum * 31 % 2 ^ 32 + byte) % 2 ^ 32
+
+abbrev pub sum_of : List ℕ → ℕ
+sum_of name = fold and_byte 0 name
 
 -- What an object is (EN 301 234, TS 101 756).
 

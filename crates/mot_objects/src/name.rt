@@ -1,8 +1,7 @@
 //! The name of an object.
 ghost use Rattle.std.specs.Prelude.{◌≡◌, ◌↔◌, ℕ, List, IsOk, IfOk, IfErr, IsTrue};
 ghost use Rattle.mot_numbers.specs.declared.refusal.Refusal.TheVariants.{BadName};
-ghost use Rattle.mot_objects.specs.Inner.{sum_of};
-ghost use Rattle.mot_objects.specs.Name.{IsName, text_bytes};
+ghost use Rattle.mot_objects.specs.Name.{IsName, sum_of, text_bytes};
 
 use crate::text::Text;
 use mot_numbers::Refusal;
@@ -18,7 +17,6 @@ pub const MAX_NAME: usize = 255;
 #[derive(Drop)]
 pub struct Name {
     text: Text,
-    /// Names of different sums are different: so most are told apart without their bytes.
     sum: u32,
     ghost summed: { sum ≡ sum_of (text_bytes text) },
 }
@@ -52,6 +50,14 @@ impl Name {
         ensures rule { IsName self.now }
     {
         self.text.as_bytes()
+    }
+
+    /// A sum of its bytes, of 32 bits, which was reckoned when it was made: names of different sums are
+    /// different.
+    pub fn sum(&self) -> u32
+        ensures { result ≡ sum_of self.now }
+    {
+        self.sum
     }
 }
 

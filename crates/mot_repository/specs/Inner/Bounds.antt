@@ -1,12 +1,12 @@
 -- What is known of all objects of a fold at once.
 use Rattle.std.specs.Prelude.{◌≡◌, ◌≤◌, ◌+◌, ◌%◌, ℕ, Bool, true, false, List, All, slice_index_or}
-use Rattle.mot_base.specs.Checksum.{crc_of}
+use Rattle.mot_objects.specs.Name.{sum_of}
 use Rattle.mot_objects.specs.declared.object.Object.{Object}
 use Rattle.mot_repository.specs.declared.opening.bounds.Bounds.{Bounds}
 
 -- the place of a name's flag
 abbrev pub flag_of : List ℕ → ℕ
-flag_of name = crc_of name % 4096
+flag_of name = sum_of name % 4096
 
 -- whether a name's flag is on
 abbrev pub is_flagged : List Bool → List ℕ → Bool

@@ -3,7 +3,6 @@ ghost use Rattle.std.specs.Prelude.{◌≡◌, ◌+◌, ◌≤◌, ◌<◌, ℕ,
 ghost use Rattle.mot_repository.specs.Inner.Bounds.{IsFlagged, flag_of, is_flagged};
 ghost use Rattle.mot_repository.specs.declared.opening.bounds.TheConstants.{NAME_FLAGS};
 
-use mot_base::crc16;
 use mot_objects::{Name, Object};
 
 /// So many flags that the names of a whole carousel mostly have one each.
@@ -60,5 +59,5 @@ fn flag_of_name(name: &Name) -> usize
     ensures flag { result ≡ flag_of name.now }
     ensures within { result < NAME_FLAGS }
 {
-    usize::from(crc16(name.as_bytes())) % NAME_FLAGS
+    name.sum() as usize % NAME_FLAGS
 }

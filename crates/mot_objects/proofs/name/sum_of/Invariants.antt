@@ -1,5 +1,5 @@
 use Rattle.std.proofs.Common.{◌≡◌, take}
-use Rattle.mot_objects.specs.Inner.{sum_of}
+use Rattle.mot_objects.specs.Name.{sum_of}
 use Rattle.mot_objects.proofs.name.sum_of.Given as goal
 
 abbrev pub invariant-loop-byte : goal.invariant-loop-byte
