@@ -17,14 +17,14 @@ use Rattle.mot_base.proofs.Linear.{add_nothing}
 -- ---- bytes
 
 -- the bits of bytes and of others after them
-bits-append : (xs ys : List ℕ) → bits_of_bytes (xs ++ ys) ≡ bits_of_bytes xs ++ bits_of_bytes ys
+pub bits-append : (xs ys : List ℕ) → bits_of_bytes (xs ++ ys) ≡ bits_of_bytes xs ++ bits_of_bytes ys
 unfolding bits_of_bytes
 bits-append [] ys = refl
 bits-append (x ∷ xs) ys =
     ap (λ l. bits_of 8 x ++ l) (bits-append xs ys)
     ∙ sym (append_assoc (bits_of 8 x) (bits_of_bytes xs) (bits_of_bytes ys))
 
-length-bits : (xs : List ℕ) → length (bits_of_bytes xs) ≡ 8 * length xs
+pub length-bits : (xs : List ℕ) → length (bits_of_bytes xs) ≡ 8 * length xs
 unfolding bits_of_bytes
 length-bits [] = refl
 length-bits (x ∷ xs) =
@@ -129,7 +129,7 @@ byte_xor (suc i) a b =
     ∙ ap (λ l. added_to_front l (bits_of 8 (b / p))) (sym (low_bits 8 (a / p)))
     ∙ ap (added_to_front (bits_of 8 (a / p % 256))) (sym (low_bits 8 (b / p)))
 
-bytes_xor : (k i a b : ℕ) → bits_of_bytes (bytes_low_first i k (bit_xor a b))
+pub bytes_xor : (k i a b : ℕ) → bits_of_bytes (bytes_low_first i k (bit_xor a b))
     ≡ added_to_front (bits_of_bytes (bytes_low_first i k a)) (bits_of_bytes (bytes_low_first i k b))
 unfolding bits_of_bytes added_to_front
 bytes_xor zero i a b = refl
@@ -266,34 +266,34 @@ no_register : (bits : List Bool) → added_to_front (bits_of 16 0) bits ≡ bits
 unfolding bits_of
 no_register bits = add_zeros 16 bits
 
--- four words divided away, one after the other
-pub four_words_out : (a b c d p q r s n : ℕ) (rest : List Bool) →
+-- four words: two go into the later ones, and these are divided away one after the other
+pub four_words_out : (a b c d x y z v r s n : ℕ) (rest : List Bool) →
     ((m : ℕ) (tail : List Bool)
-    → remainder (64 + m) (added_to_front (bits_of 16 0) (bits_of_word a ++ tail))
-    ≡ remainder m (added_to_front (bits_of 16 p) tail)) →
+    → remainder (176 + m) (bits_of_word a ++ (bits_of_word b ++ (bits_of_word c ++ tail)))
+    ≡ remainder (112 + m) (bits_of_word x ++ (bits_of_word y ++ tail))) →
     ((m : ℕ) (tail : List Bool)
-    → remainder (64 + m) (added_to_front (bits_of 16 p) (bits_of_word b ++ tail))
-    ≡ remainder m (added_to_front (bits_of 16 q) tail)) →
+    → remainder (176 + m) (bits_of_word x ++ (bits_of_word y ++ (bits_of_word d ++ tail)))
+    ≡ remainder (112 + m) (bits_of_word z ++ (bits_of_word v ++ tail))) →
     ((m : ℕ) (tail : List Bool)
-    → remainder (64 + m) (added_to_front (bits_of 16 q) (bits_of_word c ++ tail))
+    → remainder (64 + m) (added_to_front (bits_of 16 0) (bits_of_word z ++ tail))
     ≡ remainder m (added_to_front (bits_of 16 r) tail)) →
     ((m : ℕ) (tail : List Bool)
-    → remainder (64 + m) (added_to_front (bits_of 16 r) (bits_of_word d ++ tail))
+    → remainder (64 + m) (added_to_front (bits_of 16 r) (bits_of_word v ++ tail))
     ≡ remainder m (added_to_front (bits_of 16 s) tail)) →
-    remainder (256 + n) (bits_of_word a ++ (bits_of_word b ++ (bits_of_word c ++ (bits_of_word d ++ rest))))
+    remainder (256 + n)
+    (bits_of_word a ++ (bits_of_word b ++ (bits_of_word c ++ (bits_of_word d ++ rest))))
     ≡ remainder n (added_to_front (bits_of 16 s) rest)
-four_words_out a b c d p q r s n rest first second third fourth =
-    let fourth_on : List Bool = bits_of_word d ++ rest in
-    let third_on : List Bool = bits_of_word c ++ fourth_on in
-    let second_on : List Bool = bits_of_word b ++ third_on in
-    ap (remainder (256 + n)) (sym (no_register (bits_of_word a ++ second_on)))
-    ∙ ap (λ j. remainder j (added_to_front (bits_of 16 0) (bits_of_word a ++ second_on)))
-    (let e : 256 + n ≡ 64 + (192 + n) = omega arith in e)
-    ∙ first (192 + n) second_on
-    ∙ ap (λ j. remainder j (added_to_front (bits_of 16 p) second_on))
-    (let e : 192 + n ≡ 64 + (128 + n) = omega arith in e)
-    ∙ second (128 + n) third_on
-    ∙ ap (λ j. remainder j (added_to_front (bits_of 16 q) third_on))
-    (let e : 128 + n ≡ 64 + (64 + n) = omega arith in e)
-    ∙ third (64 + n) fourth_on
+four_words_out a b c d x y z v r s n rest first second third fourth =
+    let last : List Bool = bits_of_word d ++ rest in
+    let both : List Bool = bits_of_word z ++ (bits_of_word v ++ rest) in
+    ap (λ j. remainder j (bits_of_word a ++ (bits_of_word b ++ (bits_of_word c ++ last))))
+    (let e : 256 + n ≡ 176 + (80 + n) = omega arith in e)
+    ∙ first (80 + n) last
+    ∙ ap (λ j. remainder j (bits_of_word x ++ (bits_of_word y ++ last)))
+    (let e : 112 + (80 + n) ≡ 176 + (16 + n) = omega arith in e)
+    ∙ second (16 + n) rest
+    ∙ ap (remainder (112 + (16 + n))) (sym (no_register both))
+    ∙ ap (λ j. remainder j (added_to_front (bits_of 16 0) both))
+    (let e : 112 + (16 + n) ≡ 64 + (64 + n) = omega arith in e)
+    ∙ third (64 + n) (bits_of_word v ++ rest)
     ∙ fourth n rest

@@ -1,5 +1,5 @@
 //! The last data group of each type, and beginning the next one.
-ghost use Rattle.std.specs.Prelude.{◌≡◌, ◌<◌, ◌≤◌, length, vec_len, vec_capacity};
+ghost use Rattle.std.specs.Prelude.{◌≡◌, ◌<◌, ◌≤◌, length, vec_len, vec_capacity, bytes_eq};
 
 use mot_groups::{content_front, write_group};
 use mot_numbers::{GroupKind, TransportId};
@@ -45,7 +45,7 @@ impl LastGroup {
     {
         if self.segment.is_empty() {
             0
-        } else if self.front == *front && self.segment.as_slice() == segment {
+        } else if is_same_front(&self.front, front) && self.segment.as_slice() == segment {
             self.index
         } else {
             (self.index + 1) % 16
@@ -100,4 +100,13 @@ impl LastGroup {
         write_group(group, kind, index, tid, number, is_last, segment);
         self.keep(index, &front, segment);
     }
+}
+
+/// Whether two fronts are the same. Those of two segments of an entity mostly differ in the low byte
+/// of their numbers: so it is looked at first.
+fn is_same_front(one: &[u8; 7], other: &[u8; 7]) -> bool
+    requires { (length one.now ≡ 7) × (length other.now ≡ 7) }
+    ensures { result ≡ bytes_eq one.now other.now }
+{
+    one[1] == other[1] && one == other
 }
