@@ -101,6 +101,8 @@ pub fn carousel_text(carousel: &Carousel) -> TextLine
 }
 
 /// An object's line.
+// As a call it would be copied, with all of its room.
+#[inline(always)]
 pub fn object_text(object: &Object) -> TextLine
     ensures { result.items ≡ object_line_beside object.now }
 {
