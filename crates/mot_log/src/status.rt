@@ -173,7 +173,7 @@ fn add_family<'a>(text: &mut Vec<u8>, family: &'a str) -> Result<&'a [u8], Alloc
     add(text, family)?;
     add(text, "\n# TYPE ")?;
     text.extend_from_slice(name)?;
-    let is_counter = name.ends_with(b"_total");
+    let is_counter = matches!(name, [.., b'_', b't', b'o', b't', b'a', b'l']);
     add(text, if is_counter { " counter\n" } else { " gauge\n" })?;
     Ok(name)
 }
