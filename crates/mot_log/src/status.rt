@@ -1,6 +1,4 @@
 //! The text of the status, in the exposition format of Prometheus.
-ghost use Rattle.std.specs.Prelude.{◌≤◌, length};
-
 use crate::Counters;
 use crate::text::{add, add_name, add_number, add_reason, add_refusal};
 use mot_events::{LookEvent, LookResult, LookStep, is_listed};
@@ -39,57 +37,122 @@ pub struct Figures<'a> {
     pub written: u64,
 }
 
-// The table of families: the name of each, and what it is. A name with `_total` at its end is that of
-// a counter.
+// The table of families: what each is, its type, and its name, which begins a sample of it.
 
-const PACKETS: &str = "motcar_packets_total Packets that were taken.";
+const PACKETS: &str = "\
+# HELP motcar_packets_total Packets that were taken.
+# TYPE motcar_packets_total counter
+motcar_packets_total";
 
-const TURNS: &str = "motcar_turns_total Turns that have ended.";
+const TURNS: &str = "\
+# HELP motcar_turns_total Turns that have ended.
+# TYPE motcar_turns_total counter
+motcar_turns_total";
 
-const LOOKS: &str = "motcar_looks_total Looks at the folder.";
+const LOOKS: &str = "\
+# HELP motcar_looks_total Looks at the folder.
+# TYPE motcar_looks_total counter
+motcar_looks_total";
 
-const CHANGES: &str = "motcar_changes_total Commands that were done.";
+const CHANGES: &str = "\
+# HELP motcar_changes_total Commands that were done.
+# TYPE motcar_changes_total counter
+motcar_changes_total";
 
-const REFUSALS: &str = "motcar_refusals_total Refusals that were logged.";
+const REFUSALS: &str = "\
+# HELP motcar_refusals_total Refusals that were logged.
+# TYPE motcar_refusals_total counter
+motcar_refusals_total";
 
-const LINE_REFUSALS: &str =
-    "motcar_line_refusals_total Refusals of lines of files, and of these files.";
+const LINE_REFUSALS: &str = "\
+# HELP motcar_line_refusals_total Refusals of lines of files, and of these files.
+# TYPE motcar_line_refusals_total counter
+motcar_line_refusals_total";
 
-const GOINGS: &str = "motcar_mass_withdrawals_total How often more than half of the objects went.";
+const GOINGS: &str = "\
+# HELP motcar_mass_withdrawals_total How often more than half of the objects went.
+# TYPE motcar_mass_withdrawals_total counter
+motcar_mass_withdrawals_total";
 
-const OBJECTS: &str = "motcar_objects Objects of the carousel.";
+const OBJECTS: &str = "\
+# HELP motcar_objects Objects of the carousel.
+# TYPE motcar_objects gauge
+motcar_objects";
 
-const DIRECTORY: &str = "motcar_directory_id Transport id of the directory.";
+const DIRECTORY: &str = "\
+# HELP motcar_directory_id Transport id of the directory.
+# TYPE motcar_directory_id gauge
+motcar_directory_id";
 
-const CHECKSUM: &str = "motcar_directory_checksum Checksum of the bytes of the directory.";
+const CHECKSUM: &str = "\
+# HELP motcar_directory_checksum Checksum of the bytes of the directory.
+# TYPE motcar_directory_checksum gauge
+motcar_directory_checksum";
 
-const TURN_PACKETS: &str = "motcar_turn_packets Packets of a turn.";
+const TURN_PACKETS: &str = "\
+# HELP motcar_turn_packets Packets of a turn.
+# TYPE motcar_turn_packets gauge
+motcar_turn_packets";
 
-const TURN_BYTES: &str = "motcar_turn_bytes Bytes of the packets of a turn.";
+const TURN_BYTES: &str = "\
+# HELP motcar_turn_bytes Bytes of the packets of a turn.
+# TYPE motcar_turn_bytes gauge
+motcar_turn_bytes";
 
-const FREE: &str = "motcar_free_bytes Bytes that are free for bodies.";
+const FREE: &str = "\
+# HELP motcar_free_bytes Bytes that are free for bodies.
+# TYPE motcar_free_bytes gauge
+motcar_free_bytes";
 
-const GAP: &str = "motcar_gap_bytes The longest body that has room.";
+const GAP: &str = "\
+# HELP motcar_gap_bytes The longest body that has room.
+# TYPE motcar_gap_bytes gauge
+motcar_gap_bytes";
 
-const OBJECTS_LIMIT: &str = "motcar_objects_limit Objects that the disk holds.";
+const OBJECTS_LIMIT: &str = "\
+# HELP motcar_objects_limit Objects that the disk holds.
+# TYPE motcar_objects_limit gauge
+motcar_objects_limit";
 
-const DATA: &str = "motcar_data_bytes Bytes that the disk has for bodies.";
+const DATA: &str = "\
+# HELP motcar_data_bytes Bytes that the disk has for bodies.
+# TYPE motcar_data_bytes gauge
+motcar_data_bytes";
 
-const LAST_CHANGE: &str =
-    "motcar_last_change_seconds Seconds from 1970 to the last change; 0 if there was none.";
+const LAST_CHANGE: &str = "\
+# HELP motcar_last_change_seconds Seconds from 1970 to the last change; 0 if there was none.
+# TYPE motcar_last_change_seconds gauge
+motcar_last_change_seconds";
 
-const WRITTEN: &str =
-    "motcar_status_seconds Seconds from 1970 to when this was written; 0 if that is not known.";
+const WRITTEN: &str = "\
+# HELP motcar_status_seconds Seconds from 1970 to when this was written; 0 if that is not known.
+# TYPE motcar_status_seconds gauge
+motcar_status_seconds";
 
-const LISTED: &str = "motcar_folder_listed Whether the folder was listed.";
+const LISTED: &str = "\
+# HELP motcar_folder_listed Whether the folder was listed.
+# TYPE motcar_folder_listed gauge
+motcar_folder_listed";
 
-const VERSION: &str = "motcar_info The version of the program.";
+const VERSION: &str = "\
+# HELP motcar_info The version of the program.
+# TYPE motcar_info gauge
+motcar_info";
 
-const REFUSED: &str = "motcar_refused_total Refusals that were logged, by their reasons.";
+const REFUSED: &str = "\
+# HELP motcar_refused_total Refusals that were logged, by their reasons.
+# TYPE motcar_refused_total counter
+";
 
-const FILES_REFUSED: &str = "motcar_file_refused A file that the last look refused, and why.";
+const FILES_REFUSED: &str = "\
+# HELP motcar_file_refused A file that the last look refused, and why.
+# TYPE motcar_file_refused gauge
+";
 
-const ON_AIR: &str = "motcar_object An object on air, and how many bytes it has.";
+const ON_AIR: &str = "\
+# HELP motcar_object An object on air, and how many bytes it has.
+# TYPE motcar_object gauge
+";
 
 /// The refusals that a log can have.
 const COUNTED: [Refusal; 17] = [
@@ -127,8 +190,7 @@ pub fn write_status(
     let disk = disk.as_slice();
     text.clear();
     for (family, value) in values_of(figures, counters, events) {
-        let name = add_family(text, family)?;
-        begin_sample(text, name, disk)?;
+        begin_sample(text, family, disk)?;
         end_sample(text, value)?;
     }
     add_version(text, disk, figures.version)?;
@@ -166,32 +228,10 @@ fn values_of(
     ]
 }
 
-/// Adds what a family is, and its type; the name of its samples.
-fn add_family<'a>(text: &mut Vec<u8>, family: &'a str) -> Result<&'a [u8], AllocError> {
-    let (name, _) = family.as_bytes().split_at(name_length(family));
-    add(text, "# HELP ")?;
-    add(text, family)?;
-    add(text, "\n# TYPE ")?;
-    text.extend_from_slice(name)?;
-    let is_counter = matches!(name, [.., b'_', b't', b'o', b't', b'a', b'l']);
-    add(text, if is_counter { " counter\n" } else { " gauge\n" })?;
-    Ok(name)
-}
-
-/// How many bytes the name of a family of the table has.
-fn name_length(family: &str) -> usize
-    ensures { result ≤ length family.now }
-{
-    let bytes = family.as_bytes();
-    bytes
-        .iter()
-        .position(|byte| *byte == b' ')
-        .unwrap_or(bytes.len())
-}
-
-/// Adds the name of a sample of a family, and its first label, that of the disk.
-fn begin_sample(text: &mut Vec<u8>, name: &[u8], disk: &[u8]) -> Result<(), AllocError> {
-    text.extend_from_slice(name)?;
+/// Adds the name of a sample of a family, with what stands in front of it, and its first label, that
+/// of the disk.
+fn begin_sample(text: &mut Vec<u8>, name: &str, disk: &[u8]) -> Result<(), AllocError> {
+    add(text, name)?;
     text.extend_from_slice(disk)
 }
 
@@ -218,17 +258,16 @@ fn add_label(text: &mut Vec<u8>, front: &str, value: &[u8]) -> Result<(), AllocE
 
 /// Adds which program it is.
 fn add_version(text: &mut Vec<u8>, disk: &[u8], version: &str) -> Result<(), AllocError> {
-    let name = add_family(text, VERSION)?;
-    begin_sample(text, name, disk)?;
+    begin_sample(text, VERSION, disk)?;
     add_label(text, ",version=\"", version.as_bytes())?;
     end_sample(text, 1)
 }
 
 /// Adds how often each refusal came.
 fn add_refusals(text: &mut Vec<u8>, disk: &[u8], counters: &Counters) -> Result<(), AllocError> {
-    let name = add_family(text, REFUSED)?;
+    add(text, REFUSED)?;
     for refusal in &COUNTED {
-        begin_sample(text, name, disk)?;
+        begin_sample(text, "motcar_refused_total", disk)?;
         add(text, ",reason=\"")?;
         add_refusal(text, *refusal)?;
         add(text, "\"")?;
@@ -244,21 +283,18 @@ fn add_files(
     disk: &[u8],
     events: &[LookEvent],
 ) -> Result<(), AllocError> {
-    let name = add_family(text, FILES_REFUSED)?;
-    let mut sample = Vec::new(alloc);
-    begin_sample(&mut sample, name, disk)?;
+    add(text, FILES_REFUSED)?;
     for (place, event) in events.iter().enumerate() {
-        add_file(text, alloc, sample.as_slice(), &events[..place], event)?;
+        add_file(text, alloc, disk, &events[..place], event)?;
     }
     Ok(())
 }
 
-/// Adds the sample of a file, which begins so, if it was refused, unless one of the events before it
-/// is shown alike.
+/// Adds the sample of a file, if it was refused, unless one of the events before it is shown alike.
 fn add_file(
     text: &mut Vec<u8>,
     alloc: Global,
-    sample: &[u8],
+    disk: &[u8],
     before: &[LookEvent],
     event: &LookEvent,
 ) -> Result<(), AllocError> {
@@ -272,7 +308,7 @@ fn add_file(
     }
     let mut reason = Vec::new(alloc);
     add_reason(&mut reason, *refusal, why)?;
-    text.extend_from_slice(sample)?;
+    begin_sample(text, "motcar_file_refused", disk)?;
     add(text, ",command=\"")?;
     add(text, step.word())?;
     add_label(text, "\",name=\"", shown.as_slice())?;
@@ -307,11 +343,11 @@ fn add_objects(
     disk: &[u8],
     objects: &[Object],
 ) -> Result<(), AllocError> {
-    let name = add_family(text, ON_AIR)?;
+    add(text, ON_AIR)?;
     for object in objects {
         let mut shown = Vec::new(alloc);
         add_name(&mut shown, object.name.as_bytes())?;
-        begin_sample(text, name, disk)?;
+        begin_sample(text, "motcar_object", disk)?;
         add_label(text, ",name=\"", shown.as_slice())?;
         add(text, ",id=\"")?;
         add_number(text, u64::from(object.tid.get()))?;
