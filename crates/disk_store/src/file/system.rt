@@ -46,25 +46,16 @@ impl<F: DiskFile> HeldFile<F> {
     /// Refuses what is neither a regular file nor a block device, and a file that has another name
     /// than the one by which it was opened, or none.
     pub fn refuse_no_disk(&self) -> Result<(), OpenFault> {
-        if !self.is_disk()? {
+        let found = self.file.facts()?;
+        // Nothing else has a length that stays.
+        if !found.is_file && !found.is_block_device {
             return Err(OpenFault::NoDisk);
         }
-        if self.has_other_names()? {
+        // What the system keeps of such a file is not dropped.
+        if found.is_file && found.names != 1 {
             return Err(OpenFault::SecondName);
         }
         Ok(())
-    }
-
-    /// Nothing else has a length that stays.
-    fn is_disk(&self) -> io::Result<bool> {
-        let found = self.file.facts()?;
-        Ok(found.is_file || found.is_block_device)
-    }
-
-    /// What the system keeps of such a file is not dropped.
-    fn has_other_names(&self) -> io::Result<bool> {
-        let found = self.file.facts()?;
-        Ok(found.is_file && found.names != 1)
     }
 
     /// How long it is.
