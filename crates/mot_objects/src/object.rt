@@ -29,7 +29,10 @@ impl Clone for Object {
         Ok(Object {
             name: self.name.clone()?,
             content: self.content,
-            mime: self.mime.clone()?,
+            mime: match &self.mime {
+                Some(mime) => Some(mime.clone()?),
+                None => None,
+            },
             version: self.version,
             tid: self.tid,
             length: self.length,
