@@ -58,12 +58,12 @@ pub fn feed<D: Disk, O: Outlet, U: Update>(
     let mut until = 0;
     let mut rest = 0;
     let mut packet = Packet::new();
-    for _ in 0..u64::MAX {
+    for sent in 0..u64::MAX {
         if left == 0 {
             return Ok(());
         }
         let moment = moment_at(how, between_turns, rest);
-        update.update(server, alloc, moment)?;
+        update.update(server, alloc, moment, sent)?;
         let due = is_due(how, between_turns, until);
         ask(server, due);
         between_turns = send_one(server, outlet, &mut packet)?;

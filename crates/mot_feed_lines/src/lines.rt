@@ -94,6 +94,7 @@ impl<R: Inlet + Drop, U: Update + LookHistory + Drop, T: Watch + Drop> Update fo
         server: &mut Server<D>,
         alloc: Global,
         moment: UpdatePoint,
+        sent: u64,
     ) -> Result<(), Refusal>
         ensures keeps { KeepsLength (D.state server.old.disk) (D.state server.new.disk) }
         ensures faults { TellsFaults server.old server.new
@@ -114,7 +115,7 @@ impl<R: Inlet + Drop, U: Update + LookHistory + Drop, T: Watch + Drop> Update fo
             × OnOk result (self.new.left ≡ self.old.left - 1) }
         ensures reads { self.old.left ≡ 0 → OnOk result (self.new.left ≡ self.old.between) }
     {
-        self.reported.update(server, alloc, moment)?;
+        self.reported.update(server, alloc, moment, sent)?;
         if self.left > 0 {
             self.left -= 1;
             return Ok(());

@@ -41,6 +41,7 @@ impl<U: Update + LookHistory + Drop, T: Watch + Drop> Update for WatchedUpdate<U
         server: &mut Server<D>,
         alloc: Global,
         moment: UpdatePoint,
+        sent: u64,
     ) -> Result<(), Refusal>
         ensures keeps { KeepsLength (D.state server.old.disk) (D.state server.new.disk) }
         ensures faults { TellsFaults server.old server.new
@@ -50,10 +51,10 @@ impl<U: Update + LookHistory + Drop, T: Watch + Drop> Update for WatchedUpdate<U
             → IsUpdating (U.tells self.old.update self.new.update moment) server.old server.new
             (D.state server.old.disk) (D.state server.new.disk) s (fault_of result) }
     {
-        self.watch.begin(server, alloc, moment);
+        self.watch.begin(server, alloc, moment, sent);
         self.watch.begin_look(self.update.is_due(moment));
-        let result = self.update.update(server, alloc, moment);
-        self.watch.end(server, alloc, &self.update);
+        let result = self.update.update(server, alloc, moment, sent);
+        self.watch.end(server, alloc, &self.update, sent);
         result
     }
 }

@@ -270,6 +270,7 @@ impl<'a, S: System + Drop> Update for Looks<'a, S> {
         server: &mut Server<D>,
         alloc: Global,
         moment: UpdatePoint,
+        _sent: u64,
     ) -> Result<(), Refusal>
         ensures keeps { KeepsLength (D.state server.old.disk) (D.state server.new.disk) }
         ensures faults { TellsFaults server.old server.new

@@ -48,9 +48,9 @@ counted c Doubt = c
 counted c News = c
 counted c Look = record c { looks = one_more c.looks }
 
--- a packet counts, and so does the turn that ends with it
-abbrev pub packet_counted : Counters → (ends_turn : Bool) → Counters
-packet_counted c ends_turn = record c {
-  packets = one_more c.packets;
+-- packets count as they are told, and the turn that ends with the last counts, too
+abbrev pub packets_counted : Counters → (packets : ℕ) → (ends_turn : Bool) → Counters
+packets_counted c packets ends_turn = record c {
+  packets = packets;
   turns = if ends_turn then one_more c.turns else c.turns;
 }

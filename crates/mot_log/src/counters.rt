@@ -1,7 +1,7 @@
 //! Counts of what happened.
 ghost use Rattle.std.specs.Prelude.{◌≡◌};
 ghost use Rattle.std.specs.List.{slice_index};
-ghost use Rattle.mot_log.specs.Counters.{counted, none_counted, packet_counted};
+ghost use Rattle.mot_log.specs.Counters.{counted, none_counted, packets_counted};
 ghost use Rattle.mot_log.specs.Counters.{refusal_counted};
 ghost use Rattle.mot_numbers.specs.Refusal.{number_of};
 
@@ -49,12 +49,12 @@ impl Counters {
         }
     }
 
-    /// Counts a packet, and the turn that may have ended with it.
+    /// So many packets were taken by now, and a turn may have ended with the last.
     #[inline(always)]
-    pub fn count_packet(&mut self, ends_turn: bool)
-        ensures { self.new ≡ packet_counted self.old ends_turn }
+    pub fn count_packets(&mut self, packets: u64, ends_turn: bool)
+        ensures { self.new ≡ packets_counted self.old packets ends_turn }
     {
-        self.packets = self.packets.saturating_add(1);
+        self.packets = packets;
         if ends_turn {
             self.turns = self.turns.saturating_add(1);
         }

@@ -99,12 +99,12 @@ impl<'a, S: System + Drop, W: Write + Drop> Reporter<'a, S, W> {
         }
     }
 
-    /// Counts the packet that ended a turn; before the first turn tells which disk is played, by which
-    /// program.
+    /// Counts the packets up to the one that ended a turn; before the first turn tells which disk is
+    /// played, by which program.
     #[inline(never)]
-    fn begin_turn<D: Disk>(&mut self, server: &Server<D>, alloc: Global) {
+    fn begin_turn<D: Disk>(&mut self, server: &Server<D>, alloc: Global, sent: u64) {
         if self.has_begun {
-            return self.log.counters.count_packet(true);
+            return self.log.counters.count_packets(sent, true);
         }
         self.has_begun = true;
         self.size = measure(self.size, server, alloc);
@@ -191,7 +191,8 @@ impl<'a, S: System + Drop, W: Write + Drop> Reporter<'a, S, W> {
         events: &[LookEvent],
     ) {
         if self.has_begun {
-            self.log.counters.count_packet(true);
+            let sent = self.log.counters.packets.saturating_add(1);
+            self.log.counters.count_packets(sent, true);
         }
         let packets = self.log.counters.packets;
         self.log.tell(&Event::Ended(turns, packets));
@@ -209,13 +210,20 @@ impl<'a, S: System + Drop, W: Write + Drop> Tells for Reporter<'a, S, W> {
 }
 
 impl<'a, S: System + Drop, W: Write + Drop> Watch for Reporter<'a, S, W> {
-    /// At the first update tells that playing begins; at each other one counts the packet that was
-    /// taken since the last.
+    /// At the first update tells that playing begins; at each other one counts the packets.
     #[inline(always)]
-    fn begin<D: Disk>(&mut self, server: &Server<D>, alloc: Global, moment: UpdatePoint) {
+    fn begin<D: Disk>(
+        &mut self,
+        server: &Server<D>,
+        alloc: Global,
+        moment: UpdatePoint,
+        sent: u64,
+    ) {
         match moment {
-            UpdatePoint::BetweenTurns => self.begin_turn(server, alloc),
-            UpdatePoint::AtLook | UpdatePoint::Within => self.log.counters.count_packet(false),
+            UpdatePoint::BetweenTurns => self.begin_turn(server, alloc, sent),
+            UpdatePoint::AtLook | UpdatePoint::Within => {
+                self.log.counters.count_packets(sent, false);
+            }
         }
     }
 
@@ -231,8 +239,14 @@ impl<'a, S: System + Drop, W: Write + Drop> Watch for Reporter<'a, S, W> {
     /// Tells what is due after an update: what the last look met, if there was one since, and the
     /// status after a look and after each 1,000 packets.
     #[inline(always)]
-    fn end<D: Disk, U: LookHistory>(&mut self, server: &Server<D>, alloc: Global, update: &U) {
-        if self.log.counters.packets >= self.quiet_until {
+    fn end<D: Disk, U: LookHistory>(
+        &mut self,
+        server: &Server<D>,
+        alloc: Global,
+        update: &U,
+        sent: u64,
+    ) {
+        if sent >= self.quiet_until {
             self.tell_news(server, alloc, update);
         }
     }

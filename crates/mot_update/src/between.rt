@@ -24,13 +24,14 @@ pub trait Update {
     ghost tells: { Self → Self → UpdatePoint → Carousel → List Command → List Bool → Option Refusal
         → Type 0 } = { λ _ _ _ _ _ _ _. ⊤ };
 
-    /// Does what is to be done now, in front of a packet. The error is what would end a run of
-    /// commands, or that a body can't be read.
+    /// Does what is to be done now, in front of a packet, before which so many were sent. The error is
+    /// what would end a run of commands, or that a body can't be read.
     fn update<D: Disk>(
         &mut self,
         server: &mut Server<D>,
         alloc: Global,
         moment: UpdatePoint,
+        sent: u64,
     ) -> Result<(), Refusal>
         ensures keeps { KeepsLength (D.state server.old.disk) (D.state server.new.disk) }
         ensures faults { TellsFaults server.old server.new
@@ -53,6 +54,7 @@ impl Update for NoUpdate {
         server: &mut Server<D>,
         _alloc: Global,
         _moment: UpdatePoint,
+        _sent: u64,
     ) -> Result<(), Refusal>
         ensures keeps { KeepsLength (D.state server.old.disk) (D.state server.new.disk) }
         ensures faults { TellsFaults server.old server.new

@@ -60,12 +60,18 @@ impl LookHistory for NoUpdate {
 
 /// What is told of updates. It reads the server, and changes nothing of it.
 pub trait Watch: Tells {
-    /// An update begins.
-    fn begin<D: Disk>(&mut self, server: &Server<D>, alloc: Global, moment: UpdatePoint);
+    /// An update begins, before which so many packets were sent.
+    fn begin<D: Disk>(&mut self, server: &Server<D>, alloc: Global, moment: UpdatePoint, sent: u64);
 
     /// Its look begins, if there is one in it.
     fn begin_look(&mut self, is_look: bool);
 
     /// It has ended, and these are its looks.
-    fn end<D: Disk, U: LookHistory>(&mut self, server: &Server<D>, alloc: Global, update: &U);
+    fn end<D: Disk, U: LookHistory>(
+        &mut self,
+        server: &Server<D>,
+        alloc: Global,
+        update: &U,
+        sent: u64,
+    );
 }

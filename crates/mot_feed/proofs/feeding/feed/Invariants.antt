@@ -7,8 +7,8 @@ use Rattle.mot_repository.specs.Repository.{Holds}
 use Rattle.mot_update.specs.Faults.{StaysCalm}
 use Rattle.mot_feed.proofs.feeding.feed.Given as goal
 
-abbrev pub invariant-loop : goal.invariant-loop
-invariant-loop g l = record {
+abbrev pub invariant-loop-sent : goal.invariant-loop-sent
+invariant-loop-sent g l = record {
   keeps : KeepsLength (g.D.Disk.state l.fn.server.disk) (g.D.Disk.state l.server.disk);
   calm : StaysCalm l.fn.server l.server (g.D.Disk.state l.fn.server.disk)
       (g.D.Disk.state l.server.disk);
@@ -16,6 +16,6 @@ invariant-loop g l = record {
       → (g.D.Disk.state l.server.disk).IsHonest
       → SoFar g.U.Update.tells l.how Ready l.fn.update l.update l.fn.server l.server
       (g.D.Disk.state l.fn.server.disk) (g.D.Disk.state l.server.disk) s
-      l.left l.between_turns (Some l.until) l.rest l.counter
+      l.left l.between_turns (Some l.until) l.rest l.sent
       (g.O.Outlet.writes l.fn.outlet) (g.O.Outlet.writes l.outlet);
 }
