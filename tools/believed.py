@@ -76,7 +76,7 @@ PROMISES = [
     ]),
     ("Files beside the disk", [
         ("mot_devices", "use_of", ""), ("mot_devices", "signature_of", ""),
-        ("mot_files", "read_file", ""), ("mot_files", "is_file", ""), ("mot_files", "write_all", ""), ("mot_files", "hold", ""),
+        ("mot_files", "read_file", ""), ("mot_files", "file_stamp", ""), ("mot_files", "write_all", ""), ("mot_files", "hold", ""),
         ("mot_files", "take_place", ""), ("mot_files", "replace", ""), ("mot_files", "make_last", ""),
         ("mot_files", "sync_path", ""), ("mot_endpoints", "StatusFile::write", ""),
         ("mot_endpoints", "OpenPackets::take_place", ""), ("mot_endpoints", "OpenPackets::take_away", ""),

@@ -1,10 +1,13 @@
 -- What the names of a folder stand for.
 use Rattle.std.specs.Prelude.{ℕ, List, [], ◌∷◌, ◌++◌, Bool, true, false, Result, Ok, Err}
+use Rattle.std.specs.Prelude.{Option, Some, None, if◌then◌else◌}
 use Rattle.mot_files.specs.declared.system.Fault.{Fault}
 use Rattle.mot_files.specs.declared.system.Fault.TheVariants.{Absent, Busy, System}
 use Rattle.mot_files.specs.declared.system.Kind.{Kind}
 use Rattle.mot_files.specs.declared.system.Kind.TheVariants.{File, Folder, Link, Pipe, Special}
 use Rattle.mot_files.specs.declared.system.FileStat.{FileStat}
+use Rattle.mot_files.specs.declared.system.Stamp.{Stamp}
+use Rattle.mot_files.specs.Stamping.{stamp_of}
 
 abbrev pub is_file_kind : Kind → Bool
 is_file_kind File = true
@@ -13,11 +16,11 @@ is_file_kind Link = false
 is_file_kind Pipe = false
 is_file_kind Special = false
 
--- whether a name is that of a regular file, by what the system says of it: only what is not there is
--- no file
-abbrev pub file_of : Result FileStat Fault → Result Bool Fault
-file_of (Ok named) = Ok (is_file_kind named.kind)
-file_of (Err (Absent error)) = Ok false
+-- the stamp of what a name names, if that is a regular file, by what the system says of it: only what
+-- is not there is no file
+abbrev pub file_of : Result FileStat Fault → Result (Option Stamp) Fault
+file_of (Ok named) = Ok (if is_file_kind named.kind then Some (stamp_of named) else None)
+file_of (Err (Absent error)) = Ok None
 file_of (Err Busy) = Err Busy
 file_of (Err (System error)) = Err (System error)
 

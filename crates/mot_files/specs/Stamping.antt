@@ -1,8 +1,7 @@
 -- By what it is told that a file has the bytes that it had.
 use Rattle.std.specs.Prelude.{◌≡◌, ◌&&◌, ◌+◌, Bool, true, false, List, [], ◌∷◌, ◌++◌, nat_le}
 use Rattle.std.specs.Prelude.{Option, Some, None, Ok, ℕ, if◌then◌else◌}
-use Rattle.mot_files.specs.Call.{Call, looked, told_time}
-use Rattle.mot_files.specs.Listing.{is_file_kind}
+use Rattle.mot_files.specs.Call.{Call, told_time}
 use Rattle.mot_files.specs.Reading.{IsRead, IsUnread}
 use Rattle.mot_files.specs.declared.reading.ReadFailure.{ReadFailure}
 use Rattle.mot_files.specs.declared.system.FileStat.{FileStat}
@@ -41,8 +40,3 @@ abbrev pub IsUnreadStamped : (path : List ℕ) → (most : ℕ) → (at_once : B
     → (old new : List Call) → Type 0
 IsUnreadStamped path most at_once unread old new =
     (now : Option Time) × IsUnread path most at_once unread (old ++ told_time now ∷ []) new
-
--- the file of this path is a regular one that has this stamp: the system was asked for it
-abbrev pub HasStamp : (path : List ℕ) → Stamp → (old new : List Call) → Type 0
-HasStamp path stamp old new = (seen : FileStat) × (is_file_kind seen.kind ≡ true)
-    × (stamp_of seen ≡ stamp) × (new ≡ old ++ looked path (Ok seen) ∷ [])

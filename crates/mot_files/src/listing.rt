@@ -5,17 +5,17 @@ ghost use Rattle.mot_files.specs.Listing.{file_of, path_in};
 ghost use Rattle.mot_files.specs.declared.system.Fault.{Fault};
 ghost use Rattle.mot_files.specs.declared.system.FileStat.{FileStat};
 
-use crate::system::{Fault, Kind, System};
+use crate::system::{Fault, Kind, Stamp, System};
 use std::alloc::{AllocError, Global};
 
-/// Whether the path names a regular file. A link is none, and nothing is none.
-pub fn is_file<S: System>(system: &mut S, path: &str) -> Result<bool, Fault>
+/// The stamp of the regular file that the path names. A link is none, and nothing is none.
+pub fn file_stamp<S: System>(system: &mut S, path: &str) -> Result<Option<Stamp>, Fault>
     ensures { (answer : Result FileStat Fault) × (S.calls system.new
         ≡ S.calls system.old ++ looked path.now answer ∷ []) × (result ≡ file_of answer) }
 {
     match system.look(path) {
-        Ok(named) => Ok(matches!(named.kind, Kind::File)),
-        Err(Fault::Absent(_)) => Ok(false),
+        Ok(named) if matches!(named.kind, Kind::File) => Ok(Some(Stamp::of(&named))),
+        Ok(_) | Err(Fault::Absent(_)) => Ok(None),
         Err(fault) => Err(fault),
     }
 }

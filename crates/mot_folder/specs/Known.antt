@@ -19,8 +19,9 @@ is_it k o = bytes_eq o.name k.name && (nat_eq o.tid k.tid && nat_eq o.version k.
 abbrev pub has_it : Carousel → Known → Bool
 has_it c k = list_any (is_it k) c.objects
 
--- A file that a look passed over, with the stamp that it was found to have: it is known with that
--- stamp, and the carousel has its object.
+-- A file that a look passed over, with the stamp that it had when the look listed it: it is known with
+-- that stamp, and the carousel has its object. One that changed after that is found by the next look
+-- at the latest.
 abbrev pub IsPassedOver : List Known → Carousel → List ℕ × Stamp → Type 0
 IsPassedOver known c file = (k : Known) × Among known k × (k.name ≡ file.0) × (k.stamp ≡ file.1)
     × (has_it c k ≡ true)

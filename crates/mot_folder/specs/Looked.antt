@@ -28,7 +28,7 @@ use Rattle.mot_objects.specs.declared.command.Command.{Command}
 use Rattle.mot_playout.specs.Runs.{accepted_commands, ServerView}
 use Rattle.mot_shelf.specs.Given.{Given, nothing}
 use Rattle.mot_shelf.specs.Gives.{Gives}
-use Rattle.mot_shelf.specs.View.{FolderView}
+use Rattle.mot_shelf.specs.View.{FolderView, afresh}
 use Rattle.mot_suffixes.specs.Types.{AreShown, SuffixType}
 use Rattle.mot_update.specs.HasRun.{may_look, HasRun}
 use Rattle.mot_update.specs.Laws.{IsUpdate}
@@ -178,7 +178,7 @@ pub data TellsLooks (w : Watch) (moment : UpdatePoint) (old new : LooksSoFar) (c
   one_look : is_look_due old.left (may_look moment) ≡ true
       → (any_left : Bool) (given : Given) (names : List (List ℕ)) (wanted : List Item)
       (fine : Bool) (entries : List LookEvent) (files : List Known)
-      → Gives old.folder nothing new.folder given
+      → Gives (afresh old.folder) nothing new.folder given
       → new ≡ so_far (packets_left any_left w.every) new.folder
       (old.refused || not fine) files
       → IsLook w.types w.guard w.path given c commands marks fault names wanted fine entries

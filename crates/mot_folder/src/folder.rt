@@ -1,6 +1,6 @@
 //! A folder of files, as a source of wanted objects.
 ghost use Rattle.std.specs.Prelude.{◌≡◌, ◌⊎◌, ◌||◌, ◌-◌, ◌<◌, ℕ, List, [], true, false, not, IfErr};
-ghost use Rattle.std.specs.Prelude.{IfOk, IfSome, MatchBool, MatchResult, Some, slice_get};
+ghost use Rattle.std.specs.Prelude.{IfOk, IfSome, MatchResult, Some, slice_get};
 ghost use Rattle.mot_folder.specs.Inner.Knowing.{IsKnownWith, is_fine_look};
 ghost use Rattle.mot_folder.specs.Inner.Names.{name_or_none};
 ghost use Rattle.mot_folder.specs.Inner.Reading.{LookStart, LookedSince, Misses, OfferedSince, Takes, TellsFile, TellsUntaken};
@@ -134,7 +134,7 @@ impl<'a, S: System + Drop> Source for Folder<'a, S> {
             self.is_kept = false;
             let names = &self.names;
             let name = &names.names[place];
-            if is_unchanged(&mut self.shelf, &self.files, name) {
+            if is_unchanged(&self.shelf, &self.files, name) {
                 self.any_passed = true;
                 continue;
             }
@@ -292,18 +292,17 @@ fn and_settled(waiting: u32, settled: &SettleOutcome) -> u32
     }
 }
 
-/// Whether the file of this name is known, and was not changed since. It is not read.
+/// Whether the file of this name is known, and had not changed when the look listed it. It is not
+/// read.
 fn is_unchanged<S: System + Drop>(
-    shelf: &mut FolderReader<'_, S>,
+    shelf: &FolderReader<'_, S>,
     files: &KnownFiles,
     name: &Name,
 ) -> bool
-    ensures same { reader_path shelf.new ≡ reader_path shelf.old }
-    ensures gave { (given : Given) → MatchBool result
-        ((stamp : Stamp) × IsKnownWith files.now.known.items (name.now, stamp)
-        × Gives (view S.calls shelf.old) given (view S.calls shelf.new)
-        (and_unchanged given name.now stamp))
-        (Gives (view S.calls shelf.old) given (view S.calls shelf.new) given) }
+    ensures { result ≡ true → (given : Given) → (stamp : Stamp)
+        × IsKnownWith files.now.known.items (name.now, stamp)
+        × Gives (view S.calls shelf.now) given (view S.calls shelf.now)
+        (and_unchanged given name.now stamp) }
 {
     match files.stamp_of(name) {
         Some(stamp) => shelf.is_unchanged(name.as_bytes(), &stamp),

@@ -203,7 +203,7 @@ fn add_one<S: System + Drop>(
         return Ok(());
     }
     names.count()?;
-    if !shelf.is_file(name)? {
+    if !shelf.is_file(alloc, name)? {
         tell_skipped(shelf, name, true, report);
         return Ok(());
     }

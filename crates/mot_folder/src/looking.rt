@@ -18,7 +18,7 @@ ghost use Rattle.mot_update.specs.Faults.{TellsFaults};
 ghost use Rattle.mot_shelf.specs.Given.{Given, nothing};
 ghost use Rattle.mot_shelf.specs.Gives.{GaveSo, Gives};
 ghost use Rattle.mot_shelf.specs.Reader.{reader_path, view};
-ghost use Rattle.mot_shelf.specs.View.{FolderView};
+ghost use Rattle.mot_shelf.specs.View.{FolderView, afresh};
 ghost use Rattle.mot_suffixes.specs.Types.{SuffixType};
 ghost use Rattle.mot_update.specs.Told.{Answer};
 ghost use Rattle.mot_objects.specs.declared.command.Item.{Item};
@@ -70,7 +70,8 @@ pub fn look_at_folder<S: System + Drop, D: Disk>(
     // If it came to its end, nothing is left out of what is told.
     ensures whole { OnOk result (folder.new.report.any_left_out ≡ false) }
 {
-    folder.shelf.begin();
+    let is_any_known = !folder.files.known.is_empty();
+    folder.shelf.begin(alloc, is_any_known);
     folder.report.begin();
     let going = match list(
         &mut folder.shelf,
@@ -145,7 +146,7 @@ fn look_at_names<S: System + Drop, D: Disk>(
     ensures faults { TellsFaults server.old server.new
         (D.state server.old.disk) (D.state server.new.disk) result }
     ensures looked { (since : FolderView) (first : Given)
-        → Gives since nothing (view S.calls folder.old.shelf) first
+        → Gives (afresh since) nothing (view S.calls folder.old.shelf) first
         → IsListed folder.old.types.now (stage_of (reader_path folder.old.shelf) first
         folder.old.report folder.old.names)
         → (s : Standing) → Holds server.old.view s (D.state server.old.disk)

@@ -19,11 +19,6 @@ pub by_result : {T E : Type 0} (r : Result T E) {P More : T → Type 0} {Q Other
 by_result (Ok x) is so other = so x is
 by_result (Err e) is so other = other e is
 
-pub by_test : (b : Bool) {P Q More Other : Type 0} → (b ≡ true → P) → Q → (P → More) → (Q → Other)
-    → MatchBool b More Other
-by_test true is asked so other = so (is refl)
-by_test false is asked so other = other asked
-
 -- what is no text is known to be none
 pub no_text : (name : List ℕ) (b : Bool) → is_utf8 name ≡ b → (IsUtf8 name → ⊥) → is_utf8 name ≡ false
 no_text name true e none = absurd (none (IsUtf8-from_is_utf8 name e))

@@ -1,12 +1,13 @@
 -- Which calls a folder is listed and read by.
 use Rattle.std.specs.Prelude.{◌≡◌, ◌≢◌, ◌<◌, ◌⊎◌, ℕ, Bool, false, List, [], ◌∷◌, ◌++◌, Option, Some, None}
 use Rattle.std.specs.Prelude.{IsUtf8, Result, Ok, Err, codes, length}
+use Rattle.std.specs.List.{slice_get}
 use Rattle.std.specs.Str.{is_utf8}
 use Rattle.std.specs.declared.io.Error.{Error}
 use Rattle.mot_files.specs.Call.{Call, closed, failed_read, looked, opened, read}
 use Rattle.mot_files.specs.Lasting.{MakesLast, SyncsPath}
 use Rattle.mot_files.specs.Listing.{file_of, path_in}
-use Rattle.mot_files.specs.Stamping.{HasStamp, IsReadStamped, IsUnreadStamped}
+use Rattle.mot_files.specs.Stamping.{IsReadStamped, IsUnreadStamped}
 use Rattle.mot_files.specs.declared.reading.ReadFailure.{ReadFailure}
 use Rattle.mot_files.specs.declared.system.Fault.{Fault}
 use Rattle.mot_files.specs.declared.system.Handle.{Handle}
@@ -52,12 +53,12 @@ pub data NamesAreUnread (before after : Option Handle) (old new : List Call) : T
   failed : (handle : Handle) (fault : Fault) → before ≡ Some handle → after ≡ before
       → new ≡ old ++ failed_read handle fault ∷ [] → NamesAreUnread before after old new
 
--- whether a name in the folder is that of a regular file: the system was asked for it, but of a name
--- that is no text
-abbrev pub IsAsked : (path name : List ℕ) → Bool → (old new : List Call) → Type 0
-IsAsked path name is_file old new =
-    ((is_file ≡ false) × (is_utf8 name ≡ false) × (new ≡ old))
-    ⊎ ((answer : Result FileStat Fault) × (file_of answer ≡ Ok is_file)
+-- the stamp of a name in the folder, if it is that of a regular file: the system was asked for it, but
+-- of a name that is no text
+abbrev pub IsAsked : (path name : List ℕ) → Option Stamp → (old new : List Call) → Type 0
+IsAsked path name stamp old new =
+    ((stamp ≡ None) × (is_utf8 name ≡ false) × (new ≡ old))
+    ⊎ ((answer : Result FileStat Fault) × (file_of answer ≡ Ok stamp)
     × (new ≡ old ++ looked (path_in path name) answer ∷ []))
 
 -- why that is not told, which is so of a text alone: its path is too long, or the system refused to
@@ -67,14 +68,20 @@ pub record IsUnasked (path name : List ℕ) (old new : List Call) : Type 0 where
   pub calls : ((new ≡ old) × (LONGEST_PATH < length (path_in path name)))
       ⊎ ((fault : Fault) × (new ≡ old ++ looked (path_in path name) (Err fault) ∷ []))
 
+-- the stamp that a name was answered with is kept beside it, if there is memory for it
+abbrev pub IsSeen : (name : List ℕ) → Option Stamp → (old new : List (List ℕ × Stamp)) → Type 0
+IsSeen name None old new = new ≡ old
+IsSeen name (Some stamp) old new = (new ≡ old) ⊎ (new ≡ old ++ (name, stamp) ∷ [])
+
 -- a name in the folder was looked at, or has no path
 abbrev pub IsLookedAt : (path name : List ℕ) → (old new : List Call) → Type 0
 IsLookedAt path name old new = ((new ≡ old) × HasNoPath path name)
     ⊎ ((answer : Result FileStat Fault) × (new ≡ old ++ looked (path_in path name) answer ∷ []))
 
--- a file of the folder has this stamp
-abbrev pub FileIsUnchanged : (path name : List ℕ) → Stamp → (old new : List Call) → Type 0
-FileIsUnchanged path name stamp old new = HasStamp (path_in path name) stamp old new
+-- a file of the folder had this stamp when it was asked for: no call is made, so one that changed since
+-- is found by the next look at the latest
+abbrev pub FileIsUnchanged : (seen : List (List ℕ × Stamp)) → (name : List ℕ) → Stamp → Type 0
+FileIsUnchanged seen name stamp = (place : ℕ) × (slice_get seen place ≡ Some (name, stamp))
 
 -- a file of the folder was read, and had this stamp before; and when it was not
 abbrev pub FileIsRead : (path name : List ℕ) → (most : ℕ) → (at_once : Bool) → (bytes : List ℕ)

@@ -14,7 +14,7 @@ pub record Given : Type 0 where
   pub read : List (List ℕ × List ℕ)
   -- of some of them the stamp that each had before it was read
   pub stamped : List (List ℕ × Stamp)
-  -- the files that were not read, since each was found to have this stamp
+  -- the files that were not read, since each had this stamp when it was asked for
   pub unchanged : List (List ℕ × Stamp)
   -- the names of those that could not be, or not be made to last
   pub missed : List (List ℕ)

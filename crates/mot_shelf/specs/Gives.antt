@@ -1,20 +1,21 @@
 -- What a folder gave between two moments, by the calls that were made between them.
-use Rattle.std.specs.Prelude.{◌≡◌, ℕ, Bool, List, Option, Some, None, Ok, Err, take}
+use Rattle.std.specs.Prelude.{◌≡◌, ℕ, List, [], Option, Some, None, Ok, Err, is_some, take}
 use Rattle.std.specs.declared.io.Error.{Error}
 use Rattle.mot_files.specs.declared.reading.ReadFailure.{ReadFailure}
 use Rattle.mot_files.specs.declared.system.Handle.{Handle}
 use Rattle.mot_files.specs.declared.system.Stamp.{Stamp}
 use Rattle.mot_shelf.specs.Calls.{FileIsKept, FileIsRead, FileIsUnchanged, FileIsUnkept, FileIsUnread}
-use Rattle.mot_shelf.specs.Calls.{FolderIsClosed, FolderIsOpened, IsAsked, IsLookedAt, IsUnasked}
+use Rattle.mot_shelf.specs.Calls.{FolderIsClosed, FolderIsOpened, IsAsked, IsLookedAt, IsSeen}
+use Rattle.mot_shelf.specs.Calls.{IsUnasked}
 use Rattle.mot_shelf.specs.Calls.{NamesAreKept, NamesAreRead, NamesAreUnkept, NamesAreUnread}
 use Rattle.mot_shelf.specs.Given.{Given, and_asked, and_failed, and_kept, and_kept_names, and_listed}
 use Rattle.mot_shelf.specs.Given.{and_missed, and_read, and_unchanged, nothing}
-use Rattle.mot_shelf.specs.View.{FolderView, and_calls}
+use Rattle.mot_shelf.specs.View.{FolderView, afresh, and_calls}
 
 -- The folder was asked for one thing, by these calls, and what it gave goes on so.
 pub data Asks (old new : FolderView) (given after : Given) : Type 0 where
   closed : FolderIsClosed old.listing old.calls new.calls
-      → new ≡ record old { listing = None; calls = new.calls } → after ≡ given
+      → new ≡ record old { listing = None; seen = []; calls = new.calls } → after ≡ given
       → Asks old new given after
   opened : (handle : Handle) → FolderIsOpened old.path (Ok handle) old.calls new.calls
       → new ≡ record old { listing = Some handle; calls = new.calls }
@@ -29,18 +30,17 @@ pub data Asks (old new : FolderView) (given after : Given) : Type 0 where
   unnamed : NamesAreUnread old.listing new.listing old.calls new.calls
       → new ≡ record old { listing = new.listing; calls = new.calls }
       → after ≡ and_failed given old.path → Asks old new given after
-  asked : (name : List ℕ) (is_file : Bool) → IsAsked old.path name is_file old.calls new.calls
-      → new ≡ and_calls old new.calls → after ≡ and_asked given name is_file
-      → Asks old new given after
+  asked : (name : List ℕ) (stamp : Option Stamp) → IsAsked old.path name stamp old.calls new.calls
+      → IsSeen name stamp old.seen new.seen
+      → new ≡ record old { seen = new.seen; calls = new.calls }
+      → after ≡ and_asked given name (is_some stamp) → Asks old new given after
   unasked : (name : List ℕ) → IsUnasked old.path name old.calls new.calls
       → new ≡ and_calls old new.calls → after ≡ and_failed given name → Asks old new given after
   -- of what it names nothing follows
   looked_at : (name : List ℕ) → IsLookedAt old.path name old.calls new.calls
       → new ≡ and_calls old new.calls → after ≡ given → Asks old new given after
-  unchanged : (name : List ℕ) (stamp : Stamp)
-      → FileIsUnchanged old.path name stamp old.calls new.calls
-      → new ≡ and_calls old new.calls → after ≡ and_unchanged given name stamp
-      → Asks old new given after
+  unchanged : (name : List ℕ) (stamp : Stamp) → FileIsUnchanged old.seen name stamp → new ≡ old
+      → after ≡ and_unchanged given name stamp → Asks old new given after
   read : (name bytes : List ℕ) (most : ℕ) (stamp : Option Stamp)
       → FileIsRead old.path name most old.at_once bytes stamp old.calls new.calls
       → new ≡ and_calls old new.calls → after ≡ and_read given name bytes stamp
@@ -69,6 +69,6 @@ pub data Gives (old : FolderView) (given : Given) : FolderView → Given → Typ
 abbrev pub GoesOnSo : (old new : FolderView) → (Given → Given → Type 0) → Type 0
 GoesOnSo old new IsSo = (given : Given) → (after : Given) × Gives old given new after × IsSo given after
 
--- what it gave since a moment is so
+-- what it gave since a moment is so, by what was asked for since then
 abbrev pub GaveSo : (since now : FolderView) → (Given → Type 0) → Type 0
-GaveSo since now IsSo = (given : Given) × Gives since nothing now given × IsSo given
+GaveSo since now IsSo = (given : Given) × Gives (afresh since) nothing now given × IsSo given

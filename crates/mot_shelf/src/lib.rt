@@ -3,6 +3,8 @@
 
 mod path;
 mod reader;
+mod seen;
 
 pub use path::LONGEST_PATH;
 pub use reader::FolderReader;
+pub use seen::{SeenFile, SeenFiles};

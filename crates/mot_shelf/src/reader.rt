@@ -1,7 +1,7 @@
 //! A folder of a system of files: it is listed and read through one reader, and clauses say of each
 //! call what the folder gave.
 ghost use Rattle.std.specs.Prelude.{◌≡◌, ◌≢◌, ◌<◌, ◌≤◌, ◌++◌, ◌∷◌, [], ℕ, Err, IfErr, IfOk};
-ghost use Rattle.std.specs.Prelude.{MatchBool, MatchResult, None, Ok, Result, Some, length, take, true};
+ghost use Rattle.std.specs.Prelude.{MatchResult, None, Ok, Result, Some, length, take, true};
 ghost use Rattle.mot_files.specs.Call.{looked, opened};
 ghost use Rattle.mot_files.specs.declared.system.Fault.{Fault};
 ghost use Rattle.mot_files.specs.declared.system.How.TheVariants as How;
@@ -9,16 +9,17 @@ ghost use Rattle.mot_files.specs.declared.system.FileStat.{FileStat};
 ghost use Rattle.mot_shelf.specs.Given.{Given, and_asked, and_failed, and_kept, and_kept_names};
 ghost use Rattle.mot_shelf.specs.Given.{and_listed, and_missed, and_read, and_unchanged};
 ghost use Rattle.mot_files.specs.declared.reading.ReadFailure.TheVariants.{TooLong, Young};
-ghost use Rattle.mot_shelf.specs.Calls.{FolderIsClosed, FolderIsOpened};
+ghost use Rattle.mot_shelf.specs.Calls.{FolderIsClosed, FolderIsOpened, IsSeen};
 ghost use Rattle.mot_shelf.specs.Calls.{NamesAreRead, NamesAreUnread};
 ghost use Rattle.mot_shelf.specs.Gives.{Asks};
-ghost use Rattle.mot_shelf.specs.Reader.{reader_fault, reader_path, reader_system, view};
-ghost use Rattle.mot_shelf.specs.View.{folder_at};
+ghost use Rattle.mot_shelf.specs.Reader.{reader_fault, reader_path, reader_system, seen_in, view};
+ghost use Rattle.mot_shelf.specs.View.{afresh, folder_at};
 
 use crate::path::{NoPath, PathRoom, set_path};
+use crate::seen::SeenFiles;
 use mot_files::{
-    FileRead, Handle, How, Kind, ReadFailure, Stamp, System, has_stamp, is_file, make_last,
-    read_stamped, sync_path,
+    FileRead, Handle, How, Kind, ReadFailure, Stamp, System, file_stamp, make_last, read_stamped,
+    sync_path,
 };
 use std::alloc::Global;
 use std::io::{self, ErrorKind};
@@ -34,6 +35,8 @@ pub struct FolderReader<'a, S: System + Drop> {
     at_once: bool,
     /// The open folder, while its names are listed.
     listing: Option<Handle>,
+    /// The regular files that the look asked for, if their stamps are kept.
+    seen: Option<SeenFiles>,
     /// Why it was not opened, if it was last opened in vain.
     fault: Option<io::Error>,
 }
@@ -52,6 +55,7 @@ impl<'a, S: System + Drop> FolderReader<'a, S> {
             room: PathRoom::new(),
             at_once,
             listing: None,
+            seen: None,
             fault: None,
         }
     }
@@ -70,15 +74,17 @@ impl<'a, S: System + Drop> FolderReader<'a, S> {
         self.path
     }
 
-    /// A look begins: a folder that an earlier one left open is closed.
-    pub fn begin(&mut self)
+    /// A look begins: a folder that an earlier one left open is closed, and what it saw forgotten. Where
+    /// no file is known, no stamp need be kept.
+    pub fn begin(&mut self, alloc: Global, keeps_stamps: bool)
         ensures same { reader_path self.new ≡ reader_path self.old }
         ensures asks { (given : Given)
-            → Asks (view S.calls self.old) (view S.calls self.new) given given }
+            → Asks (afresh (view S.calls self.old)) (view S.calls self.new) given given }
         ensures anew { ((view S.calls self.new).listing ≡ None) × (reader_fault self.new ≡ None) }
     {
         close_listing(&mut self.system, self.listing);
         self.listing = None;
+        self.seen = none_seen(alloc, keeps_stamps);
         self.fault = None;
     }
 
@@ -127,8 +133,8 @@ impl<'a, S: System + Drop> FolderReader<'a, S> {
         next_names(&mut self.system, &mut self.listing, room)
     }
 
-    /// Whether there is a regular file of this name in it. A link is none.
-    pub fn is_file(&mut self, name: &[u8]) -> io::Result<bool>
+    /// Whether there is a regular file of this name in it. A link is none. Its stamp is kept.
+    pub fn is_file(&mut self, alloc: Global, name: &[u8]) -> io::Result<bool>
         ensures same { reader_path self.new ≡ reader_path self.old }
         ensures asks { (given : Given) → MatchResult result
             (λ is_file. Asks (view S.calls self.old) (view S.calls self.new) given
@@ -137,8 +143,11 @@ impl<'a, S: System + Drop> FolderReader<'a, S> {
             (and_failed given name.now)) }
     {
         match set_path(&mut self.room, self.path, name) {
-            Ok(()) => match is_file(&mut self.system, self.room.as_str()) {
-                Ok(is_file) => Ok(is_file),
+            Ok(()) => match file_stamp(&mut self.system, self.room.as_str()) {
+                Ok(stamp) => {
+                    keep_stamp(&mut self.seen, alloc, name, stamp);
+                    Ok(stamp.is_some())
+                }
                 Err(fault) => Err(fault.error()),
             },
             // A name that is no text is that of no file.
@@ -159,17 +168,16 @@ impl<'a, S: System + Drop> FolderReader<'a, S> {
         }
     }
 
-    /// Whether the file of this name is a regular one that has this stamp. It is not read.
-    pub fn is_unchanged(&mut self, name: &[u8], stamp: &Stamp) -> bool
-        ensures same { reader_path self.new ≡ reader_path self.old }
-        ensures asks { (given : Given) → MatchBool result
-            (Asks (view S.calls self.old) (view S.calls self.new) given
-            (and_unchanged given name.now stamp.now))
-            (Asks (view S.calls self.old) (view S.calls self.new) given given) }
+    /// Whether the file of this name was a regular one with this stamp when the look asked for it. It
+    /// is not asked for again, and not read.
+    pub fn is_unchanged(&self, name: &[u8], stamp: &Stamp) -> bool
+        ensures { result ≡ true → (given : Given)
+            → Asks (view S.calls self.now) (view S.calls self.now) given
+            (and_unchanged given name.now stamp.now) }
     {
-        match set_path(&mut self.room, self.path, name) {
-            Ok(()) => has_stamp(&mut self.system, self.room.as_str(), stamp),
-            Err(_) => false,
+        match &self.seen {
+            Some(seen) => seen.has(name, stamp),
+            None => false,
         }
     }
 
@@ -246,6 +254,26 @@ fn close_listing<S: System>(system: &mut S, listing: Option<Handle>)
 {
     if let Some(handle) = listing {
         system.close(handle);
+    }
+}
+
+/// No file yet, if stamps are to be kept.
+fn none_seen(alloc: Global, keeps_stamps: bool) -> Option<SeenFiles>
+    ensures { seen_in result ≡ [] }
+{
+    if keeps_stamps {
+        Some(SeenFiles::new(alloc))
+    } else {
+        None
+    }
+}
+
+/// Keeps the stamp of the file of this name, if it has one.
+fn keep_stamp(seen: &mut Option<SeenFiles>, alloc: Global, name: &[u8], stamp: Option<Stamp>)
+    ensures { IsSeen name.now stamp (seen_in seen.old) (seen_in seen.new) }
+{
+    if let (Some(seen), Some(stamp)) = (seen, stamp) {
+        seen.add(alloc, name, stamp);
     }
 }
 

@@ -38,7 +38,7 @@ use Rattle.mot_playout.specs.Attempts.{fault_of}
 use Rattle.mot_playout.specs.Runs.{accepted_commands, ServerView}
 use Rattle.mot_shelf.specs.Given.{Given, nothing}
 use Rattle.mot_shelf.specs.Gives.{GaveSo, Gives}
-use Rattle.mot_shelf.specs.View.{FolderView}
+use Rattle.mot_shelf.specs.View.{FolderView, afresh}
 use Rattle.mot_suffixes.specs.Types.{SuffixType}
 use Rattle.mot_update.specs.Faults.{StaysCalm}
 use Rattle.mot_update.specs.HasRun.{HasRun}
@@ -111,7 +111,7 @@ module _ {D : Type 0} (state : D → State) (disk : D) (server new : ServerView 
       (fault : Option Refusal) (files : List Known)
       → (state new.disk).IsHonest
       → AllAre s (state disk)
-      → Gives folder nothing then_folder given
+      → Gives (afresh folder) nothing then_folder given
       → HasLookedAtFolder server new (state server.disk) (state new.disk) s types guard folder.path
       given report fault [] files
       → (entries : List LookEvent)
@@ -181,7 +181,7 @@ module _ {D : Type 0} (state : D → State) (disk : D) (server new : ServerView 
     -- what a look came to, and what is told of it, from the disk's opening on
     tells : (s : Standing) (result : Result Bool Refusal) (given : Given)
         → (state new.disk).IsHonest → AllAre s (state disk)
-        → Gives folder nothing then_folder given
+        → Gives (afresh folder) nothing then_folder given
         → LooksAndTells server new (state server.disk) (state new.disk) s types guard folder.path
         given [] before after result
         → SyncsAndTells types guard folder then_folder (state disk) (state new.disk)

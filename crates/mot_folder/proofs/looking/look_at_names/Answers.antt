@@ -35,6 +35,7 @@ use Rattle.disk_model.specs.Disk.{State}
 use Rattle.mot_playout.specs.Runs.{ServerView}
 use Rattle.mot_shelf.proofs.Laws.{gives_path}
 use Rattle.mot_shelf.specs.Given.{Given, nothing}
+use Rattle.mot_shelf.specs.View.{afresh}
 use Rattle.mot_update.specs.HasRun.{HasRun}
 use Rattle.mot_update.specs.Told.{Answer}
 use Rattle.mot_objects.specs.declared.command.Item.{Item}
@@ -235,7 +236,7 @@ returns-in_err-look-clause-looked g c = λ since first gives listed s holds hone
     let is = behind began source.types.now source.files.known.items path (reader_path source.shelf)
     given names source.names.names.items source.place source.report looks.0.runs.answers
     looks.0.wanted x.2.0
-    (gives_path since nothing _ given x.1 ∙ sym (gives_path since nothing _ first gives))
+    (gives_path (afresh since) nothing _ given x.1 ∙ sym (gives_path (afresh since) nothing _ first gives))
     c.in_err-look.ensures.same in
     let known = c.args.folder.now.files.known.items in
     let started_so = started known c.start.new.self _ old.view s holds.agrees
@@ -289,7 +290,7 @@ returns-clause-looked g c = λ since first gives listed s holds honest.
     let is = behind began source.types.now source.files.known.items path (reader_path source.shelf)
     given names source.names.names.items source.place source.report looks.0.runs.answers
     looks.0.wanted x.2.0
-    (gives_path since nothing _ given x.1 ∙ sym (gives_path since nothing _ first gives))
+    (gives_path (afresh since) nothing _ given x.1 ∙ sym (gives_path (afresh since) nothing _ first gives))
     c.in_ok-look.ensures.same in
     let seen : take source.place names ≡ names =
     take_all source.place names (subst (λ (n : List (List ℕ)). length n ≤ source.place)

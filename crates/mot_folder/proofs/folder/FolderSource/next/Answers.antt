@@ -57,11 +57,11 @@ returns-in-Ok-clause-told g c = λ since gave told first.
     false w) gave told (
       after,
       gives_on _ _ nothing given _ after
-          (gives_on _ _ nothing given _ given was.1 (c.if-is_unchanged.ensures.gave given)) took.1,
+          was.1 took.1,
       (
         subst (λ p. TellsOffered since types files.known.items p after names (mid.place + 1) mid.report
             mid.sizes.waiting w told gave)
-            (sym (c.in-Ok.ensures.same ∙ c.if-is_unchanged.ensures.same))
+            (sym c.in-Ok.ensures.same)
             (subst (λ v. TellsOffered since types v.items (reader_path mid.shelf) after names
             (mid.place + 1) mid.report mid.sizes.waiting w told gave) (sym c.add.ensures.known)
             (plain (TellsOffered since types known (reader_path mid.shelf) after names (mid.place + 1)
@@ -133,20 +133,18 @@ loop-self-preserved-then-is_unchanged g c =
       looked = λ since told gave first.
           let was = is.looked since told gave first in
           let given = was.0 in
-          let passed = c.if-is_unchanged.ensures.gave given in
+          let passed = c.if-is_unchanged.ensures refl given in
           let after = and_unchanged given name passed.0 in
           let Look = TellsLook since types known (reader_path mid.shelf) given names mid.place mid.report
           mid.sizes.waiting in (
             after,
             gives_on _ _ nothing given _ after was.1 passed.2,
             (
-              subst (λ p. TellsLook since types known p after names (mid.place + 1) mid.report
-                  mid.sizes.waiting told gave) (sym c.if-is_unchanged.ensures.same)
-                  (plain (TellsLook since types known (reader_path mid.shelf) after names (mid.place + 1)
+              plain (TellsLook since types known (reader_path mid.shelf) after names (mid.place + 1)
                   mid.report mid.sizes.waiting) told gave
                   (then_passed since types known (reader_path mid.shelf) names Look given after mid.place
                   mid.report mid.sizes.waiting name passed.0 (both_same Look) within at refl gave
-                  told was.2.0)),
+                  told was.2.0),
               knows_passed given after mid.files told name passed.0 refl passed.1 was.2.1,
               λ kept. absurd (cc (kept)),
             ),
@@ -183,12 +181,11 @@ loop-self-preserved g c =
           mid.sizes.waiting in (
             after,
             gives_on _ _ nothing given _ after
-                (gives_on _ _ nothing given _ given was.1 (c.if-is_unchanged.ensures.gave given))
-                took.1,
+                was.1 took.1,
             (
               subst (λ p. TellsLook since types known p after names (mid.place + 1) report
                   mid.sizes.waiting told gave)
-                  (sym (c.in-Err.ensures.same ∙ c.if-is_unchanged.ensures.same))
+                  (sym c.in-Err.ensures.same)
                   (plain (TellsLook since types known (reader_path mid.shelf) after names (mid.place + 1)
                   report mid.sizes.waiting) told gave
                   (then_missed since types known (reader_path mid.shelf) names Look given after mid.place
