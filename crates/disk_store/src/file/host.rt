@@ -24,7 +24,6 @@ impl DiskFile for File {
         FileExt::read_exact_at(self, out, at)
     }
 
-    #[inline(always)]
     fn write_all_at(&self, bytes: &[u8], at: u64) -> io::Result<()> {
         FileExt::write_all_at(self, bytes, at)
     }
