@@ -38,7 +38,7 @@ fn put_slot(slot: &mut ArrayVec<u8, 512>, layout: Layout, entry: &Record)
     ensures size { (g : Sizes) → is_sound g layout entry.now ≡ true
         → length slot.new.items ≡ slot_size layout }
 {
-    slot.clear();
+    *slot = ArrayVec::new();
     slot.push(OPEN);
     slot.push(layout.kind_base() + kind(&entry.action));
     put_number(slot, entry.period.get(), 3);
@@ -65,7 +65,7 @@ pub fn put_slot_or_zeros(
     match given.get(number) {
         Some(entry) => put_slot(slot, layout, entry),
         None => {
-            slot.clear();
+            *slot = ArrayVec::new();
             fill(slot, layout.slot_size());
         }
     }

@@ -12,7 +12,7 @@ returns-clause-written c =
     (ap (bytes_high_first 3) c.get.ensures.value)
     (ap (λ n. to_be_bytes w16 n) c.get-2.ensures.value)
     (ap (λ n. to_be_bytes w16 n) c.get-3.ensures.value)
-    c.clear.ensures c.push.ensures.items c.push-2.ensures.items c.put_number.ensures.written
+    c.new.ensures c.push.ensures.items c.push-2.ensures.items c.put_number.ensures.written
     c.array_append_number.ensures.items
     c.array_append_number-2.ensures.items
     c.put_action.ensures.written c.fill.ensures

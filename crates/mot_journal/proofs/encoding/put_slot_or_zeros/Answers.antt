@@ -48,7 +48,7 @@ zeros c =
     let size : c.slot_size.result - 0 ≡ slot_size c.args.layout =
     omega (arith, c.slot_size.ensures) in
     c.fill.ensures
-    ∙ ap (λ l. l ++ replicate (c.slot_size.result - length l) 0) c.clear.ensures
+    ∙ ap (λ l. l ++ replicate (c.slot_size.result - length l) 0) c.new.ensures
     ∙ ap (λ n. replicate n 0) size
 
 pub returns-in-None-clause-value : goal.returns-in-None-clause-value
