@@ -1,5 +1,5 @@
--- Reading the text of a file. Each relation goes from the calls that were made before to those that
--- were made then.
+-- Reading the text of a file, and the suffixes that it adds. Each relation goes from the calls that
+-- were made before to those that were made then.
 use Rattle.std.specs.Prelude.{◌≡◌, ℕ, List, [], ◌∷◌, ◌++◌, Ok, Result, ◌≤◌, ◌⊎◌, length, Option}
 use Rattle.std.specs.Prelude.{Some, None}
 use Rattle.mot_files.specs.Call.{Call, closed, followed, looked_at, opened, read_of}

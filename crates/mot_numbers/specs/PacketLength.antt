@@ -1,4 +1,4 @@
--- The lengths of packets (EN 300 401, clause 5.3.2).
+-- The lengths of packets (EN 300 401, clause 5.3.2), and the kinds of data groups.
 use Rattle.std.specs.Prelude.{ℕ, ◌≡◌, ◌⊎◌, nat_le, if◌then◌else◌}
 use Rattle.mot_numbers.specs.declared.packet_length.PacketLength.{PacketLength}
 use Rattle.mot_numbers.specs.declared.packet_length.PacketLength.TheVariants.{P24, P48, P72, P96}

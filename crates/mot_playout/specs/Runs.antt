@@ -1,5 +1,5 @@
 -- The words of the headline: which commands of a run were accepted, which one was in flight, and
--- what a carousel is after commands.
+-- what a carousel is after commands; and what contracts see of a server.
 use Rattle.std.specs.Prelude.{◌≡◌, ℕ, ◌≤◌, Bool, true, false, List, [], ◌∷◌, ◌++◌, length, take}
 use Rattle.std.specs.Prelude.{drop, Option, Some, if◌then◌else◌, map}
 use Rattle.mot_journal.specs.Image.{Standing}
