@@ -1,6 +1,6 @@
 -- By what it is told that a file has the bytes that it had.
-use Rattle.std.specs.Prelude.{◌≡◌, ◌&&◌, ◌+◌, Bool, true, false, List, [], ◌∷◌, ◌++◌, nat_le}
-use Rattle.std.specs.Prelude.{Option, Some, None, Ok, ℕ, if◌then◌else◌}
+use Rattle.std.specs.Prelude.{◌≡◌, ◌&&◌, ◌+◌, Bool, false, List, [], ◌∷◌, ◌++◌, nat_le}
+use Rattle.std.specs.Prelude.{Option, Some, None, ℕ, if◌then◌else◌}
 use Rattle.mot_files.specs.Call.{Call, told_time}
 use Rattle.mot_files.specs.Reading.{IsRead, IsUnread}
 use Rattle.mot_files.specs.declared.reading.ReadFailure.{ReadFailure}

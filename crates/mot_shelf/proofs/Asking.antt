@@ -1,7 +1,7 @@
 -- What a folder gave goes on by what each call answers.
 use Rattle.std.proofs.Common.{◌≡◌, ◌∙◌, ℕ, Bool, true, false, List, [], ◌∷◌, ◌++◌, Ok, Err, Result}
-use Rattle.std.proofs.Common.{ap, inl, inr, refl}
-use Rattle.std.specs.Prelude.{IsUtf8, MatchBool, MatchResult}
+use Rattle.std.proofs.Common.{ap, inl, inr}
+use Rattle.std.specs.Prelude.{IsUtf8, MatchResult}
 use Rattle.std.specs.Str.{is_utf8}
 use Rattle.std.proofs.lemmas.Str.{IsUtf8-from_is_utf8}
 use Rattle.mot_files.specs.Call.{Call, looked}

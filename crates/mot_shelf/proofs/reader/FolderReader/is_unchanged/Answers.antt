@@ -1,4 +1,4 @@
-use Rattle.std.proofs.Common.{ap, refl, subst, sym}
+use Rattle.std.proofs.Common.{refl, subst, sym}
 use Rattle.mot_shelf.specs.Calls.{FileIsUnchanged}
 use Rattle.mot_shelf.specs.Gives.Asks.{unchanged}
 use Rattle.mot_shelf.specs.Reader.{seen_in}
