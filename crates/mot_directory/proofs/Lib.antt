@@ -5,4 +5,3 @@ pub mod Fits
 pub mod Laws
 pub mod ReadBack
 pub mod Rows
-pub mod Replaced

@@ -20,4 +20,3 @@ pub mod Sizes
 pub mod Survival
 pub mod Turns
 pub mod Whole
-pub mod Replacing
