@@ -239,7 +239,8 @@ fn begin_sample(text: &mut Vec<u8>, name: &str, disk: &[u8]) -> Result<(), Alloc
 fn end_sample(text: &mut Vec<u8>, value: u64) -> Result<(), AllocError> {
     add(text, "} ")?;
     add_number(text, value)?;
-    add(text, "\n")
+    text.push(b'\n')?;
+    Ok(())
 }
 
 /// Adds a label: what stands in front of its value, and the value.
@@ -253,7 +254,8 @@ fn add_label(text: &mut Vec<u8>, front: &str, value: &[u8]) -> Result<(), AllocE
             other => text.push(other)?,
         }
     }
-    add(text, "\"")
+    text.push(b'"')?;
+    Ok(())
 }
 
 /// Adds which program it is.
@@ -270,7 +272,7 @@ fn add_refusals(text: &mut Vec<u8>, disk: &[u8], counters: &Counters) -> Result<
         begin_sample(text, "motcar_refused_total", disk)?;
         add(text, ",reason=\"")?;
         add_refusal(text, *refusal)?;
-        add(text, "\"")?;
+        text.push(b'"')?;
         end_sample(text, counters.of(*refusal))?;
     }
     Ok(())

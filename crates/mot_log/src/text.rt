@@ -231,7 +231,7 @@ pub(crate) fn add_refusal(text: &mut Vec<u8>, refusal: Refusal) -> Result<(), Al
     ensures { OnOk result (text.new.items ≡ text.old.items ++ refusal_words refusal) }
 {
     add_number(text, u64::from(refusal.number()))?;
-    add(text, " ")?;
+    text.push(b' ')?;
     add(text, refusal.name())
 }
 

@@ -19,10 +19,8 @@ use mot_numbers::{Address, MAX_ADDRESS, PacketLength};
 /// The bytes of the longest packet.
 pub const MAX_PACKET: usize = 96;
 
-/// The bytes of the data field of the shortest packet, and of the longest.
+/// The bytes of the data field of the shortest packet.
 const SHORTEST_ROOM: usize = 19;
-
-const LONGEST_ROOM: usize = 91;
 
 /// A packet's bytes: 24, 48, 72 or 96 of them (EN 300 401, clause 5.3.2).
 pub type Packet = ArrayVec<u8, MAX_PACKET>;
@@ -144,17 +142,17 @@ fn fill_packet(packet: &mut Packet, header: Header, useful: &[u8])
 }
 
 /// Adds bytes for which there is room. With their number known, as of a full data field of the
-/// shortest packet and of the longest, they are copied without a call.
+/// shortest packet, they are copied without a call.
 #[inline(always)]
 fn append_useful(packet: &mut Packet, useful: &[u8])
     requires { array_vec_len packet.old + length useful.now ≤ MAX_PACKET }
     ensures items { packet.new.items ≡ packet.old.items ++ useful.now }
     ensures len { array_vec_len packet.new ≡ array_vec_len packet.old + length useful.now }
 {
-    match useful.len() {
-        SHORTEST_ROOM => array_append(packet, &useful[..SHORTEST_ROOM]),
-        LONGEST_ROOM => array_append(packet, &useful[..LONGEST_ROOM]),
-        _ => array_append(packet, useful),
+    if useful.len() == SHORTEST_ROOM {
+        array_append(packet, &useful[..SHORTEST_ROOM]);
+    } else {
+        array_append(packet, useful);
     }
 }
 
