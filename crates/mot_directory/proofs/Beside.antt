@@ -41,7 +41,7 @@ entry_of-object_of : (o : Object) (body : List ℕ) → length body ≡ o.length
 unfolding entry_with
 entry_of-object_of o body e = ap (entry_with o) (header_of-object_of o body e)
 
-entries_of-objects_of : (objects : List Object) (bodies : List (List ℕ)) →
+pub entries_of-objects_of : (objects : List Object) (bodies : List (List ℕ)) →
     map length bodies ≡ map (λ (o : Object). o.length) objects →
     map entry_of (objects_of objects bodies) ≡ map entry_beside objects
 entries_of-objects_of [] bodies e = refl
@@ -71,7 +71,7 @@ entry_beside-size o =
     length-bytes_of_entry (entry_beside o)
     ∙ ap (λ n. 2 + n) (length-extension o.name o.mime o.version)
 
-length-bytes_of_entries : (objects : List Object) →
+pub length-bytes_of_entries : (objects : List Object) →
     length (bytes_of_entries (map entry_beside objects)) ≡ sum_by entry_size objects
 length-bytes_of_entries [] = refl
 length-bytes_of_entries (o ∷ objects) =

@@ -5,3 +5,4 @@ pub mod Fits
 pub mod Laws
 pub mod ReadBack
 pub mod Rows
+pub mod Replaced

@@ -1,10 +1,10 @@
 -- What stands in a carousel's directory (own profile of EN 301 234).
 use Rattle.std.specs.Prelude.{ℕ, ◌≤◌, ◌&&◌, ◌==◌, nat_lt, nat_le, if◌then◌else◌, List, [], ◌∷◌}
 use Rattle.std.specs.Prelude.{◌++◌, length, drop, map, All, Option, Some, None, option_to_list}
-use Rattle.std.specs.Prelude.{slice_index}
+use Rattle.std.specs.Prelude.{slice_index, slice_set, ◌≡◌}
 use Rattle.mot_directory.specs.Parameter.{Parameter, OneByte, Short, Long}
 use Rattle.mot_directory.specs.Header.{HeaderFields}
-use Rattle.mot_directory.specs.Directory.{Entry, DirectoryFields}
+use Rattle.mot_directory.specs.Directory.{Entry, DirectoryFields, bytes_of_directory}
 use Rattle.mot_numbers.specs.Reading.{◌>>=◌}
 use Rattle.mot_numbers.specs.declared.geometry.TheConstants.{MAX_OBJECTS}
 use Rattle.mot_numbers.specs.declared.numbers.TheConstants.{MAX_SEGMENT}
@@ -43,6 +43,17 @@ entries_of c = map entry_of c.objects
 abbrev pub directory_of : Carousel → ℕ → DirectoryFields
 directory_of c segment_size =
     record { period = c.period; segment_size = segment_size; entries = entries_of c }
+
+-- the bytes are those of a directory with the carousel's entries, but for the one at this place
+pub record HasAnother (bytes : List ℕ) (c : Carousel) (place : ℕ) : Type 0 where
+  pub period : ℕ
+  pub segment_size : ℕ
+  pub gone : Entry
+  pub is : bytes ≡ bytes_of_directory (record {
+    period = period;
+    segment_size = segment_size;
+    entries = slice_set (entries_of c) place gone;
+  })
 
 -- the text of a parameter of this id, in the form that its length asks for
 abbrev pub text_in : ℕ → Parameter → Option (List ℕ)

@@ -1,15 +1,16 @@
 //! The bytes of a carousel's directory.
-ghost use Rattle.std.specs.Prelude.{◌≡◌, ℕ, ◌+◌, ◌^◌, ◌<◌, ◌≤◌, List, ◌++◌, length, map, vec_len};
+ghost use Rattle.std.specs.Prelude.{◌≡◌, ℕ, ◌+◌, ◌*◌, ◌^◌, ◌<◌, ◌≤◌, List, ◌++◌, length, map, vec_len, sum_by};
 ghost use Rattle.std.specs.Prelude.{vec_capacity, All, Some, IfOk, IfErr, OnOk};
 ghost use Rattle.std.specs.Int.{to_be_bytes, bytes_high_first, w32};
 ghost use Rattle.mot_directory.specs.Directory.{DirectoryFields, IsDirectory, IsEntry};
 ghost use Rattle.mot_directory.specs.Directory.{bytes_of_directory, bytes_of_entry};
 ghost use Rattle.mot_directory.specs.Directory.{bytes_of_directory_header, read_directory};
 ghost use Rattle.mot_directory.specs.Directory.{directory_size, entry_size};
-ghost use Rattle.mot_directory.specs.Entries.{HasDirectory, description_in, directory_of};
+ghost use Rattle.mot_directory.specs.Entries.{HasAnother, HasDirectory, description_in, directory_of};
 ghost use Rattle.mot_directory.specs.Entries.{entries_of, parameters_with};
 ghost use Rattle.mot_directory.specs.Inner.{entry_beside};
 ghost use Rattle.mot_numbers.specs.Reading.{AreBytes};
+ghost use Rattle.mot_numbers.specs.declared.geometry.TheConstants.{MAX_OBJECTS};
 ghost use Rattle.mot_numbers.specs.declared.refusal.Refusal.TheVariants.{OutOfMemory};
 ghost use Rattle.mot_objects.specs.Carousel as whole;
 ghost use Rattle.mot_objects.specs.Stands.{AreBodiesOf, carousel_of};
@@ -71,16 +72,82 @@ pub fn directory_bytes(
     Ok(out)
 }
 
+/// The directory of a carousel, as `directory_bytes` gives it, if `last` is one with the same entries
+/// but for that of the object at this place: those of the others are copied. The only refusal is
+/// `OutOfMemory`.
+pub fn replaced_directory(
+    alloc: Global,
+    last: &[u8],
+    carousel: &Carousel,
+    place: usize,
+    segment_size: SegmentSize,
+) -> Result<Vec<u8>, Refusal>
+    requires within { place < vec_len carousel.now.objects }
+    requires last { (bodies : List (List ℕ)) × AreBodiesOf carousel.now bodies
+        × HasAnother last.now (carousel_of carousel.now bodies) place }
+
+    // What `directory_bytes` promises of it is so.
+    ensures reads { IfOk result (λ bytes. (bodies : List (List ℕ)) → AreBodiesOf carousel.now bodies
+        → read_directory bytes.items ≡ Some (record {
+          period = carousel.now.period;
+          segment_size = segment_size;
+          entries = entries_of (carousel_of carousel.now bodies);
+        })) }
+    ensures written { IfOk result (λ bytes. (bodies : List (List ℕ))
+        → AreBodiesOf carousel.now bodies → bytes.items
+        ≡ bytes_of_directory (directory_of (carousel_of carousel.now bodies) segment_size)) }
+    ensures size { IfOk result (λ bytes. vec_len bytes ≡ directory_size carousel.now) }
+    ensures longest { IfOk result (λ bytes. vec_len bytes ≤ MAX_DIRECTORY) }
+    ensures refused { IfErr result (λ refusal. refusal ≡ OutOfMemory) }
+{
+    let object = &carousel.objects[place];
+    let front = entries_size(&carousel.objects[..place]);
+    let back = entries_size(&carousel.objects[place + 1..]);
+    let size = 13 + front + 2 + header_size(object) + back;
+    let mut out = Vec::with_capacity(alloc, size)?;
+    append_directory_header(&mut out, size, carousel, segment_size);
+    append(&mut out, &last[13..13 + front]);
+    append_entry(&mut out, object);
+    append(&mut out, &last[last.len() - back..]);
+    Ok(out)
+}
+
 /// How many bytes the directory has.
 fn directory_size(carousel: &Carousel) -> usize
     ensures size { result ≡ directory_size carousel.now }
     ensures longest { result ≤ MAX_DIRECTORY }
 {
-    let mut size = 13;
-    for object in &carousel.objects {
+    13 + entries_size(&carousel.objects)
+}
+
+/// How many bytes the entries of these objects have.
+fn entries_size(objects: &[Object]) -> usize
+    requires { length objects.now ≤ MAX_OBJECTS }
+    ensures size { result ≡ sum_by entry_size objects.now }
+    ensures longest { result ≤ 336 * length objects.now }
+    ensures fits { All IsEntry (map entry_beside objects.now) }
+{
+    let mut size = 0;
+    for object in objects {
+        know_entry(object);
         size += 2 + header_size(object);
     }
     size
+}
+
+/// What the types of its fields keep of an object's entry. It is there for the proof, and does
+/// nothing when it runs.
+fn know_entry(object: &Object)
+    ensures { IsEntry (entry_beside object.now) }
+{
+    object.tid.get();
+    object.content.content_type();
+    object.content.subtype();
+    object.length.get();
+    object.name.as_bytes();
+    if let Some(mime) = &object.mime {
+        mime.as_bytes();
+    }
 }
 
 /// Adds the header of a directory of so many bytes.

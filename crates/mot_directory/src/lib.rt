@@ -4,5 +4,5 @@
 mod directory;
 mod header;
 
-pub use directory::{MAX_DIRECTORY, directory_bytes};
+pub use directory::{MAX_DIRECTORY, directory_bytes, replaced_directory};
 pub use header::{MAX_HEADER, header_bytes};

@@ -1,10 +1,12 @@
 //! The player of a carousel.
 ghost use Rattle.std.specs.Prelude.{◌≡◌, ◌==◌, ◌^◌, ◌<◌, ℕ, List, length, not, true, false, Some};
-ghost use Rattle.std.specs.Prelude.{None, IfOk, IfErr, IfSome, IsOk, OnOk, OnErr, is_some};
+ghost use Rattle.std.specs.Prelude.{None, IfOk, IfErr, IfSome, IsOk, OnOk, OnErr, is_some, vec_len};
 ghost use Rattle.mot_numbers.specs.PacketLength.{room_of};
 ghost use Rattle.mot_numbers.specs.declared.refusal.Refusal.TheVariants.{OutOfMemory};
 ghost use Rattle.mot_packets.specs.Packet.{read_packet};
-ghost use Rattle.mot_player.specs.Turn.{ReadsBodies, IsFollowable};
+ghost use Rattle.mot_directory.specs.Entries.{HasAnother};
+ghost use Rattle.mot_objects.specs.Stands.{AreBodiesOf, carousel_of};
+ghost use Rattle.mot_player.specs.Turn.{ReadsBodies, IsFollowable, IsTurnOf, turn_of_carousel};
 ghost use Rattle.mot_player.specs.PlayerView.{AreBodiesFor, place_of, turn_with};
 ghost use Rattle.mot_player.specs.AnyBodies.{IsStepOfSome};
 ghost use Rattle.mot_player.specs.Laws.{IsPlace, IsStep, StepsAreContinuous, StepsGoOn, bytes_left};
@@ -21,6 +23,7 @@ use crate::lengths::packets_of_entity;
 use crate::state::State;
 use crate::{Bodies, Played, Spare, Turn};
 use mot_numbers::{Address, PacketLength, Refusal, SegmentSize, TransportId};
+use mot_objects::Carousel;
 use mot_packets::Packet;
 use std::alloc::Global;
 use std::marker::Model;
@@ -120,6 +123,36 @@ impl Player {
         ensures stays { OnErr result (self.new ≡ self.old) }
     {
         Ok(self.state.begin_newest(alloc, cursor, most)?)
+    }
+
+    /// The turn of a carousel, as `Turn::of` gives it, if the directory of the turn that is played has
+    /// the same entries but for that of the object at this place: those of the others are copied. The
+    /// only refusal is `OutOfMemory`.
+    pub fn replaced_turn(
+        &self,
+        alloc: Global,
+        carousel: &Carousel,
+        place: usize,
+    ) -> Result<Turn, Refusal>
+        requires within { place < vec_len carousel.now.objects }
+        requires another { (bodies : List (List ℕ)) × AreBodiesOf carousel.now bodies
+            × HasAnother self.now.turn.directory (carousel_of carousel.now bodies) place }
+        ensures bodies { IfOk result (λ turn. (bodies : List (List ℕ))
+            → AreBodiesOf carousel.now bodies → AreBodiesFor turn bodies) }
+        ensures turn { IfOk result (λ turn. (bodies : List (List ℕ))
+            → AreBodiesOf carousel.now bodies → IsTurnOf (turn_with turn bodies)
+            (carousel_of carousel.now bodies) self.now.segment_size) }
+        ensures exact { IfOk result (λ turn. (bodies : List (List ℕ))
+            → AreBodiesOf carousel.now bodies → turn_with turn bodies
+            ≡ turn_of_carousel (carousel_of carousel.now bodies) self.now.segment_size) }
+        ensures refused { IfErr result (λ refusal. refusal ≡ OutOfMemory) }
+    {
+        let State {
+            turn,
+            segment_size,
+            ..
+        } = &self.state;
+        turn.replaced(alloc, carousel, place, *segment_size)
     }
 
     /// The room that it takes to follow a changed turn. A player that does not follow needs none, and

@@ -2,6 +2,7 @@
 ghost use Rattle.std.specs.Prelude.{◌≡◌, ℕ, ◌+◌, ◌<◌, ◌≤◌, List, length, map, vec_len, IfOk, IfErr};
 ghost use Rattle.mot_numbers.specs.declared.refusal.Refusal.TheVariants.{OutOfMemory};
 ghost use Rattle.mot_objects.specs.declared.body.TheConstants.{MAX_BODY};
+ghost use Rattle.mot_directory.specs.Entries.{HasAnother};
 ghost use Rattle.mot_objects.specs.Stands.{AreBodiesOf, carousel_of};
 ghost use Rattle.mot_objects.specs.declared.object.Object.{Object};
 ghost use Rattle.mot_player.specs.declared.planned_body.PlannedBody.{PlannedBody};
@@ -10,7 +11,7 @@ use crate::course::Waiting;
 use crate::difference::{Difference, difference_between};
 use crate::newest::newest;
 use crate::planned_body::PlannedBody;
-use mot_directory::directory_bytes;
+use mot_directory::{directory_bytes, replaced_directory};
 use mot_numbers::{Refusal, SegmentSize, TransportId};
 use mot_objects::{Carousel, Object};
 use std::alloc::{AllocError, Global};
@@ -67,6 +68,37 @@ impl Turn {
         ensures refused { IfErr result (λ refusal. refusal ≡ OutOfMemory) }
     {
         let directory = directory_bytes(alloc, carousel, segment_size)?;
+        let bodies = planned_bodies(alloc, &carousel.objects)?;
+        Ok(Turn {
+            tid: carousel.directory,
+            directory,
+            bodies,
+        })
+    }
+
+    /// The turn of a carousel, as `of` gives it, if this one's directory has the same entries but for
+    /// that of the object at this place. The only refusal is `OutOfMemory`.
+    pub(crate) fn replaced(
+        &self,
+        alloc: Global,
+        carousel: &Carousel,
+        place: usize,
+        segment_size: SegmentSize,
+    ) -> Result<Turn, Refusal>
+        requires within { place < vec_len carousel.now.objects }
+        requires another { (bodies : List (List ℕ)) × AreBodiesOf carousel.now bodies
+            × HasAnother self.now.directory (carousel_of carousel.now bodies) place }
+        ensures bodies { IfOk result (λ turn. (bodies : List (List ℕ))
+            → AreBodiesOf carousel.now bodies → AreBodiesFor turn bodies) }
+        ensures turn { IfOk result (λ turn. (bodies : List (List ℕ))
+            → AreBodiesOf carousel.now bodies
+            → IsTurnOf (turn_with turn bodies) (carousel_of carousel.now bodies) segment_size) }
+        ensures exact { IfOk result (λ turn. (bodies : List (List ℕ))
+            → AreBodiesOf carousel.now bodies → turn_with turn bodies
+            ≡ turn_of_carousel (carousel_of carousel.now bodies) segment_size) }
+        ensures refused { IfErr result (λ refusal. refusal ≡ OutOfMemory) }
+    {
+        let directory = replaced_directory(alloc, &self.directory, carousel, place, segment_size)?;
         let bodies = planned_bodies(alloc, &carousel.objects)?;
         Ok(Turn {
             tid: carousel.directory,

@@ -20,3 +20,4 @@ pub mod Sizes
 pub mod Survival
 pub mod Turns
 pub mod Whole
+pub mod Replacing

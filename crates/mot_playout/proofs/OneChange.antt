@@ -174,7 +174,7 @@ put-cases true u r s e = cc
 put-cases false true r s e = cc
 put-cases false false r s e = cc
 
-named-cases : (c : Carousel) (taken : Option ℕ) (o : Option (List Object)) (s : Carousel × Done)
+pub named-cases : (c : Carousel) (taken : Option ℕ) (o : Option (List Object)) (s : Carousel × Done)
     → change_if_named c taken o ≡ Ok s
     → (objects : List Object) × (o ≡ Some objects) × (change_to c c.period objects taken ≡ s)
 named-cases c taken None s e = cc

@@ -1,9 +1,12 @@
 use Rattle.std.specs.Prelude.{◌≡◌, ℕ, ◌+◌, ◌≤◌, List, ◌++◌, map, take, replicate, slice_range, refl}
+use Rattle.std.specs.Prelude.{Option, None}
 use Rattle.disk_model.specs.Disk.{State, KeepsLength, IsUnchanged}
 use Rattle.mot_numbers.specs.Geometry.{area_start}
 use Rattle.mot_numbers.specs.declared.geometry.Geometry.{Geometry}
 use Rattle.mot_repository.specs.Repository.{RepositoryView}
-use Rattle.mot_objects.specs.Stands.{AreBodiesOf, carousel_of}
+use Rattle.mot_objects.specs.Stands.{AreBodiesOf, carousel_of, index_of}
+use Rattle.mot_objects.specs.declared.command.Command.{Command}
+use Rattle.mot_objects.specs.declared.command.Command.TheVariants.{Replace}
 use Rattle.mot_objects.specs.declared.carousel.Carousel.{Carousel}
 use Rattle.mot_player.specs.PlayerView.{AreBodiesFor, PlayerView, turn_with}
 use Rattle.mot_player.specs.Turn.{IsTurnOf, turn_of_carousel}
@@ -45,6 +48,11 @@ pub record PlaysCarousel (carousel : Carousel) (size : ℕ) (player : PlayerView
       → turn_with player.turn bodies ≡ turn_of_carousel (carousel_of carousel bodies) size
   pub is_turn : (bodies : List (List ℕ)) → AreBodiesOf carousel bodies
       → IsTurnOf (turn_with player.turn bodies) (carousel_of carousel bodies) size
+
+-- where the object of a replace stands
+abbrev pub replaced_in : Command → Carousel → Option ℕ
+replaced_in (Replace name content mime body) next = index_of name next.objects.items
+replaced_in command next = None
 
 -- Where no read has come, all stays.
 

@@ -19,7 +19,7 @@ ghost use Rattle.mot_repository.specs.Repository.{IsOf, object_body};
 
 use crate::bodies::DiskBodies;
 use crate::comparing::is_body;
-use crate::playing::{player_of, turn_to_follow};
+use crate::playing::{player_of, replaced_place, turn_to_follow};
 use disk_model::Disk;
 use mot_journal::Layout;
 use mot_numbers::{Geometry, Refusal, SegmentSize};
@@ -232,7 +232,9 @@ impl<D: Disk> Server<D> {
         ensures stays { OnErr result (self.new.player ≡ self.old.player) }
     {
         let prepared = self.bodies.repository.prepare(alloc, command)?;
-        let (turn, spare) = turn_to_follow(alloc, &self.player, prepared.next())?;
+        let next = prepared.next();
+        let replaced = replaced_place(command, next);
+        let (turn, spare) = turn_to_follow(alloc, &self.player, next, replaced)?;
         let done = self.bodies.repository.commit(prepared)?;
         self.player.follow(turn, spare);
         Ok(done)

@@ -1,6 +1,7 @@
 use Rattle.std.proofs.Common.{◌≡◌, ℕ, ◌+◌, ◌≤◌, ◌<◌, length, Err, inl, inr, refl, sym, ap, ◌∙◌}
 use Rattle.std.proofs.Common.{arith, subst, Option, Result, Ok}
-use Rattle.std.specs.Prelude.{IsFalse, is_some}
+use Rattle.std.proofs.Common.{List, None, Some}
+use Rattle.std.specs.Prelude.{IfSome, IsFalse, is_some}
 use Rattle.disk_model.specs.Disk.{Costs, Keeps, Throughout}
 use Rattle.mot_journal.specs.Image.{Standing}
 use Rattle.mot_numbers.specs.declared.refusal.Refusal.{Refusal}
@@ -13,13 +14,17 @@ use Rattle.mot_numbers.proofs.Laws.{same_error}
 use Rattle.mot_player.specs.Place.{change_turn, changed}
 use Rattle.mot_player.specs.PlayerView.{PlayerView, TurnPlan, place_of, turn_with}
 use Rattle.mot_player.specs.Turn.{turn_of_carousel}
+use Rattle.mot_directory.specs.Entries.{HasAnother}
+use Rattle.mot_objects.specs.Stands.{AreBodiesOf, IsPlan, carousel_of}
 use Rattle.mot_repository.proofs.Laws.{accepted_parts}
 use Rattle.mot_repository.specs.Repository.{Agrees, Holds, IsBeforeOrAfter, RepositoryView}
 use Rattle.mot_playout.specs.Runs.{ServerView, bodies_of}
 use Rattle.mot_repository.specs.Answers.{IsAnswered, IsChanged, IsRefusal, accepted, refused}
 use Rattle.mot_repository.specs.Answers.{failed}
 use Rattle.mot_playout.proofs.Going.{OnErr-always}
+use Rattle.mot_playout.specs.Inner.{replaced_in}
 use Rattle.mot_playout.proofs.OneChange.{followable}
+use Rattle.mot_playout.proofs.Replacing.{has-another}
 use Rattle.mot_playout.proofs.Turns.{begins_after, comes_after, plays_same}
 use Rattle.mot_playout.proofs.Whole.{sound_carousel}
 use Rattle.mot_playout.proofs.server.Server.execute.Goals as goal
@@ -65,6 +70,28 @@ returns-in_err-done-clause-any_moment g c =
     c.self.view_is
     (c.commit.ensures.any_moment c.args.command.now c.in_ok-prepared.ensures.prepared)
 
+-- what holds of each place holds of one that may be there
+of-place : (r s : Option ℕ) (P : ℕ → Type 0) → r ≡ s → ((at : ℕ) → s ≡ Some at → P at) → IfSome r P
+of-place None s P e each = tt
+of-place (Some at) s P e each = each at (sym e)
+
+pub turn_to_follow-requires-clause-another : goal.turn_to_follow-requires-clause-another
+turn_to_follow-requires-clause-another g c =
+    let view : RepositoryView = c.self.inside.bodies.repository.view in
+    let next = c.next-next.result.now in
+    let player : PlayerView = c.self.inside.player in
+    let changes = c.in_ok-prepared.ensures.prepared.prepared.changes in
+    of-place c.replaced_place-replaced.result (replaced_in c.args.command.now next)
+    (λ at. (bodies : List (List ℕ)) × AreBodiesOf next bodies
+    × HasAnother player.turn.directory (carousel_of next bodies) at)
+    c.replaced_place-replaced.ensures.place
+    (λ at is. has-another view.carousel next view.journal.geometry.objects
+    view.journal.geometry.segment c.args.command.now c.in_ok-prepared.prepared.done player at
+    (subst (λ k. IsPlan view.carousel view.journal.geometry.objects c.args.command.now
+    (Ok (record { next = k; done = c.in_ok-prepared.prepared.done }))) (sym c.next-next.ensures)
+    changes)
+    c.self.invariant is)
+
 pub invariant_of-self : goal.invariant_of-self
 invariant_of-self g c =
     let halted = c.in_err-done.ensures.halted in
@@ -78,9 +105,9 @@ pub invariant_of-self-2 : goal.invariant_of-self-2
 invariant_of-self-2 g c =
     let changed = c.in_ok-done.ensures.changed c.args.command.now
     c.in_ok-prepared.ensures.prepared in
-    plays_same c.next.result.now c.commit.new.self.view.carousel c.self.inside.player.segment_size
+    plays_same c.next-next.result.now c.commit.new.self.view.carousel c.self.inside.player.segment_size
     c.commit.new.self.view.journal.geometry.segment
-    c.follow.new.self (c.next.ensures ∙ sym c.in_ok-done.ensures.kept)
+    c.follow.new.self (c.next-next.ensures ∙ sym c.in_ok-done.ensures.kept)
     (c.self.invariant.size_is ∙ ap (λ (h : Geometry). h.segment) (sym changed.geometry))
     (c.in_ok-turn.ensures.plays c.follow.new.self c.follow.ensures.turn c.follow.ensures.size)
 
