@@ -1,6 +1,6 @@
 -- Where a player stands behind whatever steps, and that a turn begins where one has ended.
 use Rattle.std.proofs.Common.{arith, ◌≡◌, ℕ, ◌<◌, ◌≤◌, Bool, true, false, not, List, [], ◌∷◌, ◌++◌}
-use Rattle.std.proofs.Common.{Option, Some, None, ◌⊎◌, refl, sym, subst, ◌+◌}
+use Rattle.std.proofs.Common.{Option, Some, None, ◌⊎◌, refl, sym, subst}
 use Rattle.std.proofs.lemmas.List.Elements.{filter-append}
 use Rattle.std.proofs.lemmas.Option.{none-some, same_Some}
 use Rattle.std.specs.Prelude.{◌||◌, if◌then◌else◌, is_some}

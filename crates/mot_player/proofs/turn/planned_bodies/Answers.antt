@@ -3,7 +3,6 @@ use Rattle.std.proofs.Common.{sym, ◌∙◌}
 use Rattle.std.proofs.lemmas.List.{map_more, map_push}
 use Rattle.mot_objects.specs.declared.object.Object.{Object}
 use Rattle.mot_player.specs.declared.planned_body.PlannedBody.{PlannedBody}
-use Rattle.mot_player.proofs.turn.planned_bodies.Goals as goal
 
 -- where a value of the bodies so far is the objects', it is so with one body more
 one_more : {V : Type 0} (of_body : PlannedBody → V) (of_object : Object → V)
